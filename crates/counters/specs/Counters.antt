@@ -1,0 +1,21 @@
+-- The counters of the code as the specification has them: a list of 13, in the order of `EngineCounters`.
+use Prim.Native.Nat.{ℕ}
+use mathlib.Core.List.{List, [], _∷_}
+use Rattle.counters.specs.declared.Counters.{Counters}
+
+unfoldable pub countersOf : Counters → List ℕ
+countersOf c =
+    c .«activations_total»
+    ∷ c .«activations_dry»
+    ∷ c .«suppressed_cooldown»
+    ∷ c .«suppressed_disabled»
+    ∷ c .«conditions_rejected»
+    ∷ c .«partial_outcomes»
+    ∷ c .«chain_depth_exceeded»
+    ∷ c .«effects_emitted»
+    ∷ c .«actions_failed»
+    ∷ c .«continuations_scheduled»
+    ∷ c .«continuations_fired»
+    ∷ c .«continuations_dropped»
+    ∷ c .«ticks_time_unsynced»
+    ∷ []

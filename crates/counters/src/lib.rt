@@ -1,0 +1,93 @@
+// The 13 counters of a store, the Rust's `EngineCounters`, as one value. A counter is named by its place.
+use words::saturating_add_u32 as add;
+ghost use mathlib.Core.Path.{_≡_};
+ghost use lib.ListN.{getD, set, replicate};
+ghost use Rattle.words.specs.Saturating.{saturatingAdd, max32};
+ghost use Rattle.counters.specs.Counters.{countersOf};
+
+pub const ACTIVATIONS_TOTAL: u32 = 0;
+
+pub const ACTIVATIONS_DRY: u32 = 1;
+
+pub const SUPPRESSED_COOLDOWN: u32 = 2;
+
+pub const SUPPRESSED_DISABLED: u32 = 3;
+
+pub const CONDITIONS_REJECTED: u32 = 4;
+
+pub const PARTIAL_OUTCOMES: u32 = 5;
+
+pub const CHAIN_DEPTH_EXCEEDED: u32 = 6;
+
+pub const EFFECTS_EMITTED: u32 = 7;
+
+pub const ACTIONS_FAILED: u32 = 8;
+
+pub const CONTINUATIONS_SCHEDULED: u32 = 9;
+
+pub const CONTINUATIONS_FIRED: u32 = 10;
+
+pub const CONTINUATIONS_DROPPED: u32 = 11;
+
+pub const TICKS_TIME_UNSYNCED: u32 = 12;
+
+pub struct Counters {
+    pub activations_total: u32,
+    pub activations_dry: u32,
+    pub suppressed_cooldown: u32,
+    pub suppressed_disabled: u32,
+    pub conditions_rejected: u32,
+    pub partial_outcomes: u32,
+    pub chain_depth_exceeded: u32,
+    pub effects_emitted: u32,
+    pub actions_failed: u32,
+    pub continuations_scheduled: u32,
+    pub continuations_fired: u32,
+    pub continuations_dropped: u32,
+    pub ticks_time_unsynced: u32,
+}
+
+// The counters of a new store: all 0.
+pub fn none_counted() -> Counters
+    ensures { λ r. ⌜ countersOf r ≡ replicate 13 0 ⌝ }
+{
+    Counters {
+        activations_total: 0,
+        activations_dry: 0,
+        suppressed_cooldown: 0,
+        suppressed_disabled: 0,
+        conditions_rejected: 0,
+        partial_outcomes: 0,
+        chain_depth_exceeded: 0,
+        effects_emitted: 0,
+        actions_failed: 0,
+        continuations_scheduled: 0,
+        continuations_fired: 0,
+        continuations_dropped: 0,
+        ticks_time_unsynced: 0,
+    }
+}
+
+// The counter at place `which` goes up by `by`, and stops at 2^32 - 1. A place past the last changes nothing.
+pub fn count(c: Counters, which: u32, by: u32) -> Counters
+    ensures { λ r. ⌜ countersOf r ≡ set (countersOf c) which (saturatingAdd max32 (getD (countersOf c) which 0) by) ⌝ }
+{
+    let mut d = c;
+    match which {
+        ACTIVATIONS_TOTAL => d.activations_total = add(c.activations_total, by),
+        ACTIVATIONS_DRY => d.activations_dry = add(c.activations_dry, by),
+        SUPPRESSED_COOLDOWN => d.suppressed_cooldown = add(c.suppressed_cooldown, by),
+        SUPPRESSED_DISABLED => d.suppressed_disabled = add(c.suppressed_disabled, by),
+        CONDITIONS_REJECTED => d.conditions_rejected = add(c.conditions_rejected, by),
+        PARTIAL_OUTCOMES => d.partial_outcomes = add(c.partial_outcomes, by),
+        CHAIN_DEPTH_EXCEEDED => d.chain_depth_exceeded = add(c.chain_depth_exceeded, by),
+        EFFECTS_EMITTED => d.effects_emitted = add(c.effects_emitted, by),
+        ACTIONS_FAILED => d.actions_failed = add(c.actions_failed, by),
+        CONTINUATIONS_SCHEDULED => d.continuations_scheduled = add(c.continuations_scheduled, by),
+        CONTINUATIONS_FIRED => d.continuations_fired = add(c.continuations_fired, by),
+        CONTINUATIONS_DROPPED => d.continuations_dropped = add(c.continuations_dropped, by),
+        TICKS_TIME_UNSYNCED => d.ticks_time_unsynced = add(c.ticks_time_unsynced, by),
+        _ => (),
+    }
+    d
+}

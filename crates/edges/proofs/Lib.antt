@@ -1,0 +1,4 @@
+pub mod Definitions
+pub mod Edges
+pub mod Examples
+pub mod Play

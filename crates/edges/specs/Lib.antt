@@ -1,0 +1,4 @@
+pub mod Samples
+pub mod Edges
+pub mod Examples
+pub mod Play

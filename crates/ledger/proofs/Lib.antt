@@ -1,0 +1,16 @@
+pub mod RunTrace
+pub mod ListLaws
+pub mod SortLaws
+pub mod Known
+pub mod Simulation
+pub mod TickSimulation
+pub mod History
+pub mod Resumptions
+pub mod CallTrace
+pub mod StoreRules
+pub mod DryRuns
+pub mod Bodies
+pub mod Potential
+pub mod RunBound
+pub mod EffectBound
+pub mod Demand3

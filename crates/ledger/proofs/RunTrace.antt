@@ -1,0 +1,195 @@
+-- The trace of a run is the run of the rule's list, and its effects are the run's.
+use mathlib.Core.Path.{_≡_, refl, sym, ap}
+use mathlib.Core.Logic.{_⊎_, inl, inr}
+use Prim.Native.Nat.{ℕ, zero, suc, _+_, _≤_, zero-le, suc-le-suc}
+use mathlib.Core.Bool.{Bool, true, false, cond, not, _&&_}
+use mathlib.Core.List.{List, [], _∷_, _++_, append-nil}
+use mathlib.Core.Option.{Option, none, some}
+use lib.Dec.{leb, ltb, eqb}
+use lib.IntN.{ℤ, pos, negsuc}
+use lib.ListN.{length}
+use Rattle.model.specs.Lists.{toList, present}
+use Rattle.model.specs.Image.{groupLimit, textLimit}
+use Rattle.model.specs.Rows.{actions}
+use Rattle.model.specs.declared.Action.{Action}
+use Rattle.model.specs.declared.Action.the-variants.{Light, Recall, Apply, Cycle, HclResume, HclHold, HclEnable, HclDisable, FeedbackOn, FeedbackOff, PanelSelect, CancelHold, CatchMovement, TimerStart, TimerRestart, TimerCancel, VarSet, VarAdd, RuleEnable, RuleDisable, MqttPublish, Log, StatCount, NoAction}
+use Rattle.model.specs.Rules.{recordOf, ruleNamed, actionOf}
+use Rattle.model.specs.World.{isOne}
+use Rattle.model.specs.declared.Step.{Step}
+use Rattle.model.specs.declared.Point.{Point}
+use Rattle.model.specs.declared.Step.the-variants.{Primitive, Wait, Branch, After, Fail}
+use Rattle.model.specs.declared.Effect.{Effect}
+use Rattle.model.specs.Outcome.{Report, plain, disables, defers, Item, paid}
+use Rattle.model.specs.declared.VarValue.{VarValue}
+use Rattle.model.specs.declared.VarValue.the-variants.{Int, Text}
+use Rattle.model.specs.State.{Env, Rest, Volatile, cancelTimer, timerNamed, varNamed}
+use Rattle.model.specs.Flat.{stepAt}
+use Rattle.model.specs.Eval.{conditionAt, valueAt}
+use Rattle.model.specs.Actions.{Job, PrimResult, noEffect, fails, runPrim, primAt, primLight, primRecall, primApply, primCycle, cycleEffect, selects, armTimer, varSet, primVarSet, varAdd, setRuleBit}
+use Rattle.model.specs.Exec.{StepResult, afterPrim, runBranch, exec, RunOutput, continueRun, withStep, runSteps, advance}
+use Rattle.ledger.specs.Trace.{effectsIn, reportOf, RunOf, ended, spent, waits, continues}
+
+-- A RUN'S EFFECTS ARE THOSE OF ITS PAID STEPS, AND THESE ARE NO MORE THAN ITS BUDGET ---------------------------------------------
+pub record RunEffects (b : ℕ) (x : RunOutput) : Type 0 where
+  pub effects : x .effects ≡ effectsIn (x .trace)
+  pub paid : length (x .trace) ≤ b
+
+goes-on : (b : ℕ) (y : Step) (d : StepResult) (o : Option Point) (K : Point → Volatile → RunOutput) → ((sp : Point) (v : Volatile) → RunEffects b (K sp v)) → RunEffects (suc b) (continueRun y d o K)
+unfolding continueRun
+goes-on b y d none K ih = record { effects = sym (append-nil (toList (d .effect))); paid = suc-le-suc zero-le }
+goes-on b y d (some sp) K ih =
+    let i = ih sp (d .vol) in
+    record { effects = ap (λ xs. toList (d .effect) ++ xs) (i .effects); paid = suc-le-suc (i .paid) }
+
+pays : (b : ℕ) (e : Env) (j : Job) (sp : Point) (v : Volatile) → ((sp′ : Point) (v′ : Volatile) → RunEffects b (runSteps b e j sp′ v′)) → (o : Option Step)
+    → RunEffects (suc b) (withStep o v (λ x. let d = exec e j b sp x v in continueRun x d (d .next) (λ sp′ v′. runSteps b e j sp′ v′)))
+unfolding withStep
+pays b e j sp v ih none = record { effects = refl; paid = zero-le }
+pays b e j sp v ih (some x) = goes-on b x (exec e j b sp x v) ((exec e j b sp x v) .next) _ ih
+
+pub run-effects : (b : ℕ) (e : Env) (j : Job) (sp : Point) (v : Volatile) → RunEffects b (runSteps b e j sp v)
+unfolding runSteps
+run-effects zero e j sp v = record { effects = refl; paid = zero-le }
+run-effects (suc b) e j sp v = pays b e j sp v (λ sp′ v′. run-effects b e j sp′ v′) (stepAt (e .set) (j .index) sp)
+
+-- WHAT AN ACTION SAYS --------------------------------------------------------------------------------------------------------------
+abbrev disableReport : Option ℕ → Report
+disableReport none = plain
+disableReport (some q) = disables q
+
+NoDisable : PrimResult → Type 0
+NoDisable a = disableReport (a .disables) ≡ plain
+
+either : (b : Bool) (x y : PrimResult) → NoDisable x → NoDisable y → NoDisable (cond b x y)
+either true x y p q = p
+either false x y p q = q
+
+module _ (e : Env) (j : Job) (s : Rest) where
+  fails-no-disable : (s′ : Rest) → NoDisable (fails s′)
+  unfolding NoDisable fails
+  fails-no-disable s′ = refl
+
+  no-disable-silent : (s′ : Rest) → NoDisable (noEffect s′)
+  unfolding NoDisable
+  no-disable-silent s′ = refl
+
+  no-disable-arm : (name ms : ℕ) (s′ : Rest) → NoDisable (armTimer e j s name ms s′)
+  unfolding armTimer
+  no-disable-arm name ms s′ =
+      either (j .dry) _ _ (no-disable-silent _) (either (leb 16 (length (s′ .timers))) _ _ (fails-no-disable _) (no-disable-silent _))
+
+  no-disable-set : (name : ℕ) (x : VarValue) → NoDisable (varSet e j s name x)
+  unfolding varSet
+  no-disable-set name x =
+      either (j .dry) _ _ (no-disable-silent _)
+      (either (not (present (varNamed s name)) && leb 16 (length (s .vars))) _ _ (fails-no-disable _) (no-disable-silent _))
+
+  no-disable-add : (name : ℕ) (o : Option ℤ) (h : Option VarValue) → NoDisable (varAdd e j s name o h)
+  no-disable-add name none h = fails-no-disable s
+  no-disable-add name (some x) none = no-disable-set name _
+  no-disable-add name (some x) (some (Int n)) = no-disable-set name _
+  no-disable-add name (some x) (some (Text t)) = fails-no-disable s
+
+  no-disable-light : (t h a v : ℕ) → NoDisable (primLight e j s t h a v)
+  unfolding NoDisable primLight
+  no-disable-light t h a v = either (eqb a 0) _ _ refl (either (eqb a 1) _ _ (no-disable-silent s) (fails-no-disable s))
+
+  no-disable-recall : (a x m t : ℕ) → NoDisable (primRecall e j s a x m t)
+  unfolding NoDisable primRecall
+  no-disable-recall a x m t = either (eqb a 0) _ _ refl (fails-no-disable _)
+
+  no-disable-apply : (a x : ℕ) → NoDisable (primApply e j s a x)
+  unfolding NoDisable primApply
+  no-disable-apply a x = either (eqb a 0) _ _ refl (fails-no-disable _)
+
+  no-disable-selects : (a g : ℕ) (o : Option ℤ) → NoDisable (selects e j s a g o)
+  unfolding NoDisable
+  no-disable-selects a g none = fails-no-disable s
+  no-disable-selects a g (some (pos n)) = either (leb n (groupLimit (e .set .image))) _ _ refl (fails-no-disable _)
+  no-disable-selects a g (some (negsuc n)) = fails-no-disable s
+
+  no-disable-varset : (n t l h : ℕ) → NoDisable (primVarSet e j s n t l h)
+  unfolding primVarSet
+  no-disable-varset n t l h =
+      either (isOne t) _ _ (either (ltb (textLimit (e .set .image)) h) _ _ (fails-no-disable _) (no-disable-set n _)) (no-disable-set n _)
+
+  no-disable-cycle : (f n : ℕ) → NoDisable (primCycle e j s f n)
+  unfolding NoDisable primCycle cycleEffect
+  no-disable-cycle f n = either (eqb n 0) _ _ (fails-no-disable s) refl
+
+  -- who enables or disables a rule, wet
+  enable-reports : (r : ℕ) (o : Option ℕ) → NoDisable (setRuleBit e j s r true o)
+  unfolding NoDisable
+  enable-reports r none = fails-no-disable s
+  enable-reports r (some i) = either (j .dry) _ _ refl refl
+
+  disable-reports : j .dry ≡ false → (r : ℕ) (o : Option ℕ) → disableReport ((setRuleBit e j s r false o) .disables) ≡ cond (present o) (disables r) plain
+  unfolding fails
+  disable-reports wet r none = refl
+  disable-reports wet r (some i) = rw wet
+
+  act-tells : j .dry ≡ false → (a : Action) → disableReport ((runPrim e j s a) .disables) ≡ reportOf (e .set .image) a
+  unfolding NoDisable runPrim
+  act-tells wet (Light t h a v) = no-disable-light t h a v
+  act-tells wet (Recall a x m t) = no-disable-recall a x m t
+  act-tells wet (Apply a x) = no-disable-apply a x
+  act-tells wet (Cycle f n) = no-disable-cycle f n
+  act-tells wet (HclResume t) = refl
+  act-tells wet (HclHold t) = refl
+  act-tells wet (HclEnable x) = refl
+  act-tells wet (HclDisable x) = refl
+  act-tells wet (FeedbackOn a i k) = refl
+  act-tells wet (FeedbackOff a i k) = refl
+  act-tells wet (PanelSelect a g v) = no-disable-selects a g (valueAt e s v)
+  act-tells wet (CancelHold a i k) = refl
+  act-tells wet (CatchMovement a i k) = refl
+  act-tells wet (TimerStart t ms) = either (present (timerNamed s t)) _ _ refl (no-disable-arm t ms s)
+  act-tells wet (TimerRestart t ms) = no-disable-arm t ms (cond (j .dry) s (cancelTimer t s))
+  act-tells wet (TimerCancel t) = refl
+  act-tells wet (VarSet n t l h) = no-disable-varset n t l h
+  act-tells wet (VarAdd n v) = no-disable-add n (valueAt e s v) (varNamed s n)
+  act-tells wet (RuleEnable r) = enable-reports r (ruleNamed (e .set .image) r)
+  act-tells wet (RuleDisable r) = disable-reports wet r (ruleNamed (e .set .image) r)
+  act-tells wet (MqttPublish t p r) = refl
+  act-tells wet (Log t) = refl
+  act-tells wet (StatCount n) = refl
+  act-tells wet NoAction = fails-no-disable s
+
+-- A WET RUN'S TRACE IS THE RUN OF THE RULE'S LIST -----------------------------------------------------------------------------------
+module _ (e : Env) (j : Job) (wet : j .dry ≡ false) (b : ℕ) (sp : Point) (v : Volatile) (K : Point → Volatile → RunOutput)
+    (ih : (to : Point) (w : Volatile) → RunOf (e .set) (j .index) b to ((K to w) .trace)) where
+  acted-trace : (i : ℕ) (a : PrimResult) (q : Option ℕ) → disableReport q ≡ reportOf (e .set .image) (actionOf (recordOf (e .set .image) actions i))
+      → stepAt (e .set) (j .index) sp ≡ some (Primitive i)
+      → RunOf (e .set) (j .index) (suc b) sp ((continueRun (Primitive i) (afterPrim q a (advance sp 0) v) ((afterPrim q a (advance sp 0) v) .next) K) .trace)
+  unfolding afterPrim continueRun
+  acted-trace i a none h here = continues here h refl (ih _ _)
+  acted-trace i a (some q) h here = continues here h refl (ih _ _)
+
+  branched-trace : (c t n : ℕ) (x : Option Bool) → stepAt (e .set) (j .index) sp ≡ some (Branch c t n)
+      → RunOf (e .set) (j .index) (suc b) sp ((continueRun (Branch c t n) (runBranch x t n sp v) ((runBranch x t n sp v) .next) K) .trace)
+  unfolding runBranch afterPrim continueRun
+  branched-trace c t n (some true) here = continues here refl (inl refl) (ih _ _)
+  branched-trace c t n (some false) here = continues here refl (inr (inl refl)) (ih _ _)
+  branched-trace c t n none here = continues here refl (inr (inr refl)) (ih _ _)
+
+  exec-trace : (x : Step) → stepAt (e .set) (j .index) sp ≡ some x
+      → RunOf (e .set) (j .index) (suc b) sp ((continueRun x (exec e j b sp x v) ((exec e j b sp x v) .next) K) .trace)
+  unfolding exec afterPrim continueRun
+  exec-trace (Primitive i) here =
+      acted-trace i (primAt e j (v .rest) i) ((primAt e j (v .rest) i) .disables) (act-tells e j (v .rest) wet (actionOf (recordOf (e .set .image) actions i))) here
+  exec-trace (Wait ms) here = waits here
+  exec-trace (After ms n) here = continues here refl refl (ih _ _)
+  exec-trace (Branch c t n) here = branched-trace c t n (conditionAt e (v .rest) c) here
+  exec-trace Fail here = continues here refl refl (ih _ _)
+
+  paying-trace : (o : Option Step) → stepAt (e .set) (j .index) sp ≡ o
+      → RunOf (e .set) (j .index) (suc b) sp ((withStep o v (λ x. let d = exec e j b sp x v in continueRun x d (d .next) K)) .trace)
+  unfolding withStep
+  paying-trace none here = ended here
+  paying-trace (some x) here = exec-trace x here
+
+pub run-trace : (b : ℕ) (e : Env) (j : Job) → j .dry ≡ false → (sp : Point) (v : Volatile) → RunOf (e .set) (j .index) b sp ((runSteps b e j sp v) .trace)
+unfolding runSteps
+run-trace zero e j wet sp v = spent
+run-trace (suc b) e j wet sp v =
+    paying-trace e j wet b sp v (λ sp′ v′. runSteps b e j sp′ v′) (λ sp′ v′. run-trace b e j wet sp′ v′) (stepAt (e .set) (j .index) sp) refl

@@ -1,0 +1,5 @@
+pub mod Bools
+pub mod RowLaws
+pub mod CodecLaws
+pub mod PartsLaws
+pub mod StoreLaws

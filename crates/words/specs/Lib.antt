@@ -1,0 +1,3 @@
+pub mod Saturating
+pub mod Pairs
+pub mod Signed

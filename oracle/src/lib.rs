@@ -1,0 +1,13 @@
+//! The published Rust engine behind document 01's word formats.
+
+pub mod build;
+pub mod check;
+pub mod coverage;
+pub mod decode;
+pub mod edges;
+pub mod generate;
+pub mod house;
+pub mod random;
+pub mod script;
+pub mod shrink;
+pub mod vectors;

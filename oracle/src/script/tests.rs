@@ -1,0 +1,119 @@
+use super::*;
+
+const SCRIPT: &str = include_str!("../../../examples/wait.script");
+const EXPECTED: &str = include_str!("../../../examples/wait.expected");
+/// Rule 5 of the example, on one line.
+const LOAD: &str = "load 0 5 1 0 0 0 0 0 0 0 3 0 0 0 0 0 0 21 7 0 0 0 0 0 0 23 1000 0 0 0 0 0 0 \
+                    21 9 0 0 0 0 0 0 8 0 1 0 0 0 16 16 16 16 40 40 40\n";
+const AT_0: &str = "0 0 0 0 0 0 0 0 1 0 0 0 0 0";
+
+fn played(lines: &[&str]) -> String {
+    play(&format!("{LOAD}{}\n", lines.join("\n")))
+}
+
+#[test]
+fn the_play_example_prints_the_lines_of_document_01() {
+    assert_eq!(play(SCRIPT), EXPECTED);
+    assert_eq!(play(&SCRIPT.replace('\n', "\r\n")), EXPECTED);
+}
+
+#[test]
+fn each_error_names_its_line_and_play_goes_on() {
+    let text = "fly 1\n\n# comment\nnew 18446744073709551616\nrun 4294967296 0\nload\nrun 5\n\
+                deadline 1\nnew 0 0\nenable 5 2\ntick 1 x\npoke 1\ntick -1\npeek +1\nsize\n\
+                lend 1\ntick \u{2028}\ndeadline # comment\n";
+    let expected = "line 1: \"fly\" is no call\n\
+        line 4: \"18446744073709551616\" does not fit into 64 bits\n\
+        line 5: \"4294967296\" does not fit into 32 bits\n\
+        line 6: load needs a time\n\
+        line 7: run needs a dry mark\n\
+        line 8: deadline has an extra word \"1\"\n\
+        line 9: new has an extra word \"0\"\n\
+        line 10: enable needs a mark as 0 or 1, not 2\n\
+        line 11: \"x\" is no decimal number\n\
+        line 12: poke needs a word\n\
+        line 13: \"-1\" is no decimal number\n\
+        line 14: \"+1\" is no decimal number\n\
+        line 15: size needs a number of words\n\
+        line 16: lend needs a number of effect words\n\
+        line 17: \"\\u{2028}\" is no decimal number\n\
+        deadline none\n";
+    assert_eq!(play(text), expected);
+}
+
+#[test]
+fn a_long_word_is_cut_in_its_message() {
+    let nines = "9".repeat(100);
+    let expected = format!("line 1: \"{}...\" does not fit into 64 bits\n", "9".repeat(40));
+    assert_eq!(play(&format!("new {nines}")), expected);
+    assert_eq!(play("new 18446744073709551615\nnew 000000000000000000000000001"), "");
+}
+
+#[test]
+fn empty_images_and_snapshots_are_refused() {
+    let expected = "load refused 10\ntick refused 20\nrun refused 20\n";
+    assert_eq!(play("load 0\ntick\nrun 5 1\n"), expected);
+}
+
+#[test]
+fn answers_other_than_outcomes() {
+    let run = format!("run 5 0 {AT_0}");
+    let text = played(&[
+        "enable 5 1", "enable 6 0", "deadline", &run, "deadline", "counters", "peek 13691",
+        "unload 0", "counters", "peek 13691", "new 0", "peek 13691",
+    ]);
+    let expected = "enable 5 yes\nenable 6 no\ndeadline none\nrun 0 1\nrule 5 0 0 0 1\n\
+        effect 11 7 0 0 0\ndeadline 1000\n\
+        counters 1 0 0 0 0 0 0 1 0 1 0 0 0 1 0 1 0\npeek 13691 2\n\
+        counters 1 0 0 0 0 0 0 1 0 1 0 1 0 0 0 0 0\npeek 13691 2\npeek 13691 1\n";
+    assert_eq!(text, expected);
+}
+
+#[test]
+fn a_store_of_another_size_is_refused_first() {
+    let tick = "tick";
+    let text = played(&[
+        "size 16383", "new 0", "load 0", "unload 0", "enable 5 1", tick, "run 5 0", "deadline",
+        "counters", "size 16384", "deadline",
+    ]);
+    let expected = "new refused 1\nload refused 1\nunload refused 1\nenable refused 1\n\
+        tick refused 1\nrun refused 1\ndeadline refused 1\ncounters refused 1\ndeadline none\n";
+    assert_eq!(text, expected);
+}
+
+#[test]
+fn too_small_lent_stores_are_refused_and_nothing_changes() {
+    let run = format!("run 5 0 {AT_0}");
+    let text = played(&[
+        "lend 5 5", &run, "lend 6 4", &run, "counters", "deadline", "lend 6 5", &run,
+    ]);
+    let expected = "run refused 30\nrun refused 30\n\
+        counters 0 0 0 0 0 0 0 0 0 0 0 0 0 0 0 1 0\ndeadline none\n\
+        run 0 1\nrule 5 0 0 0 1\neffect 11 7 0 0 0\n";
+    assert_eq!(text, expected);
+}
+
+#[test]
+fn a_sequence_number_past_64_bits_is_refused() {
+    let run = format!("run 5 0 {AT_0}");
+    let text = played(&[
+        "poke 13691 4294967294", "poke 13692 4294967295", &run, &run, "lend 5 5", &run,
+        "peek 13691", "peek 13692", "poke 5 1", "peek 5",
+    ]);
+    let expected = "run 0 1\nrule 5 0 0 0 1\neffect 11 7 0 0 0\nrun refused 31\n\
+        run refused 30\npeek 13691 4294967295\npeek 13692 4294967295\n\
+        poke 5 unsupported\npeek 5 unsupported\n";
+    assert_eq!(text, expected);
+}
+
+#[test]
+fn a_call_and_its_line_are_each_other_back() {
+    let lines = [
+        "new 18446744073709551615", "load 1 2 3", "unload 0", "enable 5 1", "tick 1 2", "tick",
+        "run 5 1 2 3", "deadline", "counters", "lend 6 5", "size 7", "poke 1 2", "peek 3",
+    ];
+    for text in lines {
+        let call = parse(text).expect("good text").expect("a call");
+        assert_eq!(line(&call), text);
+    }
+}
