@@ -21,7 +21,7 @@ effectBudget = 2
 abbrev pub firstReason : ℕ → ℕ → ℕ
 firstReason a b = cond (eqb a 0) b a
 
--- the spot behind a step, and n steps further on
+-- the point behind a step, and n steps further on
 abbrev pub advance : Point → ℕ → Point
 advance sp n = arrive (sp .list) (suc (sp .place) + n) (sp .jump)
 
@@ -29,7 +29,7 @@ advance sp n = arrive (sp .list) (suc (sp .place) + n) (sp .jump)
 abbrev pub enterThen : Point → ℕ → ℕ → Point
 enterThen sp t n = let p = suc (sp .place) in arrive (sp .list) p (JumpFrom (p + t) (p + t + n))
 
--- the body of the after at a spot of the rule's own list
+-- the body of the after at a point of the rule's own list
 abbrev pub bodyStart : Point → Point
 bodyStart sp = point (suc (sp .place)) 0 NoJump
 
@@ -115,7 +115,7 @@ unfoldable pub withStep : Option Step → Volatile → (Step → RunOutput) → 
 withStep none v k = ended 0 v
 withStep (some x) v k = k x
 
--- `run_steps`, wet: the run of a rule from a spot on, with a budget
+-- `run_steps`, wet: the run of a rule from a point on, with a budget
 unfoldable pub runSteps : ℕ → Env → Job → Point → Volatile → RunOutput
 runSteps zero e j sp v = ended (unpaid (stepAt (e .set) (j .index) sp)) v
 runSteps (suc b) e j sp v =
