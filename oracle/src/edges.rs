@@ -6,10 +6,10 @@ use std::fs;
 use std::io::{self, Write};
 use std::path::Path;
 
-use crate::script;
+use crate::script::Player;
 
 const MARK: &str = "#= ";
-/// Lines of a disagreement that are shown for each file.
+/// Calls of a file whose disagreement is shown.
 const SHOWN: usize = 6;
 
 /// How many files agreed and how many did not.
@@ -41,25 +41,35 @@ pub fn expected(text: &str) -> Vec<&str> {
     text.lines().filter_map(|line| line.strip_prefix(MARK)).collect()
 }
 
-/// The lines in which a script's answers and the player's differ; none if they agree.
+/// The calls whose answers and those that stand behind them differ; none if they agree. An
+/// accepted load prints nothing, so the answers are compared call by call.
 #[must_use]
 pub fn differences(text: &str) -> Vec<String> {
-    let output = script::play(text);
-    let got: Vec<&str> = output.lines().collect();
-    let want = expected(text);
+    let mut player = Player::default();
     let mut found = Vec::new();
-    for at in 0..want.len().max(got.len()) {
-        let (wanted, gotten) = (want.get(at).copied(), got.get(at).copied());
-        if wanted != gotten {
-            found.push(format!(
-                "answer {}: expected {}, got {}",
-                at + 1,
-                wanted.unwrap_or("nothing"),
-                gotten.unwrap_or("nothing")
-            ));
+    let mut lines = text.lines().enumerate().peekable();
+    while let Some((at, line)) = lines.next() {
+        let printed = player.feed(line);
+        let mut want = String::new();
+        while let Some((_, answer)) = lines.next_if(|(_, next)| next.starts_with(MARK)) {
+            // The line number of the script counts answers too.
+            player.feed(answer);
+            want.push_str(&answer[MARK.len()..]);
+            want.push('\n');
+        }
+        if printed != want {
+            found.push(format!("line {}: expected {}, got {}", at + 1, shown(&want), shown(&printed)));
         }
     }
     found
+}
+
+/// The lines of an answer in one line.
+fn shown(lines: &str) -> String {
+    if lines.is_empty() {
+        return "nothing".to_owned();
+    }
+    lines.trim_end().replace('\n', " / ")
 }
 
 /// The scripts of a folder by file name.
@@ -89,7 +99,7 @@ pub fn check(folder: &Path) -> Result<(Tally, String), String> {
             report.push_str(&format!("{name}: {line}\n"));
         }
         if found.len() > SHOWN {
-            report.push_str(&format!("{name}: {} further answers differ\n", found.len() - SHOWN));
+            report.push_str(&format!("{name}: {} further calls differ\n", found.len() - SHOWN));
         }
     }
     report.push_str(&format!("edges: {} agree, {} differ\n", tally.agree, tally.differ));
@@ -126,10 +136,19 @@ mod tests {
         assert!(differences("new 0\ndeadline\n#= deadline none\n").is_empty());
         assert_eq!(
             differences("new 0\ndeadline\n#= deadline 5\n"),
-            ["answer 1: expected deadline 5, got deadline none"]
+            ["line 2: expected deadline 5, got deadline none"]
         );
-        assert_eq!(differences("new 0\ndeadline\n").len(), 1);
+        assert_eq!(
+            differences("new 0\ndeadline\n"),
+            ["line 2: expected nothing, got deadline none"]
+        );
         assert_eq!(differences("new 0\n#= deadline none\n").len(), 1);
+    }
+
+    /// The same lines in the same order, but not from the calls that they stand behind.
+    #[test]
+    fn an_answer_belongs_to_its_call() {
+        assert_eq!(differences("load 0 1\nload 0 1\n#= load refused 10\n#= load refused 10\n").len(), 2);
     }
 
     #[test]

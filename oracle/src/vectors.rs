@@ -196,7 +196,7 @@ mod tests {
         assert_eq!(histories(text).len(), 2);
         let (tally, report) = check(text);
         assert_eq!((tally.agree, tally.differ), (1, 1));
-        assert!(report.starts_with("history 1: answer 1: expected deadline 7, got deadline none\n"));
+        assert!(report.starts_with("history 1: line 2: expected deadline 7, got deadline none\n"));
         assert!(!check("").0.passes());
     }
 }
