@@ -10,7 +10,7 @@ use Rattle.model.specs.Flat.{flattenRule}
 use Rattle.model.specs.Calls.{Call, run}
 use Rattle.edges.specs.Samples.{imageOf, rule, log, logs, after, doing, snapshot, absent, tickAt, tickAtMinute, runWet, force, history, Edge, edge, samples}
 
--- of a flat list: how many steps, and how many of them are Fail
+-- of a flat list: how many steps, how many of them are Fail, and whether the last one is
 unfoldable pub isFail : Step → ℕ
 isFail (Primitive i) = 0
 isFail (Wait ms) = 0
@@ -22,8 +22,14 @@ unfoldable pub sum : List ℕ → ℕ
 sum [] = 0
 sum (n ∷ ns) = n + sum ns
 
+unfoldable pub last : List ℕ → ℕ
+last [] = 0
+last (n ∷ []) = n
+last (n ∷ m ∷ ns) = last (m ∷ ns)
+
 unfoldable pub steps : List ℕ → List (List (List ℕ))
-steps image = force image (λ img. let f = flattenRule img 0 in ((length (f .steps) ∷ sum (map isFail (f .steps)) ∷ []) ∷ []) ∷ [])
+steps image =
+    force image (λ img. let fs = map isFail ((flattenRule img 0) .steps) in ((length fs ∷ sum fs ∷ last fs ∷ []) ∷ []) ∷ [])
 
 unfoldable pub number : ℕ → List (List (List ℕ))
 number n = ((n ∷ []) ∷ []) ∷ []
@@ -61,14 +67,27 @@ night = imageOf 8 (rule 5 0 0 0 0 1 0 1 ∷ []) [] ((0 ∷ 0 ∷ 1 ∷ []) ∷ [
 unfoldable pub runAtMinute : ℕ → Call
 runAtMinute minute = run 5 false (snapshot 0 (1 ∷ 0 ∷ minute ∷ []) absent) 54 45
 
+-- rule 5 runs in the minute at an offset from sunrise; the sun rises at minute 10 and sets at 1,000
+unfoldable pub atSunrise : ℕ → List ℕ
+atSunrise offset = imageOf 8 (rule 5 0 0 0 0 1 0 1 ∷ []) [] ((0 ∷ 0 ∷ 0 ∷ []) ∷ []) (logs 1) ((1 ∷ 0 ∷ offset ∷ []) ∷ [])
+
+unfoldable pub sunrise : List ℕ
+sunrise = atSunrise (minus 90000)
+
+unfoldable pub sunriseEarlier : List ℕ
+sunriseEarlier = atSunrise (minus 900000)
+
+unfoldable pub runInSun : ℕ → Call
+runInSun minute = run 5 false (snapshot 0 (1 ∷ 0 ∷ minute ∷ []) (1 ∷ 10 ∷ 1000 ∷ [])) 54 45
+
 unfoldable pub table : List Edge
 table =
     -- 256 Logs: 256 steps; 300: 257, the last Fail
-    edge (steps (doing 8 256 (logs 256))) (((256 ∷ 0 ∷ []) ∷ []) ∷ []) ∷
-    edge (steps (doing 8 300 (logs 300))) (((257 ∷ 1 ∷ []) ∷ []) ∷ []) ∷
+    edge (steps (doing 8 256 (logs 256))) (((256 ∷ 0 ∷ 0 ∷ []) ∷ []) ∷ []) ∷
+    edge (steps (doing 8 300 (logs 300))) (((257 ∷ 1 ∷ 1 ∷ []) ∷ []) ∷ []) ∷
     -- Repeat 2 of 128 Logs: 256; Repeat 3: 257
-    edge (steps (repeat128 2)) (((256 ∷ 0 ∷ []) ∷ []) ∷ []) ∷
-    edge (steps (repeat128 3)) (((257 ∷ 1 ∷ []) ∷ []) ∷ []) ∷
+    edge (steps (repeat128 2)) (((256 ∷ 0 ∷ 0 ∷ []) ∷ []) ∷ []) ∷
+    edge (steps (repeat128 3)) (((257 ∷ 1 ∷ 1 ∷ []) ∷ []) ∷ []) ∷
     -- B 4: four Logs, reason 0; five: four effects, reason 2
     edge (history (doing 4 4 (logs 4)) (runWet 5 0 ∷ [])) ([] ∷ ((5 ∷ 0 ∷ 7 ∷ 7 ∷ 7 ∷ 7 ∷ []) ∷ []) ∷ []) ∷
     edge (history (doing 4 5 (logs 5)) (runWet 5 0 ∷ [])) ([] ∷ ((5 ∷ 2 ∷ 7 ∷ 7 ∷ 7 ∷ 7 ∷ []) ∷ []) ∷ []) ∷
@@ -92,11 +111,13 @@ table =
     -- sunrise 10, offset -90,000: minute 9; -900,000: 1,435
     edge (number (solarMinute 10 (minus 90000))) (number 9) ∷
     edge (number (solarMinute 10 (minus 900000))) (number 1435) ∷
+    edge (history sunrise (runInSun 8 ∷ runInSun 9 ∷ runInSun 1435 ∷ [])) ([] ∷ [] ∷ ((5 ∷ 0 ∷ 7 ∷ []) ∷ []) ∷ [] ∷ []) ∷
+    edge (history sunriseEarlier (runInSun 9 ∷ runInSun 1435 ∷ [])) ([] ∷ [] ∷ ((5 ∷ 0 ∷ 7 ∷ []) ∷ []) ∷ []) ∷
     -- range 1320 to 360: 360 in, 361 out
     edge (history night (runAtMinute 360 ∷ runAtMinute 361 ∷ [])) ([] ∷ ((5 ∷ 0 ∷ 7 ∷ []) ∷ []) ∷ [] ∷ []) ∷
     []
 
 -- one name that opens them all
 unfoldable pub rows : ℕ
-unfolding samples isFail sum steps number minus repeat128 afters cooled older clock night runAtMinute table
+unfolding samples isFail sum last steps number minus repeat128 afters cooled older clock night runAtMinute atSunrise sunrise sunriseEarlier runInSun table
 rows = 0

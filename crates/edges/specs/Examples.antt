@@ -82,6 +82,8 @@ examples =
     -- a dry run: the body behind all that is queued, and nothing is left
     edge (history (doing 8 2 (after 10 2 1 ∷ log 2 ∷ log 1 ∷ [])) (runDry 5 0 ∷ deadline ∷ []))
     ([] ∷ ((5 ∷ 0 ∷ 2 ∷ 1 ∷ []) ∷ []) ∷ ([] ∷ []) ∷ []) ∷
+    -- a dry run spends its budget too: B 2, and three Logs
+    edge (history (doing 2 3 (logs 3)) (runDry 5 0 ∷ [])) ([] ∷ ((5 ∷ 2 ∷ 7 ∷ 7 ∷ []) ∷ []) ∷ []) ∷
     -- disabling a rule strikes its continuations
     edge (history notDue (runWet 5 0 ∷ enable 5 false ∷ tickAt 10 ∷ runWet 5 20 ∷ [])) ([] ∷ ((5 ∷ 0 ∷ []) ∷ []) ∷ [] ∷ [] ∷ [] ∷ []) ∷
     -- a slot of equal rule, place and period is kept
