@@ -1,3 +1,11 @@
+pub mod Accepted
 pub mod Classes
 pub mod Far
+pub mod Fields
+pub mod Match
+pub mod Numbers
+pub mod Records
 pub mod Refusals
+pub mod Rules
+pub mod Tables
+pub mod Words

@@ -1,2 +1,5 @@
+pub mod Accepted
 pub mod Classes
+pub mod Fits
+pub mod Found
 pub mod Sized

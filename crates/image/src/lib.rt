@@ -1,8 +1,12 @@
 // Rule images: what load refuses, and what an image says.
+pub mod action;
 mod check;
 mod field;
 pub mod layout;
+pub mod record;
 mod rows;
+pub mod rule;
+pub mod table;
 
 ghost use mathlib.Core.Path.{_≡_};
 ghost use mathlib.Core.Bool.{true, false};

@@ -1,18 +1,31 @@
--- Demand 3 holds of the specification.
-use mathlib.Core.List.{List}
+-- Demand 3 holds of the specification: of every store that keeps the store rules, and every list of calls.
+use mathlib.Core.Path.{_≡_}
+use mathlib.Core.Bool.{true}
+use mathlib.Core.List.{List, [], _∷_}
+use Rattle.model.specs.Lists.{all}
 use Rattle.model.specs.State.{Store}
-use Rattle.model.specs.Calls.{Call}
+use Rattle.model.specs.Calls.{Call, call}
+use Rattle.model.specs.Store.{Keeps}
 use Rattle.ledger.specs.Ledger.{startLedger, notices, finalStore}
-use Rattle.ledger.specs.Demand3.{Good, Demand3}
+use Rattle.ledger.specs.Demand3.{inWords, Demand3}
+use Rattle.ledger.proofs.ListLaws.{and-l, and-r}
 use Rattle.ledger.proofs.History.{ledger-follows}
 use Rattle.ledger.proofs.EffectBound.{effects-bounded}
 use Rattle.ledger.proofs.Resumptions.{dropped, accepted, resumes-once, start-once, all-leave}
-use Rattle.ledger.proofs.StoreRules.{good-after}
 use Rattle.ledger.proofs.CallTrace.{tick-faithful, run-faithful}
 use Rattle.ledger.proofs.DryRuns.{dry-run}
+use Rattle.ledger.proofs.KeepsParts.{of-keeps}
+use Rattle.ledger.proofs.CallRules.{sound, call-keeps}
 
-pub demand3 : (s : Store) → Good s → (cs : List Call) → Demand3 s cs
-demand3 s g cs =
+-- the store rules hold after every call
+pub keeps-after : (s : Store) → Keeps s → (cs : List Call) → all inWords cs ≡ true → Keeps (finalStore s cs)
+unfolding finalStore
+keeps-after s k [] w = k
+keeps-after s k (c ∷ cs) w = keeps-after ((call c s) .store) (call-keeps c s (and-l (inWords c) _ w) k) cs (and-r (inWords c) _ w)
+
+pub demand3 : (s : Store) → Keeps s → (cs : List Call) → all inWords cs ≡ true → Demand3 s cs
+demand3 s k cs w =
+    let g = sound s (of-keeps s k) in
     record {
       resumed = (ledger-follows s g cs) .0;
       pending = (ledger-follows s g cs) .1;
@@ -25,5 +38,5 @@ demand3 s g cs =
       tick-trace = λ snap os es set e. tick-faithful set snap os es (finalStore s cs) e;
       run-trace = λ r snap os es set e. run-faithful set r snap os es (finalStore s cs) e;
       dry = λ r snap os es. dry-run r snap os es (finalStore s cs);
-      keeps = good-after s g cs;
+      keeps = keeps-after s k cs w;
     }

@@ -29,15 +29,15 @@ use Rattle.model.specs.Rules.{nameOrder}
 use Rattle.model.specs.Calls.{Call, new, load, unload, enable, tick, run, deadline, counters, Done, refuse, fresh, loading, callLoad, callUnload, enabling, ruleIn, callEnable, overflow, committing, committed, tickWith, runRule, runWith, given, call}
 use Rattle.ledger.specs.Ledger.{Event, cleared, disabled, ticked, ran, traced, Activation, Posting, Ledger, leavesBefore, leaving, staying, struck, resumedPayer, postItem, postItems, post, postAll, eventsOf, entryOf, isRefused, budgetOf, startLedger, notices, postCall, finalLedger}
 use Rattle.ledger.specs.Effects.{sameActivation, onlyIf, effectsFrom}
-use Rattle.ledger.specs.Bodies.{bodiesOk, flatOk, flatsOk}
-use Rattle.ledger.specs.Demand3.{Good}
+use Rattle.ledger.proofs.Sound.{Sound}
 use Rattle.ledger.proofs.ListLaws.{and-l, and-r, and-i}
 use Rattle.ledger.proofs.Simulation.{by, Aged, agedPending, agedPosting, Sim, post-append, post-traced}
 use Rattle.ledger.proofs.TickSimulation.{dues}
 use Rattle.ledger.proofs.History.{Agree, follows, starts}
 use Rattle.ledger.proofs.Potential.{most, most-bound, potential, from, potentialOf, sum-split, sum-sort}
 use Rattle.ledger.proofs.RunBound.{amortized, struck-sum, runs-bound}
-use Rattle.ledger.proofs.Bodies.{rule-bodies}
+use Rattle.ledger.proofs.Shapes.{listOk, flatOk, flatsOk}
+use Rattle.ledger.proofs.Accepted.{rule-shape}
 
 -- a run changes neither the set's budget, nor what is still to resume, nor the number of activations
 pub record Unchanged (l l′ : Ledger) : Type 0 where
@@ -250,9 +250,9 @@ module _ (ρ : Activation) where
   emits c (suc n) s l K ok h d = refuses c (suc n) s l ok h
 
   -- a set that load accepts has passed flattening
-  all-rules : (img : List ℕ) (is : List ℕ) → all bodiesOk (map (λ (f : Flattened). f .steps) (map (flattenRule img) is)) ≡ true
+  all-rules : (img : List ℕ) (is : List ℕ) → all listOk (map (λ (f : Flattened). f .steps) (map (flattenRule img) is)) ≡ true
   all-rules img [] = refl
-  all-rules img (i ∷ is) = and-i (bodiesOk ((flattenRule img i) .steps)) _ (rule-bodies img i) (all-rules img is)
+  all-rules img (i ∷ is) = and-i (listOk ((flattenRule img i) .steps)) _ ((rule-shape img i) .ok) (all-rules img is)
 
   loads : (n t : ℕ) (img : List ℕ) (s : Store) (l : Ledger) → flatsOk (s .loaded) ≡ true → Within l → Stays (load t img) l (loading n t img (flattenRules img) s)
   unfolding eventsOf post flatOk setOf flattenRules
@@ -336,7 +336,7 @@ module _ (ρ : Activation) where
   start-bound s = record { within = let z = start-sum (s .vol .pending) in omega arith }
 
 -- whatever is called, the effects of one activation are bounded by its set's budget
-pub effects-bounded : (s : Store) → Good s → (cs : List Call) (ρ : Activation)
+pub effects-bounded : (s : Store) → Sound s → (cs : List Call) (ρ : Activation)
     → effectsFrom ρ ((finalLedger (startLedger s) (notices s cs)) .effects) ≤ ρ .budget * (ρ .budget - 1) / 2 + 1
 effects-bounded s g cs ρ =
     let w = (history-bound ρ s (startLedger s) cs (starts s g) (g .ok) (start-bound ρ s)) .within in
@@ -349,7 +349,7 @@ effects-bounded s g cs ρ =
     cap-most false = omega arith
 
 -- a loaded set has passed load
-pub call-ok : (c : Call) (s : Store) → Good s → flatsOk ((call c s) .store .loaded) ≡ true
+pub call-ok : (c : Call) (s : Store) → Sound s → flatsOk ((call c s) .store .loaded) ≡ true
 call-ok c s g =
     let ρ : Activation = record { number = 0; budget = 0 } in
     (call-bound ρ c s (startLedger s) (starts s g) (g .ok) (start-bound ρ s)) .ok

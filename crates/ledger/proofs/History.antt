@@ -21,7 +21,7 @@ use Rattle.model.specs.Actions.{Job}
 use Rattle.model.specs.Wheel.{dueNow, notDue, serviceTick}
 use Rattle.model.specs.Calls.{Call, new, load, unload, enable, tick, run, deadline, counters, Answer, Done, fresh, answered, refuse, storeWith, restWith, loading, callLoad, callUnload, flipped, enabling, ruleIn, callEnable, overflow, committing, committed, tickWith, runRule, runWith, given, call}
 use Rattle.ledger.specs.Ledger.{Event, ticked, ran, traced, Posting, Standing, Ledger, leaving, struck, post, postAll, eventsOf, leavingAt, entryOf, isRefused, budgetOf, startLedger, notices, resumedAtEach, finalStore, postCall, leavingAtEach, finalLedger}
-use Rattle.ledger.specs.Demand3.{Good}
+use Rattle.ledger.proofs.Sound.{Sound}
 use Rattle.ledger.proofs.ListLaws.{map-map, and-l, and-r}
 use Rattle.ledger.proofs.Known.{named-known}
 use Rattle.ledger.proofs.Simulation.{by, knownTo, agedPending, agedPosting, Sim, any-rest, strikes, struck-same, post-traced, Simulates, idles, activates}
@@ -226,7 +226,7 @@ history-follows s l (c ∷ cs) h =
     let r = history-follows ((call c s) .store) (postAll (eventsOf (isRefused ((call c s) .answer)) c ((call c s) .trace)) l) cs (f .agree) in
     (ap₂ _∷_ (f .struckOut) (r .0), r .1)
 
-pub starts : (s : Store) → Good s → Agree s (startLedger s)
+pub starts : (s : Store) → Sound s → Agree s (startLedger s)
 unfolding startLedger
 starts s g =
     record {
@@ -241,7 +241,7 @@ starts s g =
       budget = refl;
     }
 
-pub ledger-follows : (s : Store) → Good s → (cs : List Call)
+pub ledger-follows : (s : Store) → Sound s → (cs : List Call)
     → (resumedAtEach s cs ≡ leavingAtEach (startLedger s) (notices s cs))
     × (map entryOf ((finalStore s cs) .vol .pending) ≡ map (λ (h : Posting). h .entry) ((finalLedger (startLedger s) (notices s cs)) .standing .postings))
 ledger-follows s g cs =

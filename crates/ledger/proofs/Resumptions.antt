@@ -18,10 +18,11 @@ use Rattle.model.specs.Outcome.{Report, plain, disables, defers, Item, started,
 use Rattle.model.specs.declared.Pending.{Pending}
 use Rattle.model.specs.State.{Store}
 use Rattle.model.specs.Calls.{Call, new, load, unload, enable, tick, run, deadline, counters}
-use Rattle.ledger.specs.Demand3.{Good, distinctSeq}
+use Rattle.ledger.proofs.Sound.{Sound}
 use Rattle.ledger.specs.Ledger.{Event, cleared, disabled, ticked, ran, traced, Entry, Activation, Posting, Standing, Payer, Ledger, leavesBefore, leaving, staying, struck, accept, postReport, pay, postItem, post, postAll, entryOf, startLedger, Notice, eventsOf, leavingAt, leavingAtEach, notices, postCall, finalLedger}
 use Rattle.ledger.specs.Resumptions.{allEvents, Change, leaves, struckOut, stays, changeAt, Resumption, tickNumber, resumptionsBy, ticksIn, expected, leavingOn, allLeaving, ofAge, resumptionsOf, continuation}
 use Rattle.ledger.proofs.ListLaws.{all-append, all-keep, and-l, and-r, and-i}
+use Rattle.ledger.proofs.Distinct.{distinctBy}
 use Rattle.ledger.proofs.SortLaws.{keep-comm, keep-append, keep-sort-none, keep-sort-one}
 use Rattle.ledger.proofs.Simulation.{by, post-append}
 
@@ -237,11 +238,11 @@ leavings-append n i (x ∷ xs) ys l =
     ap (λ zs. map (λ (h : Posting). record { tick = i; entry = h .entry }) (ofAge n (leavingOn x l)) ++ zs) (leavings-append n (tickNumber x i) xs ys (post x l))
     ∙ sym (append-assoc (map (λ (h : Posting). record { tick = i; entry = h .entry }) (ofAge n (leavingOn x l))) _ _)
 
-pub good-below : (s : Store) → Good s → below (startLedger s) ≡ true
+pub sound-below : (s : Store) → Sound s → below (startLedger s) ≡ true
 unfolding startLedger
-good-below s g = below-start (s .vol .pending) (s .vol .next) (g .below)
+sound-below s g = below-start (s .vol .pending) (s .vol .next) (g .below)
 
-module _ (s : Store) (g : Good s) (cs : List Call) (before behind : List Event) (x : Step) (ms : ℕ) (sp : Point) (effect : Option Effect)
+module _ (s : Store) (g : Sound s) (cs : List Call) (before behind : List Event) (x : Step) (ms : ℕ) (sp : Point) (effect : Option Effect)
     (here : allEvents (notices s cs) ≡ before ++ (traced (paid x (defers ms sp) effect) ∷ behind)) where
   -- 32 stand: dropped
   pub dropped : length ((postAll before (startLedger s)) .standing .postings) ≡ 32
@@ -264,7 +265,7 @@ module _ (s : Store) (g : Good s) (cs : List Call) (before behind : List Event) 
   resumes-once room =
       let l = postAll before (startLedger s) in
       let n = l .standing .next in
-      let b = good-below s g in
+      let b = sound-below s g in
       let u : resumptionsOf n 0 before (startLedger s) ≡ [] = not-yet n before 0 (startLedger s) b (omega arith) in
       ap (λ ms′. resumptionsOf n 0 ms′ (startLedger s)) here ∙ leavings-append n 0 before (traced (paid x (defers ms sp) effect) ∷ behind) (startLedger s)
       ∙ ap (λ xs. xs ++ resumptionsOf n (ticksIn before 0) (traced (paid x (defers ms sp) effect) ∷ behind) l) u
@@ -292,7 +293,7 @@ all-middle : {A : Type 0} (p : A → Bool) (xs : List A) (c : A) (ys : List A) �
 all-middle p [] c ys h = and-l (p c) _ h
 all-middle p (x ∷ xs) c ys h = all-middle p xs c ys (and-r (p x) _ h)
 
-one-among : (xs : List Pending) (c : Pending) (ys : List Pending) → distinctSeq (xs ++ (c ∷ ys)) ≡ true → ofAge (c .seq) (map startPosting (xs ++ (c ∷ ys))) ≡ startPosting c ∷ []
+one-among : (xs : List Pending) (c : Pending) (ys : List Pending) → distinctBy (λ (c : Pending). c .seq) (xs ++ (c ∷ ys)) ≡ true → ofAge (c .seq) (map startPosting (xs ++ (c ∷ ys))) ≡ startPosting c ∷ []
 one-among [] c ys d =
     rw (eq-eqb (c .seq) (c .seq) refl)
     (ap (λ zs. startPosting c ∷ zs) (none-among c ys (and-l (all (λ (x : Pending). not (eqb (c .seq) (x .seq))) ys) _ d)))
@@ -301,7 +302,7 @@ one-among (x ∷ xs) c ys d =
     let f : eqb (x .seq) (c .seq) ≡ false = not-true (eqb (x .seq) (c .seq)) h in
     rw f (one-among xs c ys (and-r (all (λ (y : Pending). not (eqb (x .seq) (y .seq))) (xs ++ (c ∷ ys))) _ d))
 
-pub start-once : (s : Store) → Good s → (cs : List Call) (xs : List Pending) (c : Pending) (ys : List Pending) → s .vol .pending ≡ xs ++ (c ∷ ys)
+pub start-once : (s : Store) → Sound s → (cs : List Call) (xs : List Pending) (c : Pending) (ys : List Pending) → s .vol .pending ≡ xs ++ (c ∷ ys)
     → resumptionsOf (c .seq) 0 (allEvents (notices s cs)) (startLedger s) ≡ expected (entryOf c) 0 (allEvents (notices s cs))
 unfolding startLedger
 start-once s g cs xs c ys e =

@@ -24,9 +24,9 @@ use Rattle.model.specs.Actions.{Job, PrimResult, primAt}
 use Rattle.model.specs.Exec.{StepResult, afterPrim, runBranch, exec, RunOutput, continueRun, withStep, runSteps}
 use Rattle.ledger.specs.Ledger.{Entry, Activation, Posting, Standing, Payer, Ledger, struck, accept, postReport, pay, countEffect, postItem, postItems}
 use Rattle.ledger.specs.Effects.{sameActivation, onlyIf, effectsFrom}
-use Rattle.ledger.specs.Bodies.{notAfter, bodyOk, bodiesOk, flatOk}
 use Rattle.ledger.proofs.ListLaws.{and-l, and-r}
 use Rattle.ledger.proofs.Simulation.{by}
+use Rattle.ledger.proofs.Shapes.{notAfter, listOk, flatOk, body-no-after}
 use Rattle.ledger.proofs.Potential.{potential, potential-step, potential-after, from, potentialOf, share-le, share-add, sum-append, sum-keep}
 
 -- IN A BODY THERE IS NO AFTER ---------------------------------------------------------------------------------------------------
@@ -35,7 +35,7 @@ all-getD p [] i d h k = k
 all-getD p (x ∷ xs) zero d h k = and-l (p x) _ h
 all-getD p (x ∷ xs) (suc i) d h k = all-getD p xs i d (and-r (p x) _ h) k
 
-all-at : {A : Type 0} (p : A → Bool) (xs : List A) (i : ℕ) (x : A) → all p xs ≡ true → getElem? xs i ≡ some x → p x ≡ true
+pub all-at : {A : Type 0} (p : A → Bool) (xs : List A) (i : ℕ) (x : A) → all p xs ≡ true → getElem? xs i ≡ some x → p x ≡ true
 all-at p [] i x h e = let z : true ≡ false = cc in absurd (true≢false z)
 all-at p (y ∷ ys) zero x h e = let q : y ≡ x = cc in rw q at (and-l (p y) _ h)
 all-at p (y ∷ ys) (suc i) x h e = all-at p ys i x (and-r (p y) _ h) e
@@ -43,22 +43,11 @@ all-at p (y ∷ ys) (suc i) x h e = all-at p ys i x (and-r (p y) _ h) e
 all-take : {A : Type 0} (p : A → Bool) (n i : ℕ) (xs : List A) (x : A) → all p (take n xs) ≡ true → getElem? (take n xs) i ≡ some x → p x ≡ true
 all-take p n i xs x h e = all-at p (take n xs) i x h e
 
--- the body of the after at place p
-body-plain : (xs : List Step) (p : ℕ) → bodiesOk xs ≡ true
-    → all notAfter (take (bodyLen (getElem? xs p)) (drop (suc p) xs)) ≡ true
-body-plain [] p ok = refl
-body-plain (Primitive i ∷ xs) zero ok = refl
-body-plain (Wait ms ∷ xs) zero ok = refl
-body-plain (Branch c t f ∷ xs) zero ok = refl
-body-plain (After ms n ∷ xs) zero ok = and-l _ _ ok
-body-plain (Fail ∷ xs) zero ok = refl
-body-plain (x ∷ xs) (suc p) ok = body-plain xs p (and-r (bodyOk x xs) _ ok)
-
 in-body : (set : RuleSet) (r n p : ℕ) (j : Jump) (x : Step) → flatOk set ≡ true → stepAt set r (point (suc n) p j) ≡ some x → notAfter x ≡ true
 unfolding flatOk stepAt listIn
 in-body set r n p j x ok e =
     let xs = getD (set .flat) r [] in
-    all-at notAfter (take (bodyLen (getElem? xs n)) (drop (suc n) xs)) p x (body-plain xs n (all-getD bodiesOk (set .flat) r [] ok refl)) e
+    all-at notAfter (take (bodyLen (getElem? xs n)) (drop (suc n) xs)) p x (body-no-after xs n (all-getD listOk (set .flat) r [] ok refl)) e
 
 pub arrive-list : (n p : ℕ) (j : Jump) → (arrive n p j) .list ≡ n
 unfolding arrive

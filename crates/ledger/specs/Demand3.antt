@@ -1,37 +1,42 @@
 -- Demand 3: one claim about a list of calls. It is proved as `demand3` of proofs/Demand3.antt.
 use mathlib.Core.Path.{_≡_}
-use Prim.Native.Nat.{ℕ, _+_, _-_, _*_, _/_, _≤_}
-use mathlib.Core.Bool.{Bool, true, false, not, _&&_}
+use Prim.Native.Nat.{ℕ, _+_, _-_, _*_, _/_, _^_, _≤_}
+use mathlib.Core.Bool.{Bool, true, false, _&&_}
 use mathlib.Core.List.{List, [], _∷_, _++_, map}
 use mathlib.Core.Option.{Option, some}
-use lib.Dec.{ltb, eqb}
+use lib.Dec.{leb, ltb}
+use Rattle.words.specs.Saturating.{max32}
 use lib.ListN.{length}
-use Rattle.model.specs.Lists.{all, flatten, present}
+use Rattle.model.specs.Lists.{all, flatten}
 use Rattle.model.specs.declared.Step.{Step}
 use Rattle.model.specs.declared.Point.{Point}
 use Rattle.model.specs.declared.Effect.{Effect}
 use Rattle.model.specs.Outcome.{Item, defers, paid}
 use Rattle.model.specs.declared.Pending.{Pending}
 use Rattle.model.specs.State.{Store, Rest, RuleSet}
-use Rattle.model.specs.Calls.{Call, tick, run, call, ruleIn}
-use Rattle.ledger.specs.Bodies.{flatsOk}
+use Rattle.model.specs.Store.{Keeps}
+use Rattle.model.specs.Calls.{Call, new, load, unload, enable, tick, run, deadline, counters, call}
 use Rattle.ledger.specs.Ledger.{Event, traced, Activation, Posting, Ledger, post, postAll, entryOf, startLedger, notices, resumedAtEach, finalStore, leavingAtEach, finalLedger}
 use Rattle.ledger.specs.Effects.{effectsFrom}
 use Rattle.ledger.specs.Resumptions.{allEvents, ticksIn, expected, allLeaving, resumptionsOf, continuation}
 use Rattle.ledger.specs.Trace.{FaithfulTrace}
 
-abbrev pub distinctSeq : List Pending → Bool
-distinctSeq [] = true
-distinctSeq (c ∷ cs) = all (λ (d : Pending). not (eqb (c .seq) (d .seq))) cs && distinctSeq cs
+-- WHAT A CALL IS ------------------------------------------------------------------------------------------------------------
+-- its numbers are those that the code's types hold: a time has 64 bits; a name and each word of an image or a snapshot 32
+abbrev pub isWord : ℕ → Bool
+isWord w = leb w max32
 
--- a loaded set has passed load; at most 32 are pending, all of loaded rules; their sequence numbers are distinct and below the next
-pub record Good (s : Store) : Type 0 where
-  pub ok : flatsOk (s .loaded) ≡ true
-  pub few : length (s .vol .pending) ≤ 32
-  pub known : all (λ (c : Pending). present (ruleIn (s .loaded) (c .rule))) (s .vol .pending) ≡ true
-  pub below : all (λ (c : Pending). ltb (c .seq) (s .vol .next)) (s .vol .pending) ≡ true
-  pub distinct : distinctSeq (s .vol .pending) ≡ true
+unfoldable pub inWords : Call → Bool
+inWords (new t) = ltb t (2 ^ 64)
+inWords (load t img) = ltb t (2 ^ 64) && all isWord img
+inWords (unload t) = ltb t (2 ^ 64)
+inWords (enable rule on) = isWord rule
+inWords (tick snap os es) = all isWord snap
+inWords (run rule dry snap os es) = isWord rule && all isWord snap
+inWords deadline = true
+inWords counters = true
 
+-- WHAT A DRY RUN LEAVES -----------------------------------------------------------------------------------------------------
 -- all of a store's rest but the counters
 pub record SameRest (s s′ : Rest) : Type 0 where
   pub enabled : s′ .enabled ≡ s .enabled
@@ -104,4 +109,4 @@ pub record Demand3 (s : Store) (cs : List Call) : Type 0 where
   -- a dry run after the list changes only counters and the last time
   pub dry : (r : ℕ) (snap : List ℕ) (os es : ℕ) → SameButCounters (finalStore s cs) ((call (run r true snap os es) (finalStore s cs)) .store)
   -- the store rules hold at the end
-  pub keeps : Good (finalStore s cs)
+  pub keeps : Keeps (finalStore s cs)

@@ -1,1 +1,4 @@
 pub mod Limits
+pub mod Values
+pub mod Find
+pub mod Ranges

@@ -1,0 +1,136 @@
+// Flattening all rules of an image: document 01, refusal 16, and the flat part of a store.
+use crate::Answer;
+use crate::Loaded;
+use crate::Progress;
+use crate::cycle::flatten_list;
+use crate::records::wide;
+use crate::steps::clear;
+use crate::steps::cut;
+use model::FlattenCtx;
+ghost use mathlib.Core.Path.{_≡_};
+ghost use mathlib.Core.List.{[], _∷_, _++_};
+ghost use Prim.Native.Nat.{_+_, _*_, _≤_, _<_};
+ghost use lib.ListN.{length, take};
+ghost use Rattle.model.specs.Image.{trailer as trailerIn, firstOf};
+ghost use Rattle.model.specs.Flat.{flattenRules};
+ghost use Rattle.flat.specs.Load.{Checked, CheckedTables, Stored, flattenTables, loaded};
+
+// The row of list k: where it begins, and how many steps it has; written if there is room.
+fn put_list(lists: &mut [u32], k: usize, first: u32, size: u32)
+    requires { ⌜ k < 4096 ⌝ }
+    ensures { λ _. ⌜ ((k + 1) * 2 ≤ length (now (lists .entry)) →
+        take ((k + 1) * 2) (now (lists .exit)) ≡ take (k * 2) (now (lists .entry)) ++ first ∷ size ∷ []) ⌝ }
+{
+    if (k + 1) * 2 <= lists.len() {
+        lists[k * 2] = first;
+        lists[k * 2 + 1] = size;
+    }
+}
+
+// Where the rows of n lists end: at the end of the words, if they have no room.
+fn rows_end(n: usize, len: usize) -> usize
+    ensures { λ r. ⌜ (r ≤ len) × ((n * 2 ≤ len → r ≡ n * 2)) ⌝ }
+{
+    if n <= len / 2 { n * 2 } else { len }
+}
+
+// The lists of all rules, one behind the other in `words`, their rows in `lists`, and 0 behind each. Rule k's list is said by words 8
+// and 9 of its 16.
+fn flatten_tables(
+    acts: &[u32],
+    blocks: &[u32],
+    rules: &[u32],
+    words: &mut [u32],
+    lists: &mut [u32],
+    depth: usize,
+    limit: u32,
+) -> Loaded
+    requires { ⌜ CheckedTables (now acts) (now blocks) (now rules) limit ⌝ }
+    requires { ⌜ length (now words) ≤ 8192 ⌝ }
+    ensures { λ r. ⌜ r ≡ loaded (flattenTables (now (acts .entry)) (now (blocks .entry)) (now (rules .entry)) depth limit) ⌝ }
+    ensures { λ r. ⌜ Stored (flattenTables (now (acts .entry)) (now (blocks .entry)) (now (rules .entry)) depth limit) (now (words .exit)) (now (lists .exit)) r ⌝ }
+{
+    let n = rules.len() / 16;
+    let mut k: usize = 0;
+    let mut size: usize = 0;
+    let mut left: usize = 65536;
+    let ctx = FlattenCtx {
+        limit,
+        in_repeat: false,
+        in_conditional: false,
+        in_after: false,
+    };
+    while k < n {
+        let at = cut(size, words.len());
+        let first = wide(rules[k * 16 + 8]);
+        let count = wide(rules[k * 16 + 9]);
+        let p = Progress {
+            depth,
+            ctx,
+            n: 0,
+            left,
+        };
+        let Answer::Done {
+            counted: _,
+            size: s,
+            left: l,
+        } = flatten_list(acts, blocks, &mut words[at..], first, count, p)
+        else {
+            return Loaded::Over;
+        };
+        put_list(lists, k, size as u32, s as u32);
+        size += s;
+        left = l;
+        k += 1;
+    }
+    if 2048 < size {
+        return Loaded::Over;
+    }
+    let end = cut(size, words.len());
+    clear(words, end);
+    let last = rows_end(n, lists.len());
+    clear(lists, last);
+    Loaded::Steps(size)
+}
+
+// Word j of the trailer.
+fn trailer(image: &[u32], j: usize) -> u32
+    requires { ⌜ (13 ≤ length (now image)) × (j < 13) ⌝ }
+    ensures { λ r. ⌜ r ≡ trailerIn (now (image .entry)) j ⌝ }
+{
+    image[image.len() - 13 + j]
+}
+
+// The first word of table t.
+fn first_of(image: &[u32], t: usize) -> usize
+    requires { ⌜ (13 ≤ length (now image)) × (t < 8) ⌝ }
+    ensures { λ r. ⌜ r ≡ firstOf (now (image .entry)) t ⌝ }
+{
+    wide(trailer(image, 5 + t))
+}
+
+// The flat part of the image's set: its steps in `words`, the rows of its lists in `lists`. Lent no words, it says only whether the set
+// is over the limits of refusal 16.
+pub fn flatten_rules(image: &[u32], words: &mut [u32], lists: &mut [u32]) -> Loaded
+    requires { ⌜ Checked (now image) ⌝ }
+    requires { ⌜ length (now words) ≤ 8192 ⌝ }
+    ensures { λ r. ⌜ r ≡ loaded (flattenRules (now (image .entry))) ⌝ }
+    ensures { λ r. ⌜ Stored (flattenRules (now (image .entry))) (now (words .exit)) (now (lists .exit)) r ⌝ }
+{
+    let rules = first_of(image, 0);
+    let blocks = first_of(image, 1);
+    let triggers = first_of(image, 2);
+    let acts = first_of(image, 4);
+    let values = first_of(image, 5);
+    let depth = wide(trailer(image, 1));
+    let limit = trailer(image, 2);
+    flatten_tables(
+        &image[acts..values],
+        &image[blocks..triggers],
+        &image[rules..blocks],
+        words,
+        lists,
+        depth,
+        limit,
+    )
+}

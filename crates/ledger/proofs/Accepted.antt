@@ -1,0 +1,156 @@
+-- What an image of words that passes load gives.
+use mathlib.Core.Path.{_≡_, refl, sym, _∙_, ap, subst}
+use Prim.Native.Nat.{ℕ, zero, suc, _+_, _-_, _*_, _/_, _≤_, _<_, zero-le}
+use native.Mathlib.Omega.{arith}
+use mathlib.Core.Bool.{Bool, true, false, cond, not, _&&_, _||_, true≢false, false≢true}
+use mathlib.Core.List.{List, [], _∷_, _++_, map}
+use mathlib.Core.Option.{Option, none, some, Option·none-ne-some, Option·some-injective}
+use lib.Dec.{leb, ltb, eqb}
+use lib.ListN.{length, take, drop, getD, length-take, length-append}
+use borrow.Author.Tests.{leb-true, ltb-true, ltb-false, eqb-true, eq-eqb, ne-eqb, lt-ltb}
+use Rattle.words.specs.Saturating.{max32}
+use Rattle.model.specs.Lists.{all, every, positionFrom, upFrom}
+use Rattle.model.specs.Field.{unless, fits, cellOf}
+use Rattle.model.specs.Rows.{rules, actions, blocks, fieldOf}
+use Rattle.model.specs.Image.{imageSized, limitsFit, placesFit, tablesPass, namesDiffer, fewEnough, limitFits, trailer, budget, sizeOf, wordAt, firstOf, widthOf, tableOf, recordPasses, wordPasses, tablePasses, callDepth, repeatLimit}
+use Rattle.model.specs.declared.Record.{Record}
+use Rattle.model.specs.declared.Step.{Step}
+use Rattle.model.specs.Rules.{nameOf, ruleNamed, ruleIndices}
+use Rattle.model.specs.Flat.{Flattened, flattenRule, flattenRules, flattenings, stepsIn, tooManySteps}
+use Rattle.model.specs.Load.{tablesRefusal, imageRefusalWith, imageRefusal}
+use Rattle.ledger.proofs.ListLaws.{and-l, and-r, and-i}
+use Rattle.ledger.proofs.Simulation.{by}
+use Rattle.ledger.proofs.Shapes.{listOk, numbersOk, Shape}
+use Rattle.ledger.proofs.FlatShapes.{isWord, word-at, shaped-part, shaped-all}
+
+pub record Accepted (img : List ℕ) : Type 0 where
+  pub words : all isWord img ≡ true
+  pub sized : imageSized img ≡ true
+  pub limits : limitsFit img ≡ true
+  pub fields : tablesPass img false ≡ true
+  pub names : namesDiffer img ≡ true
+  pub steps : tooManySteps (flattenRules img) ≡ false
+  pub few : fewEnough img ≡ true
+
+past-check : (b : Bool) (n rest : ℕ) → unless b (suc n) rest ≡ 0 → (b ≡ true) × (rest ≡ 0)
+past-check true n rest e = (refl, e)
+past-check false n rest e = absurd (omega arith)
+
+not-not : (b : Bool) → not b ≡ true → b ≡ false
+not-not true h = sym h
+not-not false h = refl
+
+pub accepts : (img : List ℕ) → all isWord img ≡ true → imageRefusal img ≡ 0 → Accepted img
+unfolding imageRefusal imageRefusalWith tablesRefusal
+accepts img w e =
+    let (a, e10) = past-check (imageSized img) 9 _ e in
+    let (b, e11) = past-check (limitsFit img) 10 _ e10 in
+    let (c, e12) = past-check (placesFit img) 11 _ e11 in
+    let (d, e13) = past-check (tablesPass img false) 12 _ e12 in
+    let (f, e14) = past-check (tablesPass img true) 13 _ e13 in
+    let (g, e15) = past-check (namesDiffer img) 14 _ e14 in
+    let (h, e16) = past-check (not (tooManySteps (flattenRules img))) 15 _ e15 in
+    let (i, e17) = past-check (fewEnough img) 16 0 e16 in
+    record { words = w; sized = a; limits = b; fields = d; names = g; steps = not-not _ h; few = i }
+
+-- a test that holds at every number below n
+pub every-at : (n : ℕ) (f : ℕ → Bool) (i : ℕ) → every n f ≡ true → i < n → f i ≡ true
+unfolding every
+every-at zero f i h lt = absurd (omega arith)
+every-at (suc n) f i h lt =
+    by (ltb i n) (λ t. every-at n f i (and-l (every n f) (f n) h) (ltb-true i n t))
+    (λ t. let e : i ≡ n = omega (arith, ltb-false i n t) in rw e (and-r (every n f) (f n) h))
+
+-- LISTS ------------------------------------------------------------------------------------------------------------------
+pub length-from : (s n : ℕ) → length (upFrom s n) ≡ n
+length-from s zero = refl
+length-from s (suc n) = ap suc (length-from (suc s) n)
+
+pub all-take : {A : Type 0} (p : A → Bool) (n : ℕ) (xs : List A) → all p xs ≡ true → all p (take n xs) ≡ true
+all-take p zero xs h = refl
+all-take p (suc n) [] h = refl
+all-take p (suc n) (x ∷ xs) h = and-i (p x) _ (and-l _ _ h) (all-take p n xs (and-r (p x) _ h))
+
+pub all-drop : {A : Type 0} (p : A → Bool) (n : ℕ) (xs : List A) → all p xs ≡ true → all p (drop n xs) ≡ true
+all-drop p zero xs h = h
+all-drop p (suc n) [] h = refl
+all-drop p (suc n) (x ∷ xs) h = all-drop p n xs (and-r (p x) _ h)
+
+-- THE RULE OF A NAME ----------------------------------------------------------------------------------------------------------------
+found-at : (f : ℕ → ℕ) (s n i : ℕ) → s ≤ i → i < s + n → ((k : ℕ) → k < i → f k ≡ f i → ⊥) → positionFrom (λ k. eqb (f k) (f i)) s (upFrom s n) ≡ some i
+found-at f s zero i lo hi first = absurd (omega arith)
+found-at f s (suc n) i lo hi first =
+    by (eqb (f s) (f i))
+    (λ t.
+    by (ltb s i) (λ lt. absurd (first s (ltb-true s i lt) (eqb-true (f s) (f i) t)))
+    (λ ge. let e : s ≡ i = omega (arith, ltb-false s i ge) in rw t (ap some e)))
+    (λ t.
+    let ne : s ≡ i → ⊥ = λ e. let z : true ≡ false = sym (eq-eqb (f s) (f i) (ap f e)) ∙ t in absurd (true≢false z) in
+    rw t (found-at f (suc s) n i (below s i lo ne) (omega arith) first))
+  where
+    below : (a b : ℕ) → a ≤ b → (a ≡ b → ⊥) → suc a ≤ b
+    below a b le ne = by (ltb a b) (λ t. omega (arith, ltb-true a b t)) (λ t. absurd (ne (omega (arith, ltb-false a b t))))
+
+module _ (img : List ℕ) (ok : Accepted img) where
+  pub word-of : (t i j : ℕ) → isWord (wordAt img t i j) ≡ true
+  unfolding wordAt
+  word-of t i j = word-at img _ (ok .words)
+
+  -- no two rules of one name
+  names-differ : (k i : ℕ) → k < i → i < sizeOf img rules → nameOf img k ≡ nameOf img i → ⊥
+  unfolding namesDiffer wordAt widthOf every
+  names-differ k i lt hi e =
+      let at = every-at (sizeOf img rules) _ i (ok .names) hi in
+      let differ : not (eqb (nameOf img i) (nameOf img k)) ≡ true = every-at i _ k at lt in
+      let same : eqb (nameOf img i) (nameOf img k) ≡ true = eq-eqb (nameOf img i) (nameOf img k) (sym e) in
+      absurd (false≢true (sym (ap not same) ∙ differ))
+
+  pub named : (i : ℕ) → i < sizeOf img rules → ruleNamed img (nameOf img i) ≡ some i
+  unfolding ruleNamed
+  named i hi = found-at (nameOf img) 0 (sizeOf img rules) i zero-le (omega arith) (λ k lt e. names-differ k i lt hi e)
+
+  -- B is 1 to 256
+  pub budget-range : (1 ≤ budget img) × (budget img ≤ 256)
+  unfolding limitsFit
+  budget-range =
+      let h : leb 1 (budget img) && leb (budget img) 256 ≡ true = every-at 5 (limitFits img) 0 (ok .limits) (omega arith) in
+      (leb-true _ _ (and-l _ _ h), leb-true _ _ (and-r (leb 1 (budget img)) _ h))
+
+  pub few-rules : sizeOf img rules ≤ 64
+  unfolding fewEnough
+  few-rules = leb-true _ _ (and-l _ _ (ok .few))
+
+-- the shape of a rule's flat list, whatever the image
+module _ (img : List ℕ) where
+  records : length (tableOf img actions) / 8 ≤ sizeOf img actions
+  unfolding tableOf sizeOf widthOf
+  records =
+      let n = firstOf img 5 - firstOf img 4 in
+      let h = length-take n (drop (firstOf img 4) img) in
+      omega arith
+
+  table-words : all isWord img ≡ true → all isWord (tableOf img actions) ≡ true
+  unfolding tableOf
+  table-words h = all-take isWord (firstOf img 5 - firstOf img 4) (drop (firstOf img 4) img) (all-drop isWord (firstOf img 4) img h)
+
+  pub rule-shape : (i : ℕ) → Shape (all isWord img ≡ true) (sizeOf img actions) false false ((flattenRule img i) .steps)
+  unfolding flattenRule
+  rule-shape i =
+      shaped-part (all isWord img ≡ true) (sizeOf img actions) (wordAt img rules i 9) (wordAt img rules i 8) (flattenings (tableOf img actions) (tableOf img blocks) (callDepth img))
+      (shaped-all (all isWord img ≡ true) (sizeOf img actions) (tableOf img actions) (tableOf img blocks) table-words records (callDepth img))
+      (record { limit = repeatLimit img; «in_repeat» = false; «in_conditional» = false; «in_after» = false }) 0
+
+-- the rule that a name leads to has that name
+found-named : (f : ℕ → ℕ) (r s n i : ℕ) → positionFrom (λ k. eqb (f k) r) s (upFrom s n) ≡ some i → f i ≡ r
+found-named f r s zero i e = absurd (Option·none-ne-some i e)
+found-named f r s (suc n) i e =
+    by (eqb (f s) r)
+    (λ t. let z : some s ≡ some i = rw t at e in ap f (sym (Option·some-injective s i z)) ∙ eqb-true (f s) r t)
+    (λ t. let z : positionFrom (λ k. eqb (f k) r) (suc s) (upFrom (suc s) n) ≡ some i = rw t at e in found-named f r (suc s) n i z)
+
+pub found-name : (img : List ℕ) (r i : ℕ) → ruleNamed img r ≡ some i → nameOf img i ≡ r
+unfolding ruleNamed
+found-name img r i e = found-named (nameOf img) r 0 (sizeOf img rules) i e
+
+pub named-self : (img : List ℕ) (r i : ℕ) → ruleNamed img r ≡ some i → ruleNamed img (nameOf img i) ≡ some i
+named-self img r i e = ap (ruleNamed img) (found-name img r i e) ∙ e
