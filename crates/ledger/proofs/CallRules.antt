@@ -316,3 +316,22 @@ call-keeps c s w k =
       below = g .below;
       next = p .next;
     })
+
+-- a store made new
+pub fresh-keeps : (t : ℕ) → t < 2 ^ 64 → Keeps (fresh t)
+unfolding fresh
+fresh-keeps t lt =
+    let p = fresh-ok t lt in
+    to-keeps (fresh t)
+    (record {
+      now = p .now;
+      set = p .set;
+      passes = p .passes;
+      flat = p .flat;
+      rest = p .changed .rest;
+      few = zero-le;
+      pending = p .changed .pending;
+      distinct = refl;
+      below = refl;
+      next = p .next;
+    })

@@ -30,3 +30,4 @@ pub mod Potential
 pub mod RunBound
 pub mod EffectBound
 pub mod Demand3
+pub mod OnWords

@@ -167,20 +167,20 @@ module _ (e : Env) (j : Job) (wet : j .dry ≡ false) (b : ℕ) (sp : Point) (v 
 
   branched-trace : (c t n : ℕ) (x : Option Bool) → stepAt (e .set) (j .index) sp ≡ some (Branch c t n)
       → RunOf (e .set) (j .index) (suc b) sp ((continueRun (Branch c t n) (runBranch x t n sp v) ((runBranch x t n sp v) .next) K) .trace)
-  unfolding runBranch afterPrim continueRun
-  branched-trace c t n (some true) here = continues here refl (inl refl) (ih _ _)
-  branched-trace c t n (some false) here = continues here refl (inr (inl refl)) (ih _ _)
-  branched-trace c t n none here = continues here refl (inr (inr refl)) (ih _ _)
+  unfolding runBranch afterPrim continueRun fails
+  branched-trace c t n (some true) here = continues here (refl, refl) (inl refl) (ih _ _)
+  branched-trace c t n (some false) here = continues here (refl, refl) (inr (inl refl)) (ih _ _)
+  branched-trace c t n none here = continues here (refl, refl) (inr (inr refl)) (ih _ _)
 
   exec-trace : (x : Step) → stepAt (e .set) (j .index) sp ≡ some x
       → RunOf (e .set) (j .index) (suc b) sp ((continueRun x (exec e j b sp x v) ((exec e j b sp x v) .next) K) .trace)
-  unfolding exec afterPrim continueRun
+  unfolding exec afterPrim continueRun fails
   exec-trace (Primitive i) here =
       acted-trace i (primAt e j (v .rest) i) ((primAt e j (v .rest) i) .disables) (act-tells e j (v .rest) wet (actionOf (recordOf (e .set .image) actions i))) here
   exec-trace (Wait ms) here = waits here
-  exec-trace (After ms n) here = continues here refl refl (ih _ _)
+  exec-trace (After ms n) here = continues here (refl, refl) refl (ih _ _)
   exec-trace (Branch c t n) here = branched-trace c t n (conditionAt e (v .rest) c) here
-  exec-trace Fail here = continues here refl refl (ih _ _)
+  exec-trace Fail here = continues here (refl, refl) refl (ih _ _)
 
   paying-trace : (o : Option Step) → stepAt (e .set) (j .index) sp ≡ o
       → RunOf (e .set) (j .index) (suc b) sp ((withStep o v (λ x. let d = exec e j b sp x v in continueRun x d (d .next) K)) .trace)

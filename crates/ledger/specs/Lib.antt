@@ -3,3 +3,4 @@ pub mod Trace
 pub mod Resumptions
 pub mod Effects
 pub mod Demand3
+pub mod OnWords

@@ -59,13 +59,13 @@ reportOf img (Log t) = plain
 reportOf img (StatCount n) = plain
 reportOf img NoAction = plain
 
--- what a step reports at a point
-abbrev pub Reports : RuleSet → Step → Point → Report → Type 0
-Reports set (Primitive i) sp s = s ≡ reportOf (set .image) (actionOf (recordOf (set .image) actions i))
-Reports set (Wait ms) sp s = ⊥
-Reports set (After ms n) sp s = s ≡ defers ms (bodyStart sp)
-Reports set (Branch c t n) sp s = s ≡ plain
-Reports set Fail sp s = s ≡ plain
+-- what a step reports at a point; only an action gives an effect. A wait is told apart below.
+abbrev pub Reports : RuleSet → Step → Point → Report → Option Effect → Type 0
+Reports set (Primitive i) sp s g = s ≡ reportOf (set .image) (actionOf (recordOf (set .image) actions i))
+Reports set (Wait ms) sp s g = ⊥
+Reports set (After ms n) sp s g = (s ≡ defers ms (bodyStart sp)) × (g ≡ none)
+Reports set (Branch c t n) sp s g = (s ≡ plain) × (g ≡ none)
+Reports set Fail sp s g = (s ≡ plain) × (g ≡ none)
 
 -- into the then-region, into the else-region, or past both
 abbrev pub Branches : ℕ → ℕ → Point → Point → Type 0
@@ -84,7 +84,7 @@ pub data RunOf (set : RuleSet) (i : ℕ) : ℕ → Point → List Item → Type 
   ended : {b : ℕ} {sp : Point} → stepAt set i sp ≡ none → RunOf set i b sp []
   spent : {sp : Point} → RunOf set i 0 sp []
   waits : {b ms : ℕ} {sp : Point} → stepAt set i sp ≡ some (Wait ms) → RunOf set i (suc b) sp (paid (Wait ms) (defers ms (advance sp 0)) none ∷ [])
-  continues : {b : ℕ} {sp to : Point} {x : Step} {s : Report} {g : Option Effect} {ms : List Item} → stepAt set i sp ≡ some x → Reports set x sp s → Leads x sp to
+  continues : {b : ℕ} {sp to : Point} {x : Step} {s : Report} {g : Option Effect} {ms : List Item} → stepAt set i sp ≡ some x → Reports set x sp s g → Leads x sp to
       → RunOf set i b to ms → RunOf set i (suc b) sp (paid x s g ∷ ms)
 
 -- the trace of a call: the entries that leave resume in order, each at its place and with its budget; then come activations

@@ -1,0 +1,1 @@
+// Demand 3 on worked examples. No code.
