@@ -1,6 +1,11 @@
--- What the proofs of several functions use.
+-- What the proofs of several functions use, and the theorems of flat steps.
 pub mod Words
 mod Definition
 mod Outcomes
 pub mod RuleLists
 pub mod Checked
+pub mod Parts
+pub mod Induction
+pub mod Shape
+pub mod Counts
+pub mod FlatPart

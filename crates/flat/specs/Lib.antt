@@ -1,3 +1,5 @@
 pub mod Words
 pub mod Outcome
 pub mod Load
+pub mod Body
+pub mod Shape

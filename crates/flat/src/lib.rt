@@ -1,5 +1,6 @@
 // Flattening: the action table of a rule image becomes flat steps of four words each, written into a lent tail of words.
 // Where the tail has no room, steps are counted and not written: so an empty tail gives the sizes alone.
+pub mod body;
 mod cycle;
 mod records;
 pub mod rules;

@@ -1,0 +1,5 @@
+-- What the contracts of `state` cite.
+pub mod Meaning
+pub mod Tables
+pub mod Pending
+pub mod Named
