@@ -2,10 +2,14 @@ pub mod Accepted
 pub mod Classes
 pub mod Far
 pub mod Fields
+pub mod Insertion
+pub mod Lists
 pub mod Match
+pub mod Names
 pub mod Numbers
 pub mod Records
 pub mod Refusals
 pub mod Rules
+pub mod Slots
 pub mod Tables
 pub mod Words

@@ -3,6 +3,7 @@ pub mod action;
 mod check;
 mod field;
 pub mod layout;
+pub mod order;
 pub mod record;
 mod rows;
 pub mod rule;
@@ -51,7 +52,7 @@ pub fn refusal(image: &[u32]) -> u32
     records_refusal(image)
 }
 
-// 17: at most 64 rules, blocks and Every slots.
+// 17: at most 64 rules, blocks and Every slots; asked of an image that passes 10 to 15.
 pub fn few_enough(image: &[u32]) -> bool
     requires { ⌜ Sized (now image) ⌝ }
     ensures { λ r. ⌜ r ≡ fewEnough (now (image .entry)) ⌝ }

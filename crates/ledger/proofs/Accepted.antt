@@ -1,26 +1,22 @@
 -- What an image of words that passes load gives.
-use mathlib.Core.Path.{_≡_, refl, sym, _∙_, ap, subst}
-use Prim.Native.Nat.{ℕ, zero, suc, _+_, _-_, _*_, _/_, _≤_, _<_, zero-le}
+use mathlib.Core.Path.{_≡_, refl, sym, _∙_, ap}
+use Prim.Native.Nat.{ℕ, zero, suc, _+_, _-_, _/_, _≤_, _<_, zero-le}
 use native.Mathlib.Omega.{arith}
-use mathlib.Core.Bool.{Bool, true, false, cond, not, _&&_, _||_, true≢false, false≢true}
-use mathlib.Core.List.{List, [], _∷_, _++_, map}
-use mathlib.Core.Option.{Option, none, some, Option·none-ne-some, Option·some-injective}
+use mathlib.Core.Bool.{Bool, true, false, not, _&&_, true≢false, false≢true}
+use mathlib.Core.List.{List}
+use mathlib.Core.Option.{some, Option·none-ne-some, Option·some-injective}
 use lib.Dec.{leb, ltb, eqb}
-use lib.ListN.{length, take, drop, getD, length-take, length-append}
-use borrow.Author.Tests.{leb-true, ltb-true, ltb-false, eqb-true, eq-eqb, ne-eqb, lt-ltb}
-use Rattle.words.specs.Saturating.{max32}
+use lib.ListN.{length, drop, length-take}
+use borrow.Author.Tests.{not-true, leb-true, ltb-true, ltb-false, eqb-true, eq-eqb}
 use Rattle.model.specs.Lists.{all, every, positionFrom, upFrom}
-use Rattle.model.specs.Field.{unless, fits, cellOf}
-use Rattle.model.specs.Rows.{rules, actions, blocks, fieldOf}
-use Rattle.model.specs.Image.{imageSized, limitsFit, placesFit, tablesPass, namesDiffer, fewEnough, limitFits, trailer, budget, sizeOf, wordAt, firstOf, widthOf, tableOf, recordPasses, wordPasses, tablePasses, callDepth, repeatLimit}
-use Rattle.model.specs.declared.Record.{Record}
-use Rattle.model.specs.declared.Step.{Step}
-use Rattle.model.specs.Rules.{nameOf, ruleNamed, ruleIndices}
-use Rattle.model.specs.Flat.{Flattened, flattenRule, flattenRules, flattenings, stepsIn, tooManySteps}
+use Rattle.model.specs.Field.{unless}
+use Rattle.model.specs.Rows.{rules, actions, blocks}
+use Rattle.model.specs.Image.{imageSized, limitsFit, placesFit, tablesPass, namesDiffer, fewEnough, limitFits, budget, sizeOf, wordAt, firstOf, widthOf, tableOf, callDepth, repeatLimit}
+use Rattle.model.specs.Rules.{nameOf, ruleNamed}
+use Rattle.model.specs.Flat.{flattenRule, flattenRules, flattenings, tooManySteps}
 use Rattle.model.specs.Load.{tablesRefusal, imageRefusalWith, imageRefusal}
-use Rattle.ledger.proofs.ListLaws.{and-l, and-r, and-i}
-use Rattle.ledger.proofs.Simulation.{by}
-use Rattle.ledger.proofs.Shapes.{listOk, numbersOk, Shape}
+use Rattle.ledger.proofs.ListLaws.{and-l, and-r, all-take, all-drop, by}
+use Rattle.ledger.proofs.Shapes.{Shape}
 use Rattle.ledger.proofs.FlatShapes.{isWord, word-at, shaped-part, shaped-all}
 
 pub record Accepted (img : List ℕ) : Type 0 where
@@ -36,10 +32,6 @@ past-check : (b : Bool) (n rest : ℕ) → unless b (suc n) rest ≡ 0 → (b �
 past-check true n rest e = (refl, e)
 past-check false n rest e = absurd (omega arith)
 
-not-not : (b : Bool) → not b ≡ true → b ≡ false
-not-not true h = sym h
-not-not false h = refl
-
 pub accepts : (img : List ℕ) → all isWord img ≡ true → imageRefusal img ≡ 0 → Accepted img
 unfolding imageRefusal imageRefusalWith tablesRefusal
 accepts img w e =
@@ -51,7 +43,7 @@ accepts img w e =
     let (g, e15) = past-check (namesDiffer img) 14 _ e14 in
     let (h, e16) = past-check (not (tooManySteps (flattenRules img))) 15 _ e15 in
     let (i, e17) = past-check (fewEnough img) 16 0 e16 in
-    record { words = w; sized = a; limits = b; fields = d; names = g; steps = not-not _ h; few = i }
+    record { words = w; sized = a; limits = b; fields = d; names = g; steps = not-true _ h; few = i }
 
 -- a test that holds at every number below n
 pub every-at : (n : ℕ) (f : ℕ → Bool) (i : ℕ) → every n f ≡ true → i < n → f i ≡ true
@@ -65,16 +57,6 @@ every-at (suc n) f i h lt =
 pub length-from : (s n : ℕ) → length (upFrom s n) ≡ n
 length-from s zero = refl
 length-from s (suc n) = ap suc (length-from (suc s) n)
-
-pub all-take : {A : Type 0} (p : A → Bool) (n : ℕ) (xs : List A) → all p xs ≡ true → all p (take n xs) ≡ true
-all-take p zero xs h = refl
-all-take p (suc n) [] h = refl
-all-take p (suc n) (x ∷ xs) h = and-i (p x) _ (and-l _ _ h) (all-take p n xs (and-r (p x) _ h))
-
-pub all-drop : {A : Type 0} (p : A → Bool) (n : ℕ) (xs : List A) → all p xs ≡ true → all p (drop n xs) ≡ true
-all-drop p zero xs h = h
-all-drop p (suc n) [] h = refl
-all-drop p (suc n) (x ∷ xs) h = all-drop p n xs (and-r (p x) _ h)
 
 -- THE RULE OF A NAME ----------------------------------------------------------------------------------------------------------------
 found-at : (f : ℕ → ℕ) (s n i : ℕ) → s ≤ i → i < s + n → ((k : ℕ) → k < i → f k ≡ f i → ⊥) → positionFrom (λ k. eqb (f k) (f i)) s (upFrom s n) ≡ some i

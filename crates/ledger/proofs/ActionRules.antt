@@ -1,21 +1,21 @@
 -- No action breaks the store rules of what is no continuation.
-use mathlib.Core.Path.{_≡_, refl, sym, _∙_, ap}
-use Prim.Native.Nat.{ℕ, zero, suc, _+_, _%_, _^_, _≤_, _<_, zero-le}
+use mathlib.Core.Path.{_≡_, refl, _∙_, ap}
+use Prim.Native.Nat.{ℕ, zero, suc, _%_, _^_, _≤_, _<_}
 use native.Mathlib.Nat.{mod-lt}
 use native.Mathlib.Omega.{arith}
-use mathlib.Core.Bool.{Bool, true, false, cond, not, _&&_, true≢false, false≢true}
-use mathlib.Core.List.{List, [], _∷_, _++_, map}
+use mathlib.Core.Bool.{Bool, true, false, cond, not, _&&_, true≢false}
+use mathlib.Core.List.{List, [], _∷_, map}
 use mathlib.Core.Option.{Option, none, some}
 use lib.Dec.{leb, ltb, eqb}
 use lib.IntN.{ℤ, pos, negsuc}
-use lib.ListN.{length, getD, set, length-append, length-set}
-use borrow.Author.Tests.{leb-true, leb-false, ltb-true, le-leb, lt-ltb, eqb-true, eqb-false, not-true}
+use lib.ListN.{length, set, length-append, length-set}
+use borrow.Author.Tests.{leb-true, leb-false, ltb-true, le-leb, lt-ltb, eqb-false}
 use Rattle.words.specs.Saturating.{saturatingAdd, max32, max64}
 use Rattle.words.specs.Pairs.{joined}
-use Rattle.words.specs.Signed.{signed64, bits64, saturatingAddI64}
+use Rattle.words.specs.Signed.{signed64}
 use Rattle.words.proofs.Laws.{add-at-most}
-use Rattle.model.specs.Lists.{all, find, keep, orElse, present}
-use Rattle.model.specs.Image.{wordAt, groupLimit, textLimit}
+use Rattle.model.specs.Lists.{all, find, orElse, present}
+use Rattle.model.specs.Image.{groupLimit, textLimit}
 use Rattle.model.specs.World.{isOne}
 use Rattle.model.specs.declared.Action.{Action}
 use Rattle.model.specs.declared.Action.the-variants.{Light, Recall, Apply, Cycle, HclResume, HclHold, HclEnable, HclDisable, FeedbackOn, FeedbackOff, PanelSelect, CancelHold, CatchMovement, TimerStart, TimerRestart, TimerCancel, VarSet, VarAdd, RuleEnable, RuleDisable, MqttPublish, Log, StatCount, NoAction}
@@ -25,18 +25,16 @@ use Rattle.model.specs.declared.EverySlot.{EverySlot}
 use Rattle.model.specs.declared.Variable.{Variable}
 use Rattle.model.specs.declared.VarValue.{VarValue}
 use Rattle.model.specs.declared.VarValue.the-variants.{Int, Text}
-use Rattle.model.specs.State.{Env, Rest, withTimers, withVars, withCyclePos, bumpBy, cyclePosAt, timerNamed, cancelTimer, addTimer, valueIn, varNamed, putVar}
+use Rattle.model.specs.State.{Env, Rest, withCyclePos, cyclePosAt, timerNamed, cancelTimer, valueIn, varNamed, putVar}
 use Rattle.model.specs.Eval.{valueAt}
 use Rattle.model.specs.Actions.{Job, PrimResult, noEffect, fails, runPrim, primLight, primRecall, primApply, primCycle, cycleEffect, selects, armTimer, varSet, primVarSet, varAdd, setRuleBit}
-use Rattle.model.specs.Codec.{Row, word, wide, goodMaybe}
-use Rattle.model.specs.Parts.{timerRow, slotRow}
-use Rattle.model.specs.Store.{distinct, sameSlots}
-use Rattle.ledger.proofs.ListLaws.{map-append, all-append, all-keep, length-keep, and-l, and-r, and-i}
-use Rattle.ledger.proofs.Simulation.{by}
-use Rattle.ledger.proofs.Distinct.{all-map, distinct-behind, distinct-kept}
-use Rattle.ledger.proofs.FlatShapes.{isWord, word-at}
-use Rattle.ledger.proofs.Values.{IfSome, Wide, WideZ, bits-wide, sum-wide, joined-wide, ValueOk, WorldOk, value-at-wide}
-use Rattle.ledger.proofs.RestRules.{OptionsOk, valueOk, variableOk, VariablesOk, TimersOk, SlotsOk, RestOk, set-ok, none-found, keep-all, bump-ok, timers-ok, vars-ok, cancel-ok, new-timer, put-names, put-behind, put-fit}
+use Rattle.model.specs.Codec.{word}
+use Rattle.model.specs.Store.{distinct}
+use Rattle.ledger.proofs.ListLaws.{map-append, and-l, and-r, by, IfSome}
+use Rattle.ledger.proofs.Distinct.{all-map, distinct-behind}
+use Rattle.ledger.proofs.FlatShapes.{isWord}
+use Rattle.ledger.proofs.Values.{WideZ, bits-wide, sum-wide, joined-wide, ValueOk, WorldOk, value-at-wide}
+use Rattle.ledger.proofs.RestRules.{valueOk, variableOk, VariablesOk, RestOk, set-ok, none-found, keep-all, bump-ok, timers-ok, vars-ok, cancel-ok, new-timer, put-names, put-behind, put-fit}
 
 -- the words of an action that a store keeps, and the scenes of a Cycle
 abbrev pub ActionOk : Action → Type 0

@@ -1,15 +1,15 @@
 -- Every call keeps the store rules.
-use mathlib.Core.Path.{_≡_, refl, sym, _∙_, ap, subst}
-use Prim.Native.Nat.{ℕ, zero, suc, _+_, _-_, _^_, _≤_, _<_, zero-le}
+use mathlib.Core.Path.{_≡_, refl, sym, _∙_, subst}
+use Prim.Native.Nat.{ℕ, zero, suc, _^_, _<_, zero-le}
 use native.Mathlib.Omega.{arith}
-use mathlib.Core.Bool.{Bool, true, false, cond, not, _&&_, false≢true}
-use mathlib.Core.List.{List, [], _∷_, _++_, map}
+use mathlib.Core.Bool.{Bool, true, false, not, _&&_, false≢true}
+use mathlib.Core.List.{List, [], _∷_, map}
 use mathlib.Core.Option.{Option, none, some}
 use lib.Dec.{leb, ltb, eqb}
-use lib.ListN.{length, getD, set, length-map, length-set}
+use lib.ListN.{length, set, length-map, length-set}
 use borrow.Author.Tests.{leb-true, ltb-true, eq-eqb}
 use Rattle.words.specs.Saturating.{max64}
-use Rattle.model.specs.Lists.{all, keep, present, upFrom}
+use Rattle.model.specs.Lists.{all, present, upFrom}
 use Rattle.model.specs.Field.{unless}
 use Rattle.model.specs.Image.{sizeOf}
 use Rattle.model.specs.Rows.{rules}
@@ -17,27 +17,25 @@ use Rattle.model.specs.Rules.{nameOf, enabledOf, ruleIndices, ruleNamed}
 use Rattle.model.specs.Snapshot.{snapshotRefusal}
 use Rattle.model.specs.World.{nowOf, worldOf}
 use Rattle.model.specs.declared.Pending.{Pending}
-use Rattle.model.specs.State.{Env, Rest, Volatile, RuleSet, Store, withRest, withEnabled, isEnabled, strike, bump, bumpBy}
-use Rattle.model.specs.Flat.{Flattened, flattenRules, setOf}
+use Rattle.model.specs.State.{Env, Volatile, RuleSet, Store, withRest, withEnabled, isEnabled, strike}
+use Rattle.model.specs.Flat.{flattenRules, setOf}
 use Rattle.model.specs.Load.{imageRefusal, imageRefusalWith}
 use Rattle.model.specs.Codec.{Row, word, wide, goodMaybe}
-use Rattle.model.specs.Slots.{rebuildEvery}
-use Rattle.model.specs.Activate.{Handled, noOutcome, activate, Manual, Dry}
-use Rattle.model.specs.Wheel.{dueNow, serviceTick}
-use Rattle.model.specs.Calls.{Call, new, load, unload, enable, tick, run, deadline, counters, Done, fresh, answered, refuse, keptAt, kept, restWith, restWithout, storeWith, loading, callLoad, callUnload, withVol, flipped, enabling, ruleIn, callEnable, effectsOf, outcomeRoom, effectRoom, overflow, committing, committed, tickWith, runRule, runWith, given, call}
+use Rattle.model.specs.Activate.{Handled, noOutcome, Manual, Dry}
+use Rattle.model.specs.Wheel.{serviceTick}
+use Rattle.model.specs.Calls.{Call, new, load, unload, enable, tick, run, deadline, counters, Done, fresh, keptAt, kept, restWith, restWithout, loading, callLoad, callUnload, flipped, enabling, ruleIn, callEnable, effectsOf, outcomeRoom, effectRoom, overflow, committing, committed, tickWith, runRule, runWith, given, call}
 use Rattle.model.specs.Store.{distinct, pendingFits, inRule, passesLoad, ruleCount, slotsOf, FlatFormOf, Keeps}
 use Rattle.ledger.specs.Demand3.{inWords}
-use Rattle.ledger.proofs.ListLaws.{all-keep, and-l, and-r, and-i}
-use Rattle.ledger.proofs.Simulation.{by}
+use Rattle.ledger.proofs.ListLaws.{all-keep, and-l, and-r, and-i, all-getD, by, IfSome}
 use Rattle.ledger.proofs.Distinct.{distinct-by}
 use Rattle.ledger.proofs.Sound.{Sound}
 use Rattle.ledger.proofs.StoreRules.{call-sound}
 use Rattle.ledger.proofs.Shapes.{flatOk, flatsOk}
 use Rattle.ledger.proofs.FlatShapes.{isWord}
 use Rattle.ledger.proofs.Accepted.{accepts, named-self, length-from}
-use Rattle.ledger.proofs.Values.{IfSome, WorldOk, world-ok}
+use Rattle.ledger.proofs.Values.{WorldOk, world-ok}
 use Rattle.ledger.proofs.RestRules.{OptionsOk, RestOk, bump-ok}
-use Rattle.ledger.proofs.SetRules.{SetOk, set-ok, all-getD}
+use Rattle.ledger.proofs.SetRules.{SetOk, set-ok}
 use Rattle.ledger.proofs.RunRules.{VolatileOk}
 use Rattle.ledger.proofs.ActivationRules.{activate-keeps}
 use Rattle.ledger.proofs.WheelRules.{tick-keeps}

@@ -1,6 +1,6 @@
 -- Lists whose members have distinct numbers.
 use mathlib.Core.Path.{_≡_, refl, sym, _∙_, ap, ap₂}
-use Prim.Native.Nat.{ℕ, zero, suc, _+_}
+use Prim.Native.Nat.{ℕ, _+_}
 use native.Mathlib.Omega.{arith}
 use mathlib.Core.Bool.{Bool, true, false, cond, _&&_, not}
 use mathlib.Core.List.{List, [], _∷_, _++_, map}
@@ -8,8 +8,7 @@ use lib.Dec.{ltb, eqb}
 use borrow.Author.Tests.{ltb-true, eqb-true, eqb-false, eq-eqb, ne-eqb}
 use Rattle.model.specs.Lists.{keep, all}
 use Rattle.model.specs.Store.{distinct}
-use Rattle.ledger.proofs.ListLaws.{all-append, all-keep, and-l, and-r, and-i}
-use Rattle.ledger.proofs.Simulation.{by}
+use Rattle.ledger.proofs.ListLaws.{all-append, all-keep, and-l, and-r, and-i, by}
 
 abbrev pub distinctBy : {A : Type 0} → (A → ℕ) → List A → Bool
 distinctBy f [] = true

@@ -1,43 +1,44 @@
 -- The bound on effects, for every call and every list of calls.
-use mathlib.Core.Path.{_≡_, refl, sym, _∙_, ap, ap₂, subst}
-use Prim.Native.Nat.{ℕ, zero, suc, _+_, _-_, _*_, _/_, _%_, _≤_}
+use mathlib.Core.Path.{_≡_, refl, sym, _∙_, ap, ap₂}
+use Prim.Native.Nat.{ℕ, zero, suc, _+_, _-_, _*_, _/_, _≤_}
 use native.Mathlib.Omega.{arith}
-use mathlib.Core.Bool.{Bool, true, false, cond, _&&_, _||_, not, true≢false}
-use mathlib.Core.List.{List, [], _∷_, _++_, map, tail, cons≢nil, head-eq-of-cons-eq, tail-eq-of-cons-eq}
+use mathlib.Core.Bool.{Bool, true, false, _&&_, true≢false}
+use mathlib.Core.List.{List, [], _∷_, map, tail, cons≢nil, head-eq-of-cons-eq, tail-eq-of-cons-eq}
 use mathlib.Core.Option.{Option, none, some}
 use lib.Dec.{leb, ltb, eqb}
 use lib.ListN.{set}
 use borrow.Author.Tests.{ltb-true, eqb-true, lt-ltb, le-ltb}
 use Rattle.model.specs.Lists.{keep, all, orElse}
 use Rattle.model.specs.Image as image
-use Rattle.model.specs.Rules.{nameOf, triggersOf, ruleIndices, ruleNamed}
+use Rattle.model.specs.Rules.{nameOf, ruleIndices, ruleNamed}
 use Rattle.model.specs.Snapshot.{snapshotRefusal}
 use Rattle.model.specs.Load.{imageRefusalWith}
-use Rattle.model.specs.World.{WallTime, nowOf, worldOf}
+use Rattle.model.specs.World.{nowOf, worldOf}
 use Rattle.model.specs.declared.Step.{Step}
 use Rattle.model.specs.declared.Point.{Point}
-use Rattle.model.specs.Outcome.{Item, started, resumed, paid}
+use Rattle.model.specs.Outcome.{started, resumed, paid}
 use Rattle.model.specs.declared.Pending.{Pending}
-use Rattle.model.specs.State.{Env, Rest, Volatile, RuleSet, Store, withRest, withLastActivation, isEnabled, bump, activationsTotal, continuationsFired}
+use Rattle.model.specs.State.{Rest, Env, Volatile, RuleSet, Store, withRest, withLastActivation, isEnabled, bump, activationsTotal, continuationsFired}
 use Rattle.model.specs.Flat.{Flattened, flattenRule, flattenRules, setOf, stepAt}
 use Rattle.model.specs.Steps.{start}
 use Rattle.model.specs.Actions.{Job}
 use Rattle.model.specs.Exec.{StepResult, exec, RunOutput, continueRun, withStep, runSteps}
-use Rattle.model.specs.Activate.{Mode, Auto, Manual, isDry, Handled, noOutcome, andThen, jobOf, Decision, begins, suppressed, tooDeep, unevaluable, decide, finished, executeWet, execute, decided, activate, resume}
-use Rattle.model.specs.Wheel.{dueNow, notDue, resumeAll, fireContinuations, Plan, activateIfEnabled, activateEach, byTimer, byEvery, timersDue, everyDue, startWall, wallTurn, dueWallKind, fireDueWallRules, weekMinutes, weekMinute, fireWindow, hasWallTriggers, windowOf, catchUp, fireWallAt, fireWallSchedules, fireTimers, fireEvery, serviceTick}
+use Rattle.model.specs.Activate.{Mode, Auto, Manual, isDry, Handled, noOutcome, andThen, jobOf, Decision, begins, suppressed, tooDeep, unevaluable, decide, executeWet, execute, decided, activate, resume}
+use Rattle.model.specs.Wheel.{dueNow, notDue, resumeAll, fireContinuations, serviceTick}
 use Rattle.model.specs.Rules.{nameOrder}
 use Rattle.model.specs.Calls.{Call, new, load, unload, enable, tick, run, deadline, counters, Done, refuse, fresh, loading, callLoad, callUnload, enabling, ruleIn, callEnable, overflow, committing, committed, tickWith, runRule, runWith, given, call}
-use Rattle.ledger.specs.Ledger.{Event, cleared, disabled, ticked, ran, traced, Activation, Posting, Ledger, leavesBefore, leaving, staying, struck, resumedPayer, postItem, postItems, post, postAll, eventsOf, entryOf, isRefused, budgetOf, startLedger, notices, postCall, finalLedger}
+use Rattle.ledger.specs.Ledger.{cleared, disabled, ticked, ran, Activation, Posting, Ledger, leavesBefore, leaving, staying, resumedPayer, postItem, postItems, post, postAll, eventsOf, entryOf, isRefused, budgetOf, startLedger, notices, postCall, finalLedger}
 use Rattle.ledger.specs.Effects.{sameActivation, onlyIf, effectsFrom}
 use Rattle.ledger.proofs.Sound.{Sound}
-use Rattle.ledger.proofs.ListLaws.{and-l, and-r, and-i}
-use Rattle.ledger.proofs.Simulation.{by, Aged, agedPending, agedPosting, Sim, post-append, post-traced}
+use Rattle.ledger.proofs.ListLaws.{and-l, and-r, and-i, by}
+use Rattle.ledger.proofs.Simulation.{Aged, agedPending, agedPosting, Sim, post-append, post-traced}
 use Rattle.ledger.proofs.TickSimulation.{dues}
 use Rattle.ledger.proofs.History.{Agree, follows, starts}
 use Rattle.ledger.proofs.Potential.{most, most-bound, potential, from, potentialOf, sum-split, sum-sort}
 use Rattle.ledger.proofs.RunBound.{amortized, struck-sum, runs-bound}
 use Rattle.ledger.proofs.Shapes.{listOk, flatOk, flatsOk}
 use Rattle.ledger.proofs.Accepted.{rule-shape}
+use Rattle.ledger.proofs.Wheel.{WheelLaws, wheel, every-any}
 
 -- a run changes neither the set's budget, nor what is still to resume, nor the number of activations
 pub record Unchanged (l l′ : Ledger) : Type 0 where
@@ -45,25 +46,25 @@ pub record Unchanged (l l′ : Ledger) : Type 0 where
   pub due : l′ .due ≡ l .due
   pub count : l′ .count ≡ l .count
 
-goes-on-unchanged : (y : Step) (d : StepResult) (x : Option Point) (K : Point → Volatile → RunOutput) (l : Ledger) → ((sp : Point) (v : Volatile) (m : Ledger) → Unchanged m (postItems ((K sp v) .trace) m))
+continue-unchanged : (y : Step) (d : StepResult) (x : Option Point) (K : Point → Volatile → RunOutput) (l : Ledger) → ((sp : Point) (v : Volatile) (m : Ledger) → Unchanged m (postItems ((K sp v) .trace) m))
     → Unchanged l (postItems ((continueRun y d x K) .trace) l)
 unfolding continueRun postItem
-goes-on-unchanged y d none K l ih = record { budget = refl; due = refl; count = refl }
-goes-on-unchanged y d (some sp) K l ih =
+continue-unchanged y d none K l ih = record { budget = refl; due = refl; count = refl }
+continue-unchanged y d (some sp) K l ih =
     let i = ih sp (d .vol) (postItem (paid y (d .report) (d .effect)) l) in
     record { budget = i .budget; due = i .due; count = i .count }
 
-pays-unchanged : (b : ℕ) (e : Env) (w : Job) (sp : Point) (v : Volatile) (l : Ledger)
+with-step-unchanged : (b : ℕ) (e : Env) (w : Job) (sp : Point) (v : Volatile) (l : Ledger)
     → ((sp′ : Point) (v′ : Volatile) (m : Ledger) → Unchanged m (postItems ((runSteps b e w sp′ v′) .trace) m)) → (x : Option Step)
     → Unchanged l (postItems ((withStep x v (λ s. let d = exec e w b sp s v in continueRun s d (d .next) (λ sp′ v′. runSteps b e w sp′ v′))) .trace) l)
 unfolding withStep
-pays-unchanged b e w sp v l ih none = record { budget = refl; due = refl; count = refl }
-pays-unchanged b e w sp v l ih (some x) = goes-on-unchanged x (exec e w b sp x v) ((exec e w b sp x v) .next) (λ sp′ v′. runSteps b e w sp′ v′) l ih
+with-step-unchanged b e w sp v l ih none = record { budget = refl; due = refl; count = refl }
+with-step-unchanged b e w sp v l ih (some x) = continue-unchanged x (exec e w b sp x v) ((exec e w b sp x v) .next) (λ sp′ v′. runSteps b e w sp′ v′) l ih
 
 runs-unchanged : (b : ℕ) (e : Env) (w : Job) (sp : Point) (v : Volatile) (l : Ledger) → Unchanged l (postItems ((runSteps b e w sp v) .trace) l)
 unfolding runSteps
 runs-unchanged zero e w sp v l = record { budget = refl; due = refl; count = refl }
-runs-unchanged (suc b) e w sp v l = pays-unchanged b e w sp v l (λ sp′ v′ m. runs-unchanged b e w sp′ v′ m) (stepAt (e .set) (w .index) sp)
+runs-unchanged (suc b) e w sp v l = with-step-unchanged b e w sp v l (λ sp′ v′ m. runs-unchanged b e w sp′ v′ m) (stepAt (e .set) (w .index) sp)
 
 module _ (ρ : Activation) where
   -- ACTIVATIONS ----------------------------------------------------------------------------------------------------------------------
@@ -99,11 +100,11 @@ module _ (ρ : Activation) where
     pub within : Within (postItems (x .trace) l)
     pub budget : (postItems (x .trace) l) .budget ≡ l .budget
 
-  idles : (v : Volatile) (l : Ledger) → Within l → BoundKept l (noOutcome v)
-  idles v l h = record { within = h; budget = refl }
+  no-outcome : (v : Volatile) (l : Ledger) → Within l → BoundKept l (noOutcome v)
+  no-outcome v l h = record { within = h; budget = refl }
 
-  joins : (l : Ledger) (x : Handled) (K : Volatile → Handled) → BoundKept l x → BoundKept (postItems (x .trace) l) (K (x .vol)) → BoundKept l (andThen x K)
-  joins l x K p q =
+  and-then : (l : Ledger) (x : Handled) (K : Volatile → Handled) → BoundKept l x → BoundKept (postItems (x .trace) l) (K (x .vol)) → BoundKept l (andThen x K)
+  and-then l x K p q =
       let y = K (x .vol) in
       record { within = rw (post-append (x .trace) (y .trace) l) (q .within); budget = rw (post-append (x .trace) (y .trace) l) (q .budget ∙ p .budget) }
 
@@ -122,7 +123,7 @@ module _ (ρ : Activation) where
 
     decides : (w : Job) (d : Decision) (v : Volatile) (l : Ledger) → w .dry ≡ false → l .budget ≡ image.budget (e .set .image) → Within l → BoundKept l (decided d e w v)
     decides w (begins s) v l wet eb h = executes w (w .dry) (withRest s v) l wet eb h
-    decides w (suppressed s) v l wet eb h = idles (withRest s v) l h
+    decides w (suppressed s) v l wet eb h = no-outcome (withRest s v) l h
     decides w (tooDeep s) v l wet eb h = record { within = h; budget = refl }
     decides w (unevaluable s) v l wet eb h = record { within = h; budget = refl }
 
@@ -130,52 +131,31 @@ module _ (ρ : Activation) where
     unfolding activate jobOf
     activates i kind m v l wet eb h = decides (jobOf e (nameOf (e .set .image) i) i kind (isDry m)) (decide e i 0 m (v .rest)) v l wet eb h
 
-    tries : (kind i : ℕ) (v : Volatile) (l : Ledger) → l .budget ≡ image.budget (e .set .image) → Within l → BoundKept l (activateIfEnabled e kind i v)
-    unfolding activateIfEnabled
-    tries kind i v l eb h = by (isEnabled (v .rest) i) (λ t. rw t (activates i kind Auto v l refl eb h)) (λ f. rw f (idles v l h))
+    -- in a call with this set, within the bound
+    pub record InBound (l : Ledger) (v : Volatile) : Type 0 where
+      pub budget : l .budget ≡ image.budget (e .set .image)
+      pub within : Within l
 
-    all-try : (kind : ℕ) (is : List ℕ) (v : Volatile) (l : Ledger) → l .budget ≡ image.budget (e .set .image) → Within l → BoundKept l (activateEach e kind is v)
-    unfolding activateEach
-    all-try kind [] v l eb h = idles v l h
-    all-try kind (i ∷ is) v l eb h =
-        let p = tries kind i v l eb h in
-        joins l (activateIfEnabled e kind i v) (λ v′. activateEach e kind is v′) p (all-try kind is ((activateIfEnabled e kind i v) .vol) _ (p .budget ∙ eb) (p .within))
+    any-rest : (r : Rest) (l : Ledger) (v : Volatile) → InBound l v → InBound l (withRest r v)
+    any-rest r l v p = record { budget = p .budget; within = p .within }
 
-    starts-wall : (kind : Option ℕ) (i : ℕ) (v : Volatile) (l : Ledger) → l .budget ≡ image.budget (e .set .image) → Within l → BoundKept l (startWall kind e i v)
-    starts-wall none i v l eb h = idles v l h
-    starts-wall (some kind) i v l eb h = activates i kind Auto v l refl eb h
-
-    turns : (on missed : Bool) (base window i : ℕ) (v : Volatile) (l : Ledger) (K : Bool → Volatile → Handled) → l .budget ≡ image.budget (e .set .image) → Within l
-        → ((b : Bool) (v′ : Volatile) (m : Ledger) → m .budget ≡ image.budget (e .set .image) → Within m → BoundKept m (K b v′))
-        → BoundKept l (wallTurn on missed e base window i v K)
-    turns false missed base window i v l K eb h ih = ih missed v l eb h
-    turns true missed base window i v l K eb h ih =
-        let w = dueWallKind e base window (triggersOf (e .set .image) i) in
-        let p = starts-wall (w .kind) i v l eb h in
-        joins l (startWall (w .kind) e i v) (K (missed || w .unsynced)) p
-        (ih (missed || w .unsynced) ((startWall (w .kind) e i v) .vol) _ (p .budget ∙ eb) (p .within))
-
-    walls : (base window : ℕ) (missed : Bool) (is : List ℕ) (v : Volatile) (l : Ledger) → l .budget ≡ image.budget (e .set .image) → Within l
-        → BoundKept l (fireDueWallRules e base window missed is v)
-    unfolding fireDueWallRules
-    walls base window missed [] v l eb h = idles _ l h
-    walls base window missed (i ∷ is) v l eb h =
-        turns (isEnabled (v .rest) i) missed base window i v l (λ b v′. fireDueWallRules e base window b is v′) eb h
-        (λ b v′ m gb g. walls base window b is v′ m gb g)
-
-    windows : (now window : ℕ) (v : Volatile) (l : Ledger) → l .budget ≡ image.budget (e .set .image) → Within l → BoundKept l (fireWindow e now window v)
-    unfolding fireWindow
-    windows now window v l eb h =
-        by (hasWallTriggers (e .set .image) (v .rest) && leb 1 window)
-        (λ t. rw t (walls ((now + weekMinutes - window) % weekMinutes) window false (nameOrder (e .set .image)) v l eb h)) (λ f. rw f (idles v l h))
-
-    catches : (now : ℕ) (prev : Option ℕ) (v : Volatile) (l : Ledger) → l .budget ≡ image.budget (e .set .image) → Within l → BoundKept l (catchUp e now prev v)
-    catches now none v l eb h = idles v l h
-    catches now (some prev) v l eb h = windows now (windowOf prev now) v l eb h
-
-    wall-keeps : (t : Option WallTime) (v : Volatile) (l : Ledger) → l .budget ≡ image.budget (e .set .image) → Within l → BoundKept l (fireWallAt t e v)
-    wall-keeps none v l eb h = idles _ l h
-    wall-keeps (some t) v l eb h = catches (weekMinute t) (v .rest .prevWeekMin) _ l eb h
+    pub bound-laws : WheelLaws e Ledger (λ i. Unit {0}) (λ l. l .budget ≡ image.budget (e .set .image)) InBound BoundKept
+    bound-laws =
+        record {
+          next = λ l x. postItems (x .trace) l;
+          nothing = λ l v p. no-outcome v l (p .within);
+          within = λ l v p. p .budget;
+          behind = λ l x p a. record { budget = a .budget ∙ p; within = a .within };
+          both = λ l x K a b. and-then l x K a b;
+          order = every-any (nameOrder (e .set .image));
+          slot = λ r i q. tt;
+          starts = λ l i kind v our le p. activates i kind Auto v l refl (p .budget) (p .within);
+          timers = λ l v p. any-rest _ l v p;
+          slots = λ l v p. any-rest _ l v p;
+          unsynced = λ l v p. any-rest _ l v p;
+          week = λ l v w q p. any-rest _ l v p;
+          no-week = λ l v p. any-rest _ l v p;
+        }
 
     -- RESUMPTIONS: what is still to resume counts as if it stood ---------------------------------------------------------------------------
     pub record Resumed (l l′ : Ledger) (hs : List Posting) : Type 0 where
@@ -214,19 +194,16 @@ module _ (ρ : Activation) where
 
   ticks : (o : Option RuleSet) (j k : ℕ) (e : Env) (v : Volatile) (l : Ledger) → Sim o j k v (l .standing) → flatOk (e .set) ≡ true
       → l .budget ≡ image.budget (e .set .image) → Within l → BoundKept (post (ticked (e .world .now)) l) (serviceTick e v)
-  unfolding serviceTick fireContinuations fireTimers fireEvery fireWallSchedules post
+  unfolding serviceTick fireContinuations post
   ticks o j k e v l sim ok eb h =
       let t = e .world .now in
       let m = post (ticked t) l in
+      let q = leaves-bound t (l .standing .postings) in
+      let w = h .within in
       let x = resumes e ok j k (dueNow t (v .pending)) (leaving t (l .standing .postings)) (notDue t v) m (dues o j k t v (l .standing) sim) refl in
       let p : BoundKept m (fireContinuations e v) =
-      record {
-        within = record { within = let s = x .spent in let q = leaves-bound t (l .standing .postings) in let w = h .within in let c = ap cap (x .count) in omega arith };
-        budget = x .budget;
-      } in
-      let q = joins m (fireContinuations e v) (fireTimers e) p (all-try e ok byTimer _ _ _ (p .budget ∙ eb) (p .within)) in
-      let r = joins m _ (fireEvery e) q (all-try e ok byEvery _ _ _ (q .budget ∙ eb) (q .within)) in
-      joins m _ (fireWallSchedules e) r (wall-keeps e ok (e .world .wall) _ _ (r .budget ∙ eb) (r .within))
+      record { within = record { within = let s = x .spent in let c = ap cap (x .count) in omega arith }; budget = x .budget } in
+      wheel e Ledger (λ i. Unit {0}) (λ (u : Ledger). u .budget ≡ image.budget (e .set .image)) (InBound e ok) BoundKept (bound-laws e ok) m (fireContinuations e v) eb p
 
   -- ONE CALL, AND ALL ----------------------------------------------------------------------------------------------------------------------
   pub record Stays (c : Call) (l : Ledger) (d : Done) : Type 0 where
@@ -240,14 +217,14 @@ module _ (ρ : Activation) where
   unfolding eventsOf
   refuses c n s l ok h = record { ok = ok; within = h }
 
-  settles : (c : Call) (n now : ℕ) (cs : List Pending) (x : Handled) (s : Store) (l : Ledger) → flatsOk (s .loaded) ≡ true → Within l
+  commits : (c : Call) (n now : ℕ) (cs : List Pending) (x : Handled) (s : Store) (l : Ledger) → flatsOk (s .loaded) ≡ true → Within l
       → Stays c l (committing 0 now cs x s) → Stays c l (committing n now cs x s)
-  settles c zero now cs x s l ok h d = d
-  settles c (suc n) now cs x s l ok h d = refuses c (suc n) s l ok h
+  commits c zero now cs x s l ok h d = d
+  commits c (suc n) now cs x s l ok h d = refuses c (suc n) s l ok h
 
-  emits : (c : Call) (n : ℕ) (s : Store) (l : Ledger) (K : Store → Done) → flatsOk (s .loaded) ≡ true → Within l → Stays c l (K s) → Stays c l (given n s K)
-  emits c zero s l K ok h d = d
-  emits c (suc n) s l K ok h d = refuses c (suc n) s l ok h
+  snapshot-given : (c : Call) (n : ℕ) (s : Store) (l : Ledger) (K : Store → Done) → flatsOk (s .loaded) ≡ true → Within l → Stays c l (K s) → Stays c l (given n s K)
+  snapshot-given c zero s l K ok h d = d
+  snapshot-given c (suc n) s l K ok h d = refuses c (suc n) s l ok h
 
   -- a set that load accepts has passed flattening
   all-rules : (img : List ℕ) (is : List ℕ) → all listOk (map (λ (f : Flattened). f .steps) (map (flattenRule img) is)) ≡ true
@@ -271,42 +248,42 @@ module _ (ρ : Activation) where
   unfolding tickWith committed eventsOf post worldOf
   tick-bound snap os es none s l e a ok h =
       let q = leaves-bound (nowOf snap) (l .standing .postings) in
-      settles (tick snap os es) (overflow os es (noOutcome (s .vol))) (nowOf snap) [] (noOutcome (s .vol)) s l ok h
+      commits (tick snap os es) (overflow os es (noOutcome (s .vol))) (nowOf snap) [] (noOutcome (s .vol)) s l ok h
       (record { ok = ok; within = less l (post (ticked (nowOf snap)) l) (omega arith) refl h })
   tick-bound snap os es (some set) s l e a ok h =
       let env : Env = record { world = worldOf snap; set = set } in
       let x = ticks (s .loaded) (a .j) (a .k) env (s .vol) l (a .sim) (sym (ap flatsOk e) ∙ ok) (a .budget ∙ ap budgetOf e) h in
-      settles (tick snap os es) (overflow os es (serviceTick env (s .vol))) (nowOf snap) (dueNow (nowOf snap) (s .vol .pending)) (serviceTick env (s .vol)) s l ok h
+      commits (tick snap os es) (overflow os es (serviceTick env (s .vol))) (nowOf snap) (dueNow (nowOf snap) (s .vol .pending)) (serviceTick env (s .vol)) s l ok h
       (record { ok = ok; within = rw (post-traced ((serviceTick env (s .vol)) .trace) (post (ticked (nowOf snap)) l)) (x .within) })
 
   runs-wet : (e : Env) → flatOk (e .set) ≡ true → (x : Option ℕ) (v : Volatile) (l : Ledger) → l .budget ≡ image.budget (e .set .image) → Within l
       → BoundKept l (runRule e x false v)
-  runs-wet e ok none v l eb h = idles v l h
+  runs-wet e ok none v l eb h = no-outcome v l h
   runs-wet e ok (some i) v l eb h =
-      by (isEnabled (v .rest) i) (λ t. rw t (activates e ok i 0 Manual v l refl eb h)) (λ f. rw f (idles _ l h))
+      by (isEnabled (v .rest) i) (λ t. rw t (activates e ok i 0 Manual v l refl eb h)) (λ f. rw f (no-outcome _ l h))
 
   run-bound : (r : ℕ) (snap : List ℕ) (os es : ℕ) (o : Option RuleSet) (s : Store) (l : Ledger) → s .loaded ≡ o → Agree s l → flatsOk (s .loaded) ≡ true → Within l
       → Stays (run r false snap os es) l (runWith o r false snap os es s)
   unfolding runWith committed eventsOf post
   run-bound r snap os es none s l e a ok h =
-      settles (run r false snap os es) (overflow os es (noOutcome (s .vol))) (nowOf snap) [] (noOutcome (s .vol)) s l ok h
+      commits (run r false snap os es) (overflow os es (noOutcome (s .vol))) (nowOf snap) [] (noOutcome (s .vol)) s l ok h
       (record { ok = ok; within = less l (post (ran (nowOf snap)) l) (omega arith) refl h })
   run-bound r snap os es (some set) s l e a ok h =
       let env : Env = record { world = worldOf snap; set = set } in
       let y = runRule env (ruleNamed (set .image) r) false (s .vol) in
       let x = runs-wet env (sym (ap flatsOk e) ∙ ok) (ruleNamed (set .image) r) (s .vol) (post (ran (nowOf snap)) l) (a .budget ∙ ap budgetOf e)
       (less l (post (ran (nowOf snap)) l) (omega arith) refl h) in
-      settles (run r false snap os es) (overflow os es y) (nowOf snap) [] y s l ok h
+      commits (run r false snap os es) (overflow os es y) (nowOf snap) [] y s l ok h
       (record { ok = ok; within = rw (post-traced (y .trace) (post (ran (nowOf snap)) l)) (x .within) })
 
   dry-bound : (r : ℕ) (snap : List ℕ) (os es : ℕ) (o : Option RuleSet) (s : Store) (l : Ledger) → flatsOk (s .loaded) ≡ true → Within l
       → Stays (run r true snap os es) l (runWith o r true snap os es s)
   unfolding runWith committed eventsOf
   dry-bound r snap os es none s l ok h =
-      settles (run r true snap os es) (overflow os es (noOutcome (s .vol))) (nowOf snap) [] (noOutcome (s .vol)) s l ok h (record { ok = ok; within = h })
+      commits (run r true snap os es) (overflow os es (noOutcome (s .vol))) (nowOf snap) [] (noOutcome (s .vol)) s l ok h (record { ok = ok; within = h })
   dry-bound r snap os es (some set) s l ok h =
       let y = runRule (record { world = worldOf snap; set = set }) (ruleNamed (set .image) r) true (s .vol) in
-      settles (run r true snap os es) (overflow os es y) (nowOf snap) [] y s l ok h (record { ok = ok; within = h })
+      commits (run r true snap os es) (overflow os es y) (nowOf snap) [] y s l ok h (record { ok = ok; within = h })
 
   call-bound : (c : Call) (s : Store) (l : Ledger) → Agree s l → flatsOk (s .loaded) ≡ true → Within l → Stays c l (call c s)
   unfolding call callLoad callUnload callEnable eventsOf post fresh
@@ -314,9 +291,9 @@ module _ (ρ : Activation) where
   call-bound (load t img) s l a ok h = loads (imageRefusalWith img (flattenRules img)) t img s l ok h
   call-bound (unload t) s l a ok h = record { ok = refl; within = less l (post (cleared 0) l) (omega arith) refl h }
   call-bound (enable r b) s l a ok h = enables (ruleIn (s .loaded) r) r b s l ok h
-  call-bound (tick snap os es) s l a ok h = emits (tick snap os es) (snapshotRefusal snap) s l _ ok h (tick-bound snap os es (s .loaded) s l refl a ok h)
-  call-bound (run r true snap os es) s l a ok h = emits (run r true snap os es) (snapshotRefusal snap) s l _ ok h (dry-bound r snap os es (s .loaded) s l ok h)
-  call-bound (run r false snap os es) s l a ok h = emits (run r false snap os es) (snapshotRefusal snap) s l _ ok h (run-bound r snap os es (s .loaded) s l refl a ok h)
+  call-bound (tick snap os es) s l a ok h = snapshot-given (tick snap os es) (snapshotRefusal snap) s l _ ok h (tick-bound snap os es (s .loaded) s l refl a ok h)
+  call-bound (run r true snap os es) s l a ok h = snapshot-given (run r true snap os es) (snapshotRefusal snap) s l _ ok h (dry-bound r snap os es (s .loaded) s l ok h)
+  call-bound (run r false snap os es) s l a ok h = snapshot-given (run r false snap os es) (snapshotRefusal snap) s l _ ok h (run-bound r snap os es (s .loaded) s l refl a ok h)
   call-bound deadline s l a ok h = record { ok = ok; within = h }
   call-bound counters s l a ok h = record { ok = ok; within = h }
 

@@ -1,9 +1,9 @@
 -- What `Keeps` says of a store, part by part, and back.
-use mathlib.Core.Path.{_≡_, refl, sym, _∙_, ap, ap₂, subst}
-use Prim.Native.Nat.{ℕ, zero, suc, _+_, _-_, _^_, _≤_, _<_, zero-le}
+use mathlib.Core.Path.{_≡_, refl, sym, _∙_, subst}
+use Prim.Native.Nat.{ℕ, _^_, _≤_, _<_, zero-le}
 use native.Mathlib.Omega.{arith}
-use mathlib.Core.Bool.{Bool, true, false, cond, not, _&&_, true≢false, false≢true}
-use mathlib.Core.List.{List, [], _∷_, _++_, map}
+use mathlib.Core.Bool.{Bool, true, false, _&&_, false≢true}
+use mathlib.Core.List.{List, [], _∷_, map}
 use mathlib.Core.Option.{Option, none, some}
 use lib.Dec.{leb, ltb, eqb}
 use lib.ListN.{length, length-map}
@@ -11,8 +11,6 @@ use borrow.Author.Tests.{leb-true, ltb-true, eqb-true, le-leb, lt-ltb, eq-eqb}
 use Rattle.model.specs.Lists.{all, flatten}
 use Rattle.model.specs.Image.{sizeOf, imageSized}
 use Rattle.model.specs.Rows.{rules, actions}
-use Rattle.model.specs.Rules.{ruleIndices}
-use Rattle.model.specs.declared.Step.{Step}
 use Rattle.model.specs.declared.Pending.{Pending}
 use Rattle.model.specs.declared.NamedTimer.{NamedTimer}
 use Rattle.model.specs.declared.EverySlot.{EverySlot}
@@ -20,18 +18,14 @@ use Rattle.model.specs.declared.Variable.{Variable}
 use Rattle.model.specs.declared.VarValue.{VarValue}
 use Rattle.model.specs.declared.VarValue.the-variants.{Int, Text}
 use Rattle.model.specs.State.{RuleSet, Rest, Volatile, Store}
-use Rattle.model.specs.Load.{imageRefusal}
-use Rattle.model.specs.Flat.{Flattened, flattenRule, flattenRules, stepsIn, setOf}
 use Rattle.model.specs.Codec.{Row, word, wide, maybe, goodMaybe, allGood}
-use Rattle.model.specs.Parts.{any, bit, listRow, stepRow, variableRow, timerRow, slotRow, jumpRow, pendingRow, Loaded, Changing, Parts, loadedPart, changingPart, layout}
+use Rattle.model.specs.Parts.{any, bit, listRow, stepRow, variableRow, timerRow, slotRow, jumpRow, pendingRow, Changing, loadedPart, changingPart, layout}
 use Rattle.model.specs.Store.{distinct, pendingFits, sameSlots, passesLoad, ruleCount, slotsOf, oneForEach, rulesHold, filled, bitOf, stepRowOf, listRows, loadedOf, variableRowOf, changingOf, partsOf, FlatFormOf, textFits, Keeps}
-use Rattle.ledger.proofs.ListLaws.{all-append, and-l, and-r, and-i}
-use Rattle.ledger.proofs.Distinct.{all-map}
+use Rattle.ledger.proofs.ListLaws.{and-l, and-r, and-i, IfSome}
 use Rattle.ledger.proofs.FlatShapes.{isWord}
-use Rattle.ledger.proofs.Accepted.{Accepted, accepts, few-rules}
-use Rattle.ledger.proofs.Values.{IfSome}
-use Rattle.ledger.proofs.RestRules.{OptionsOk, valueOk, variableOk, VariablesOk, TimersOk, SlotsOk, CountersOk, RestOk}
-use Rattle.ledger.proofs.SetRules.{SetOk, set-ok, few-steps}
+use Rattle.ledger.proofs.Accepted.{accepts, few-rules}
+use Rattle.ledger.proofs.RestRules.{variableOk, RestOk}
+use Rattle.ledger.proofs.SetRules.{SetOk, set-ok}
 use Rattle.ledger.proofs.RunRules.{pendingOk}
 use Rattle.ledger.proofs.Room.{all-good, filled-good, filled-front, flat-words, rows-words, rows-length, few-records, pending-words}
 

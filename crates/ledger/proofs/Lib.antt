@@ -1,6 +1,7 @@
 pub mod RunTrace
 pub mod ListLaws
 pub mod SortLaws
+pub mod Wheel
 pub mod Known
 pub mod Simulation
 pub mod TickSimulation

@@ -1,10 +1,10 @@
 -- The Every slots of a set: how many there are, that their numbers have room, and that they are the same whatever was there before.
-use mathlib.Core.Path.{_≡_, refl, sym, _∙_, ap, ap₂}
-use Prim.Native.Nat.{ℕ, zero, suc, _+_, _^_, _≤_, _<_, zero-le}
+use mathlib.Core.Path.{_≡_, refl, _∙_, ap, ap₂}
+use Prim.Native.Nat.{ℕ, zero, suc, _+_, _^_, _≤_, _<_}
 use native.Mathlib.Omega.{arith}
-use mathlib.Core.Bool.{Bool, true, false, cond, not, _&&_, false≢true}
+use mathlib.Core.Bool.{Bool, true, false, cond, _&&_, false≢true}
 use mathlib.Core.List.{List, [], _∷_, _++_, map}
-use mathlib.Core.Option.{Option, none, some}
+use mathlib.Core.Option.{some}
 use lib.Dec.{leb, ltb, eqb}
 use lib.ListN.{length, getD, length-append, length-map}
 use borrow.Author.Tests.{leb-true, ltb-true, le-leb, lt-ltb, eq-eqb, ne-eqb}
@@ -14,7 +14,6 @@ use Rattle.model.specs.Lists.{all, find, flatten, insert, sort, total, upFrom}
 use Rattle.model.specs.Image as image
 use Rattle.model.specs.Image.{sizeOf, wordAt, fewEnough, isEvery}
 use Rattle.model.specs.Rows.{rules, triggers}
-use Rattle.model.specs.declared.Record.{Record}
 use Rattle.model.specs.declared.Trigger.{Trigger}
 use Rattle.model.specs.declared.Trigger.the-variants.{TimerFires, Every, AtTime, AtSolar, Other}
 use Rattle.model.specs.Rules.{recordOf, triggerOf, nameOf, triggersOf, nameOrder, ruleIndices}
@@ -23,7 +22,6 @@ use Rattle.model.specs.Slots.{sameSlot, dueOr, slotsFrom, rebuildEvery}
 use Rattle.model.specs.Parts.{slotRow}
 use Rattle.model.specs.Store.{sameSlots}
 use Rattle.ledger.proofs.ListLaws.{all-append, and-l, and-r, and-i}
-use Rattle.ledger.proofs.Simulation.{by}
 use Rattle.ledger.proofs.FlatShapes.{isWord}
 use Rattle.ledger.proofs.Accepted.{Accepted, word-of, length-from}
 use Rattle.ledger.proofs.RestRules.{SlotsOk}

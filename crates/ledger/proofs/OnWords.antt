@@ -1,19 +1,19 @@
 -- The calls on words are the calls on stores, by the laws of reading and writing.
 use mathlib.Core.Path.{_≡_, refl, sym, _∙_, ap, ap₂, subst}
-use Prim.Native.Nat.{ℕ, zero, suc, _^_, _<_}
+use Prim.Native.Nat.{ℕ, zero, suc, _^_}
 use native.Mathlib.Omega.{arith}
-use mathlib.Core.Bool.{Bool, true, false, cond, not, _&&_, true≢false, false≢true}
+use mathlib.Core.Bool.{Bool, true, false, cond, not, false≢true}
 use mathlib.Core.List.{List, [], _∷_, _++_, map}
 use mathlib.Core.Option.{Option, none, some, Option·none-ne-some}
 use lib.Dec.{eqb}
 use lib.ListN.{length}
 use borrow.Author.Tests.{eqb-true, eq-eqb, ltb-true}
-use Rattle.model.specs.Lists.{all, _>>=_}
+use Rattle.model.specs.Lists.{all}
 use Rattle.model.specs.Layout.{sizes}
-use Rattle.model.specs.Codec.{accepted, decode}
-use Rattle.model.specs.Parts.{Parts, layout}
+use Rattle.model.specs.Codec.{decode}
+use Rattle.model.specs.Parts.{layout}
 use Rattle.model.specs.State.{RuleSet, Store}
-use Rattle.model.specs.Store.{partsFit, storeIn, read, write, Keeps}
+use Rattle.model.specs.Store.{read, write, Keeps}
 use Rattle.model.specs.Snapshot.{snapshotRefusal}
 use Rattle.model.specs.Load.{imageRefusalWith}
 use Rattle.model.specs.Flat.{Flattened, flattenRules}
@@ -21,13 +21,12 @@ use Rattle.model.specs.declared.Pending.{Pending}
 use Rattle.model.specs.Activate.{Handled}
 use Rattle.model.specs.Calls.{Call, new, load, unload, enable, tick, run, deadline, counters, Answer, done, refused, enabled, handled, due, counted, Done, fresh, loading, callLoad, callUnload, enabling, ruleIn, callEnable, overflow, committing, committed, tickWith, runWith, given, call, answers}
 use Rattle.model.specs.OnWords.{Result, result, storeRefusal, storeAfter, onStore, newOn, callOn}
-use Rattle.model.proofs.StoreLaws.{read-write, Reads, write-read}
+use Rattle.model.proofs.StoreLaws.{read-write, write-read}
 use Rattle.model.proofs.PartsLaws.{size}
-use Rattle.ledger.specs.Ledger.{Posting, entryOf, finalStore}
-use Rattle.ledger.specs.Demand3.{inWords, standingIn, ledgerAtEnd, Demand3}
+use Rattle.ledger.specs.Ledger.{entryOf, finalStore}
+use Rattle.ledger.specs.Demand3.{inWords}
 use Rattle.ledger.specs.OnWords.{answersOn, wordsAfter, pendingIn, Demand3OnWords, isNew, Unreadable, OnWords}
-use Rattle.ledger.proofs.ListLaws.{and-l, and-r}
-use Rattle.ledger.proofs.Simulation.{by}
+use Rattle.ledger.proofs.ListLaws.{and-l, and-r, by}
 use Rattle.ledger.proofs.CallRules.{call-keeps, fresh-keeps}
 use Rattle.ledger.proofs.Demand3.{demand3}
 

@@ -1,14 +1,14 @@
 -- What an entry can still give: its potential. A body's entry gives at most an effect for each step of its budget; an entry of the
 -- rule's own list may spend each step on an after, whose body then has the budget that is left.
-use mathlib.Core.Path.{_≡_, refl, sym, _∙_, ap, ap₂}
-use Prim.Native.Nat.{ℕ, zero, suc, _+_, _-_, _*_, _/_, max, _≤_, _<_, zero-le}
+use mathlib.Core.Path.{_≡_, refl, ap}
+use Prim.Native.Nat.{ℕ, zero, suc, _+_, _-_, _*_, _/_, max, _≤_}
 use native.Mathlib.Omega.{arith}
 use mathlib.Core.Bool.{Bool, true, false, cond, not}
 use mathlib.Core.List.{List, [], _∷_, _++_}
 use mathlib.Core.Option.{Option, none, some}
 use Rattle.model.specs.Lists.{keep, insert, sort}
 use Rattle.ledger.specs.Ledger.{Activation, Posting}
-use Rattle.ledger.specs.Effects.{sameActivation, onlyIf, effectsFrom}
+use Rattle.ledger.specs.Effects.{sameActivation, onlyIf}
 
 -- the most that a run of the rule's own list with this budget gives, all in all
 abbrev pub most : ℕ → ℕ
@@ -51,13 +51,13 @@ abbrev pub potentialOf : Activation → List Posting → ℕ
 potentialOf ρ [] = 0
 potentialOf ρ (h ∷ hs) = onlyIf (from ρ (h .origin)) (potential (h .entry .point .list) (h .entry .budget)) + potentialOf ρ hs
 
-pub share-le : (m : Bool) {a b : ℕ} → a ≤ b → onlyIf m a ≤ onlyIf m b
-share-le true h = h
-share-le false h = omega arith
+pub only-if-le : (m : Bool) {a b : ℕ} → a ≤ b → onlyIf m a ≤ onlyIf m b
+only-if-le true h = h
+only-if-le false h = omega arith
 
-pub share-add : (m : Bool) (a b : ℕ) → onlyIf m (a + b) ≡ onlyIf m a + onlyIf m b
-share-add true a b = refl
-share-add false a b = omega arith
+pub only-if-add : (m : Bool) (a b : ℕ) → onlyIf m (a + b) ≡ onlyIf m a + onlyIf m b
+only-if-add true a b = refl
+only-if-add false a b = omega arith
 
 pub sum-append : (ρ : Activation) (xs ys : List Posting) → potentialOf ρ (xs ++ ys) ≡ potentialOf ρ xs + potentialOf ρ ys
 sum-append ρ [] ys = omega arith

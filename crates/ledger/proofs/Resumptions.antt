@@ -1,30 +1,28 @@
 -- An accepted continuation resumes once, with its stored budget, where the events behind it say so, or never.
-use mathlib.Core.Path.{_≡_, refl, sym, _∙_, ap, ap₂, subst}
-use Prim.Native.Nat.{ℕ, zero, suc, _+_, _-_, _^_, min, _≤_, _<_, zero-le}
+use mathlib.Core.Path.{_≡_, refl, sym, _∙_, ap}
+use Prim.Native.Nat.{ℕ, suc, _≤_, _<_}
 use native.Mathlib.Omega.{arith}
-use mathlib.Core.Bool.{Bool, true, false, cond, _&&_, not, true≢false}
-use mathlib.Core.List.{List, [], _∷_, _++_, map, tail, append-nil, append-assoc, cons≢nil, head-eq-of-cons-eq, tail-eq-of-cons-eq}
-use mathlib.Core.Option.{Option, none, some}
+use mathlib.Core.Bool.{Bool, true, false, not, true≢false}
+use mathlib.Core.List.{List, [], _∷_, _++_, map, append-nil, append-assoc}
+use mathlib.Core.Option.{Option, none}
 use lib.Dec.{leb, ltb, eqb}
 use lib.ListN.{length}
-use borrow.Author.Tests.{not-true, ltb-true, eqb-true, eqb-false, eq-eqb, ne-eqb, lt-ltb}
-use Rattle.model.specs.Lists.{keep, all, flatten, insert, sort}
-use Rattle.words.specs.Saturating.{saturatingAdd, max64}
+use borrow.Author.Tests.{not-true, ltb-true, eq-eqb, ne-eqb, lt-ltb}
+use Rattle.model.specs.Lists.{keep, all, flatten}
 use Rattle.model.specs.World.{nowOf}
 use Rattle.model.specs.declared.Step.{Step}
 use Rattle.model.specs.declared.Point.{Point}
 use Rattle.model.specs.declared.Effect.{Effect}
-use Rattle.model.specs.Outcome.{Report, plain, disables, defers, Item, started, resumed, paid}
+use Rattle.model.specs.Outcome.{plain, disables, defers, Item, started, resumed, paid}
 use Rattle.model.specs.declared.Pending.{Pending}
 use Rattle.model.specs.State.{Store}
 use Rattle.model.specs.Calls.{Call, new, load, unload, enable, tick, run, deadline, counters}
 use Rattle.ledger.proofs.Sound.{Sound}
-use Rattle.ledger.specs.Ledger.{Event, cleared, disabled, ticked, ran, traced, Entry, Activation, Posting, Standing, Payer, Ledger, leavesBefore, leaving, staying, struck, accept, postReport, pay, postItem, post, postAll, entryOf, startLedger, Notice, eventsOf, leavingAt, leavingAtEach, notices, postCall, finalLedger}
-use Rattle.ledger.specs.Resumptions.{allEvents, Change, leaves, struckOut, stays, changeAt, Resumption, tickNumber, resumptionsBy, ticksIn, expected, leavingOn, allLeaving, ofAge, resumptionsOf, continuation}
-use Rattle.ledger.proofs.ListLaws.{all-append, all-keep, and-l, and-r, and-i}
+use Rattle.ledger.specs.Ledger.{Event, cleared, disabled, ticked, ran, traced, Posting, Standing, Ledger, leavesBefore, leaving, staying, struck, accept, postReport, postItem, post, postAll, entryOf, startLedger, Notice, eventsOf, leavingAt, leavingAtEach, notices, postCall}
+use Rattle.ledger.specs.Resumptions.{allEvents, changeAt, tickNumber, ticksIn, expected, leavingOn, allLeaving, ofAge, resumptionsOf, continuation}
+use Rattle.ledger.proofs.ListLaws.{all-append, all-keep, and-l, and-r, and-i, by}
 use Rattle.ledger.proofs.Distinct.{distinctBy}
 use Rattle.ledger.proofs.SortLaws.{keep-comm, keep-append, keep-sort-none, keep-sort-one}
-use Rattle.ledger.proofs.Simulation.{by, post-append}
 
 -- THE ENTRY OF ONE AGE ------------------------------------------------------------------------------------------------------------
 module _ (n : ℕ) where

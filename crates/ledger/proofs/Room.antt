@@ -1,36 +1,33 @@
 -- What `Keeps` says, part by part, and back: the numbers of a store that keeps these parts have room in its words.
-use mathlib.Core.Path.{_≡_, refl, sym, _∙_, ap, ap₂, subst}
-use Prim.Native.Nat.{ℕ, zero, suc, _+_, _-_, _^_, _≤_, _<_, zero-le}
+use mathlib.Core.Path.{_≡_, refl, sym, _∙_, ap, subst}
+use Prim.Native.Nat.{ℕ, zero, suc, _+_, _-_, _^_, _≤_, _<_}
 use native.Mathlib.Omega.{arith}
-use mathlib.Core.Bool.{Bool, true, false, cond, not, _&&_, true≢false, false≢true}
+use mathlib.Core.Bool.{Bool, true, false, _&&_, false≢true}
 use mathlib.Core.List.{List, [], _∷_, _++_, map}
-use mathlib.Core.Option.{Option, none, some, Option·none-ne-some}
+use mathlib.Core.Option.{Option, none, some}
 use lib.Dec.{leb, ltb, eqb}
-use lib.ListN.{length, getD, getElem?, replicate, length-append, length-map, length-replicate}
-use borrow.Author.Tests.{leb-true, ltb-true, eqb-true, le-leb, lt-ltb, eq-eqb}
+use lib.ListN.{length, getD, getElem?, replicate, length-append, length-replicate}
+use borrow.Author.Tests.{leb-true, ltb-true, le-leb, lt-ltb, eq-eqb}
 use Rattle.words.specs.Saturating.{max32}
 use Rattle.model.specs.Lists.{all, flatten, orElse, _>>=_}
-use Rattle.model.specs.Image.{budget, sizeOf, firstOf, widthOf, trailer, imageSized}
+use Rattle.model.specs.Image.{budget, sizeOf, firstOf, widthOf, trailer}
 use Rattle.model.specs.Rows.{rules, actions}
-use Rattle.model.specs.Rules.{nameOf, ruleNamed}
 use Rattle.model.specs.declared.Step.{Step}
 use Rattle.model.specs.declared.Step.the-variants.{Primitive, Wait, Branch, After, Fail}
 use Rattle.model.specs.declared.Jump.{Jump}
 use Rattle.model.specs.declared.Jump.the-variants.{NoJump, JumpFrom}
 use Rattle.model.specs.declared.Pending.{Pending}
 use Rattle.model.specs.State.{RuleSet}
-use Rattle.model.specs.Codec as codec
-use Rattle.model.specs.Codec.{Row, word, wide, goodMaybe, allGood}
-use Rattle.model.specs.Parts.{any, bit, listRow, stepRow, jumpRow, pendingRow}
-use Rattle.model.specs.Store.{bodyOf, isAfter, jumpOver, jumpFrom, isList, pendingFits, filled, bitOf, stepRowOf, listRows}
-use Rattle.ledger.proofs.ListLaws.{map-append, all-append, and-l, and-r, and-i}
-use Rattle.ledger.proofs.Simulation.{by}
+use Rattle.model.specs.Codec.{Row, allGood}
+use Rattle.model.specs.Parts.{listRow, stepRow, jumpRow, pendingRow}
+use Rattle.model.specs.Store.{isAfter, jumpOver, jumpFrom, isList, pendingFits, filled, stepRowOf, listRows}
+use Rattle.ledger.proofs.ListLaws.{map-append, all-append, and-l, and-r, and-i, by}
 use Rattle.ledger.proofs.Shapes.{stepOk, listOk, numbersOk}
 use Rattle.ledger.proofs.FlatShapes.{isWord, word-at}
-use Rattle.ledger.proofs.Points.{PointOk, at-inside}
+use Rattle.ledger.proofs.Points.{at-inside}
 use Rattle.ledger.proofs.Accepted.{Accepted, word-of, budget-range, found-name}
 use Rattle.ledger.proofs.SetRules.{SetOk, listOf, list-ok, list-short, own-short}
-use Rattle.ledger.proofs.RunRules.{At, pendingOk, Continues, continues}
+use Rattle.ledger.proofs.RunRules.{pendingOk, Continues, continues}
 
 -- ROWS ----------------------------------------------------------------------------------------------------------------------------
 pub all-good : {A : Type 0} (r : Row A) (xs : List A) → allGood r xs ≡ all (λ x. r .good x) xs

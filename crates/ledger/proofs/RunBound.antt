@@ -1,13 +1,12 @@
 -- A wet activation, with its continuations and theirs in turn, gives at most B(B - 1)/2 + 1 effects. Here: one run.
 use mathlib.Core.Path.{_≡_, refl, sym, _∙_, ap, ap₂, subst}
-use Prim.Native.Nat.{ℕ, zero, suc, pred, _+_, _-_, _*_, _/_, _≤_, _<_, zero-le}
+use Prim.Native.Nat.{ℕ, zero, suc, pred, _+_, _≤_}
 use native.Mathlib.Omega.{arith}
-use mathlib.Core.Bool.{Bool, true, false, cond, _&&_, not, true≢false, false≢true}
-use mathlib.Core.List.{List, [], _∷_, _++_, map}
+use mathlib.Core.Bool.{Bool, true, false, false≢true}
+use mathlib.Core.List.{List, [], _∷_}
 use mathlib.Core.Option.{Option, none, some}
-use lib.Dec.{leb, ltb, eqb}
+use lib.Dec.{eqb}
 use lib.ListN.{length, getD, getElem?, take, drop}
-use Rattle.model.specs.Lists.{keep, all, sort}
 use Rattle.words.specs.Saturating.{saturatingAdd, max64}
 use Rattle.model.specs.declared.Step.{Step}
 use Rattle.model.specs.declared.Point.{Point}
@@ -16,33 +15,19 @@ use Rattle.model.specs.declared.Step.the-variants.{Primitive, Wait, Branch, Aft
 use Rattle.model.specs.declared.Jump.the-variants.{NoJump, JumpFrom}
 use Rattle.model.specs.Steps.{point, arrive}
 use Rattle.model.specs.declared.Effect.{Effect}
-use Rattle.model.specs.Outcome.{Report, plain, disables, defers, Item, started, resumed, paid}
-use Rattle.model.specs.State.{Env, Rest, Volatile, RuleSet}
+use Rattle.model.specs.Outcome.{disables, defers, paid}
+use Rattle.model.specs.State.{Env, Volatile, RuleSet}
 use Rattle.model.specs.Flat.{bodyLen, listIn, stepAt}
 use Rattle.model.specs.Eval.{conditionAt}
 use Rattle.model.specs.Actions.{Job, PrimResult, primAt}
 use Rattle.model.specs.Exec.{StepResult, afterPrim, runBranch, exec, RunOutput, continueRun, withStep, runSteps}
-use Rattle.ledger.specs.Ledger.{Entry, Activation, Posting, Standing, Payer, Ledger, struck, accept, postReport, pay, countEffect, postItem, postItems}
-use Rattle.ledger.specs.Effects.{sameActivation, onlyIf, effectsFrom}
-use Rattle.ledger.proofs.ListLaws.{and-l, and-r}
-use Rattle.ledger.proofs.Simulation.{by}
+use Rattle.ledger.specs.Ledger.{Activation, Posting, Standing, Payer, Ledger, struck, accept, postReport, pay, countEffect, postItem, postItems}
+use Rattle.ledger.specs.Effects.{onlyIf, effectsFrom}
+use Rattle.ledger.proofs.ListLaws.{all-getD, all-at, by}
 use Rattle.ledger.proofs.Shapes.{notAfter, listOk, flatOk, body-no-after}
-use Rattle.ledger.proofs.Potential.{potential, potential-step, potential-after, from, potentialOf, share-le, share-add, sum-append, sum-keep}
+use Rattle.ledger.proofs.Potential.{potential, potential-step, potential-after, from, potentialOf, only-if-le, only-if-add, sum-append, sum-keep}
 
 -- IN A BODY THERE IS NO AFTER ---------------------------------------------------------------------------------------------------
-all-getD : {A : Type 0} (p : A → Bool) (xs : List A) (i : ℕ) (d : A) → all p xs ≡ true → p d ≡ true → p (getD xs i d) ≡ true
-all-getD p [] i d h k = k
-all-getD p (x ∷ xs) zero d h k = and-l (p x) _ h
-all-getD p (x ∷ xs) (suc i) d h k = all-getD p xs i d (and-r (p x) _ h) k
-
-pub all-at : {A : Type 0} (p : A → Bool) (xs : List A) (i : ℕ) (x : A) → all p xs ≡ true → getElem? xs i ≡ some x → p x ≡ true
-all-at p [] i x h e = let z : true ≡ false = cc in absurd (true≢false z)
-all-at p (y ∷ ys) zero x h e = let q : y ≡ x = cc in rw q at (and-l (p y) _ h)
-all-at p (y ∷ ys) (suc i) x h e = all-at p ys i x (and-r (p y) _ h) e
-
-all-take : {A : Type 0} (p : A → Bool) (n i : ℕ) (xs : List A) (x : A) → all p (take n xs) ≡ true → getElem? (take n xs) i ≡ some x → p x ≡ true
-all-take p n i xs x h e = all-at p (take n xs) i x h e
-
 in-body : (set : RuleSet) (r n p : ℕ) (j : Jump) (x : Step) → flatOk set ≡ true → stepAt set r (point (suc n) p j) ≡ some x → notAfter x ≡ true
 unfolding flatOk stepAt listIn
 in-body set r n p j x ok e =
@@ -61,9 +46,9 @@ module _ (ρ : Activation) where
   amortized l = effectsFrom ρ (l .effects) + potentialOf ρ (l .standing .postings)
 
   -- how the run goes on: what it may still give
-  abbrev onward : Option Point → ℕ → ℕ
-  onward none b = 0
-  onward (some sp) b = potential (sp .list) b
+  abbrev nextPotential : Option Point → ℕ → ℕ
+  nextPotential none b = 0
+  nextPotential (some sp) b = potential (sp .list) b
 
   effect-counted : (g : Option Effect) (r : Option Activation) (gs : List Activation) → effectsFrom ρ (countEffect g r gs) ≤ onlyIf (from ρ r) 1 + effectsFrom ρ gs
   effect-counted none r gs = omega arith
@@ -84,7 +69,7 @@ module _ (ρ : Activation) where
 
   -- the potential of a step is enough for its effect, its entry and what comes behind it
   pub record Pays (n b : ℕ) (d : StepResult) (u : Payer) (now : ℕ) (s : Standing) (gs : List Activation) : Type 0 where
-    pub enough : (effectsFrom ρ (countEffect (d .effect) (u .origin) gs) + potentialOf ρ ((postReport (d .report) now u s) .postings)) + onlyIf (from ρ (u .origin)) (onward (d .next) b)
+    pub enough : (effectsFrom ρ (countEffect (d .effect) (u .origin) gs) + potentialOf ρ ((postReport (d .report) now u s) .postings)) + onlyIf (from ρ (u .origin)) (nextPotential (d .next) b)
         ≤ (effectsFrom ρ gs + potentialOf ρ (s .postings)) + onlyIf (from ρ (u .origin)) (potential n (suc b))
 
   acted-pays : (n b : ℕ) (q : Option ℕ) (a : PrimResult) (sp : Point) (v : Volatile) (u : Payer) (now : ℕ) (s : Standing) (gs : List Activation) → sp .list ≡ n
@@ -92,13 +77,13 @@ module _ (ρ : Activation) where
   unfolding afterPrim postReport
   acted-pays n b none a sp v u now s gs e =
       let g = effect-counted (a .effect) (u .origin) gs in
-      let w = share-le (from ρ (u .origin)) (potential-step n b) in
-      let x = share-add (from ρ (u .origin)) 1 (potential n b) in
+      let w = only-if-le (from ρ (u .origin)) (potential-step n b) in
+      let x = only-if-add (from ρ (u .origin)) 1 (potential n b) in
       record { enough = rw e (omega arith) }
   acted-pays n b (some q) a sp v u now s gs e =
       let g = effect-counted (a .effect) (u .origin) gs in
-      let w = share-le (from ρ (u .origin)) (potential-step n b) in
-      let x = share-add (from ρ (u .origin)) 1 (potential n b) in
+      let w = only-if-le (from ρ (u .origin)) (potential-step n b) in
+      let x = only-if-add (from ρ (u .origin)) 1 (potential n b) in
       let y = struck-sum q (s .postings) in
       record { enough = rw e (omega arith) }
 
@@ -107,8 +92,8 @@ module _ (ρ : Activation) where
       → (effectsFrom ρ gs + potentialOf ρ (s .postings)) + onlyIf (from ρ (u .origin)) (potential m b)
       ≤ (effectsFrom ρ gs + potentialOf ρ (s .postings)) + onlyIf (from ρ (u .origin)) (potential n (suc b))
   plain-pays n m b u s gs e =
-      let w = share-le (from ρ (u .origin)) (potential-step n b) in
-      let x = share-add (from ρ (u .origin)) 1 (potential n b) in
+      let w = only-if-le (from ρ (u .origin)) (potential-step n b) in
+      let x = only-if-add (from ρ (u .origin)) 1 (potential n b) in
       rw e (omega arith)
 
   branched-pays : (b : ℕ) (x : Option Bool) (t f : ℕ) (sp : Point) (v : Volatile) (u : Payer) (now : ℕ) (s : Standing) (gs : List Activation)
@@ -128,15 +113,15 @@ module _ (ρ : Activation) where
   unfolding postReport
   waits-pay n b ms sp u now s gs e el =
       let a = accept-sum (record { entry = record { rule = u .rule; point = sp; due = saturatingAdd max64 now ms; budget = u .left }; age = s .next; origin = u .origin }) s in
-      let w = share-le (from ρ (u .origin)) (potential-step n b) in
-      let x = share-add (from ρ (u .origin)) 1 (potential n b) in
-      let z = share-zero (from ρ (u .origin)) in
+      let w = only-if-le (from ρ (u .origin)) (potential-step n b) in
+      let x = only-if-add (from ρ (u .origin)) 1 (potential n b) in
+      let z = only-if-zero (from ρ (u .origin)) in
       let y = ap (onlyIf (from ρ (u .origin))) (ap₂ potential e el) in
       omega arith
     where
-      share-zero : (m : Bool) → onlyIf m 0 ≡ 0
-      share-zero true = refl
-      share-zero false = refl
+      only-if-zero : (m : Bool) → onlyIf m 0 ≡ 0
+      only-if-zero true = refl
+      only-if-zero false = refl
 
   afters-pay : (b ms k : ℕ) (sp : Point) (u : Payer) (now : ℕ) (s : Standing) (gs : List Activation) → sp .list ≡ 0 → u .left ≡ b
       → (effectsFrom ρ gs + potentialOf ρ ((postReport (defers ms (point (suc k) 0 NoJump)) now u s) .postings)) + onlyIf (from ρ (u .origin)) (potential (sp .list) b)
@@ -144,8 +129,8 @@ module _ (ρ : Activation) where
   unfolding postReport
   afters-pay b ms k sp u now s gs e el =
       let a = accept-sum (record { entry = record { rule = u .rule; point = point (suc k) 0 NoJump; due = saturatingAdd max64 now ms; budget = u .left }; age = s .next; origin = u .origin }) s in
-      let w = share-le (from ρ (u .origin)) (potential-after b) in
-      let x = share-add (from ρ (u .origin)) b (potential 0 b) in
+      let w = only-if-le (from ρ (u .origin)) (potential-after b) in
+      let x = only-if-add (from ρ (u .origin)) b (potential 0 b) in
       let y = ap (onlyIf (from ρ (u .origin))) el in
       rw e (omega arith)
 
@@ -179,29 +164,29 @@ module _ (ρ : Activation) where
       acted-pays (sp .list) b none _ _ v u now s gs (arrive-list (sp .list) (suc (sp .place) + 0) (sp .jump))
 
   -- A RUN --------------------------------------------------------------------------------------------------------------------------
-  goes-on-bound : (n b : ℕ) (y : Step) (d : StepResult) (x : Option Point) (K : Point → Volatile → RunOutput) (l : Ledger) → d .next ≡ x → l .payer .left ≡ suc b
+  continue-bound : (n b : ℕ) (y : Step) (d : StepResult) (x : Option Point) (K : Point → Volatile → RunOutput) (l : Ledger) → d .next ≡ x → l .payer .left ≡ suc b
       → Pays n b d (pay (l .payer)) (l .now) (l .standing) (l .effects)
       → ((sp : Point) (v : Volatile) (m : Ledger) → m .payer .left ≡ b
       → amortized (postItems ((K sp v) .trace) m) ≤ amortized m + onlyIf (from ρ (m .payer .origin)) (potential (sp .list) b))
       → amortized (postItems ((continueRun y d x K) .trace) l) ≤ amortized l + onlyIf (from ρ (l .payer .origin)) (potential n (suc b))
   unfolding continueRun postItem
-  goes-on-bound n b y d none K l e el p ih = let q = p .enough in omega arith
-  goes-on-bound n b y d (some sp) K l e el p ih =
-      let q : amortized (postItem (paid y (d .report) (d .effect)) l) + onlyIf (from ρ (l .payer .origin)) (onward (some sp) b)
+  continue-bound n b y d none K l e el p ih = let q = p .enough in omega arith
+  continue-bound n b y d (some sp) K l e el p ih =
+      let q : amortized (postItem (paid y (d .report) (d .effect)) l) + onlyIf (from ρ (l .payer .origin)) (nextPotential (some sp) b)
       ≤ amortized l + onlyIf (from ρ (l .payer .origin)) (potential n (suc b)) = rw e at (p .enough) in
       let i = ih sp (d .vol) (postItem (paid y (d .report) (d .effect)) l) (ap pred el) in
       omega arith
 
-  pays-bound : (b : ℕ) (e : Env) (w : Job) (sp : Point) (v : Volatile) (l : Ledger) → flatOk (e .set) ≡ true → l .payer .left ≡ suc b
+  with-step-bound : (b : ℕ) (e : Env) (w : Job) (sp : Point) (v : Volatile) (l : Ledger) → flatOk (e .set) ≡ true → l .payer .left ≡ suc b
       → ((sp′ : Point) (v′ : Volatile) (m : Ledger) → m .payer .left ≡ b
       → amortized (postItems ((runSteps b e w sp′ v′) .trace) m) ≤ amortized m + onlyIf (from ρ (m .payer .origin)) (potential (sp′ .list) b))
       → (x : Option Step) → stepAt (e .set) (w .index) sp ≡ x
       → amortized (postItems ((withStep x v (λ s. let d = exec e w b sp s v in continueRun s d (d .next) (λ sp′ v′. runSteps b e w sp′ v′))) .trace) l)
       ≤ amortized l + onlyIf (from ρ (l .payer .origin)) (potential (sp .list) (suc b))
   unfolding withStep
-  pays-bound b e w sp v l ok el ih none here = omega arith
-  pays-bound b e w sp v l ok el ih (some x) here =
-      goes-on-bound (sp .list) b x (exec e w b sp x v) ((exec e w b sp x v) .next) (λ sp′ v′. runSteps b e w sp′ v′) l refl el
+  with-step-bound b e w sp v l ok el ih none here = omega arith
+  with-step-bound b e w sp v l ok el ih (some x) here =
+      continue-bound (sp .list) b x (exec e w b sp x v) ((exec e w b sp x v) .next) (λ sp′ v′. runSteps b e w sp′ v′) l refl el
       (exec-pays e w b sp x v (pay (l .payer)) (l .now) (l .standing) (l .effects) (ap pred el) ok here) ih
 
   pub runs-bound : (b : ℕ) (e : Env) (w : Job) (sp : Point) (v : Volatile) (l : Ledger) → flatOk (e .set) ≡ true → l .payer .left ≡ b
@@ -209,4 +194,4 @@ module _ (ρ : Activation) where
   unfolding runSteps
   runs-bound zero e w sp v l ok el = omega arith
   runs-bound (suc b) e w sp v l ok el =
-      pays-bound b e w sp v l ok el (λ sp′ v′ m g. runs-bound b e w sp′ v′ m ok g) (stepAt (e .set) (w .index) sp) refl
+      with-step-bound b e w sp v l ok el (λ sp′ v′ m g. runs-bound b e w sp′ v′ m ok g) (stepAt (e .set) (w .index) sp) refl

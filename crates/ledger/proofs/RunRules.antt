@@ -2,15 +2,15 @@
 use mathlib.Core.Path.{_≡_, refl, sym, _∙_, ap, subst}
 use Prim.Native.Nat.{ℕ, zero, suc, _+_, _^_, _≤_, _<_, zero-le}
 use native.Mathlib.Omega.{arith}
-use mathlib.Core.Bool.{Bool, true, false, cond, not, _&&_, true≢false, false≢true}
-use mathlib.Core.List.{List, [], _∷_, _++_}
-use mathlib.Core.Option.{Option, none, some, Option·some-injective}
+use mathlib.Core.Bool.{Bool, true, false, not, _&&_, false≢true}
+use mathlib.Core.List.{List, []}
+use mathlib.Core.Option.{Option, none, some}
 use lib.Dec.{leb, ltb, eqb}
 use lib.ListN.{length, getD, getElem?, drop, take, length-drop}
 use borrow.Author.Tests.{leb-true, ltb-true, eqb-true, le-leb, lt-ltb, eq-eqb}
 use Rattle.words.specs.Saturating.{saturatingAdd, max64}
 use Rattle.words.proofs.Laws.{add-at-most}
-use Rattle.model.specs.Lists.{all, keep, orElse, _>>=_}
+use Rattle.model.specs.Lists.{all, orElse, _>>=_}
 use Rattle.model.specs.Image.{budget, sizeOf}
 use Rattle.model.specs.Rows.{rules, actions}
 use Rattle.model.specs.Rules.{recordOf, actionOf, ruleNamed}
@@ -25,15 +25,14 @@ use Rattle.model.specs.State.{Env, Rest, Volatile, RuleSet, withRest, bumpBy, i
 use Rattle.model.specs.Flat.{bodyLen, listIn, stepAt}
 use Rattle.model.specs.Eval.{conditionAt}
 use Rattle.model.specs.Actions.{Job, PrimResult, fails, primAt}
-use Rattle.model.specs.Exec.{advance, enterThen, bodyStart, dropped, accepted, schedule, StepResult, afterPrim, runBranch, exec, RunOutput, continueRun, withStep, runSteps}
+use Rattle.model.specs.Exec.{advance, bodyStart, dropped, accepted, schedule, StepResult, afterPrim, runBranch, exec, RunOutput, continueRun, withStep, runSteps}
 use Rattle.model.specs.Slots.{rebuildEvery}
 use Rattle.model.specs.Store.{bodyOf, isAfter, jumpFrom, outsideBodies, sameJump, pointFits, isList, inRule, pendingFits}
-use Rattle.ledger.proofs.ListLaws.{all-append, all-keep, and-l, and-r, and-i}
-use Rattle.ledger.proofs.Simulation.{by}
-use Rattle.ledger.proofs.RunBound.{arrive-list, all-at}
-use Rattle.ledger.proofs.Shapes.{isBranch, notAfter, stepOk, listOk, numbersOk, body-no-after}
+use Rattle.ledger.proofs.ListLaws.{all-append, all-keep, and-l, and-r, and-i, all-at, by, IfSome}
+use Rattle.ledger.proofs.RunBound.{arrive-list}
+use Rattle.ledger.proofs.Shapes.{isBranch, notAfter, numbersOk, body-no-after}
 use Rattle.ledger.proofs.Points.{PointOk, onto-ok, then-ok, else-ok, behind-ok, step-at, at-inside, head-no-jump, head-outside}
-use Rattle.ledger.proofs.Values.{IfSome, WorldOk}
+use Rattle.ledger.proofs.Values.{WorldOk}
 use Rattle.ledger.proofs.RestRules.{RestOk, bump-ok}
 use Rattle.ledger.proofs.ActionRules.{action-keeps}
 use Rattle.ledger.proofs.SetRules.{SetOk, action-ok, listOf, list-ok, list-numbers}

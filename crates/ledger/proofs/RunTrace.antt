@@ -1,9 +1,9 @@
 -- The trace of a run is the run of the rule's list, and its effects are the run's.
 use mathlib.Core.Path.{_≡_, refl, sym, ap}
-use mathlib.Core.Logic.{_⊎_, inl, inr}
-use Prim.Native.Nat.{ℕ, zero, suc, _+_, _≤_, zero-le, suc-le-suc}
+use mathlib.Core.Logic.{inl, inr}
+use Prim.Native.Nat.{ℕ, zero, suc, _≤_, zero-le, suc-le-suc}
 use mathlib.Core.Bool.{Bool, true, false, cond, not, _&&_}
-use mathlib.Core.List.{List, [], _∷_, _++_, append-nil}
+use mathlib.Core.List.{_++_, append-nil}
 use mathlib.Core.Option.{Option, none, some}
 use lib.Dec.{leb, ltb, eqb}
 use lib.IntN.{ℤ, pos, negsuc}
@@ -18,8 +18,7 @@ use Rattle.model.specs.World.{isOne}
 use Rattle.model.specs.declared.Step.{Step}
 use Rattle.model.specs.declared.Point.{Point}
 use Rattle.model.specs.declared.Step.the-variants.{Primitive, Wait, Branch, After, Fail}
-use Rattle.model.specs.declared.Effect.{Effect}
-use Rattle.model.specs.Outcome.{Report, plain, disables, defers, Item, paid}
+use Rattle.model.specs.Outcome.{Report, plain, disables, paid}
 use Rattle.model.specs.declared.VarValue.{VarValue}
 use Rattle.model.specs.declared.VarValue.the-variants.{Int, Text}
 use Rattle.model.specs.State.{Env, Rest, Volatile, cancelTimer, timerNamed, varNamed}
@@ -34,23 +33,23 @@ pub record RunEffects (b : ℕ) (x : RunOutput) : Type 0 where
   pub effects : x .effects ≡ effectsIn (x .trace)
   pub paid : length (x .trace) ≤ b
 
-goes-on : (b : ℕ) (y : Step) (d : StepResult) (o : Option Point) (K : Point → Volatile → RunOutput) → ((sp : Point) (v : Volatile) → RunEffects b (K sp v)) → RunEffects (suc b) (continueRun y d o K)
+continue-run : (b : ℕ) (y : Step) (d : StepResult) (o : Option Point) (K : Point → Volatile → RunOutput) → ((sp : Point) (v : Volatile) → RunEffects b (K sp v)) → RunEffects (suc b) (continueRun y d o K)
 unfolding continueRun
-goes-on b y d none K ih = record { effects = sym (append-nil (toList (d .effect))); paid = suc-le-suc zero-le }
-goes-on b y d (some sp) K ih =
+continue-run b y d none K ih = record { effects = sym (append-nil (toList (d .effect))); paid = suc-le-suc zero-le }
+continue-run b y d (some sp) K ih =
     let i = ih sp (d .vol) in
     record { effects = ap (λ xs. toList (d .effect) ++ xs) (i .effects); paid = suc-le-suc (i .paid) }
 
-pays : (b : ℕ) (e : Env) (j : Job) (sp : Point) (v : Volatile) → ((sp′ : Point) (v′ : Volatile) → RunEffects b (runSteps b e j sp′ v′)) → (o : Option Step)
+with-step : (b : ℕ) (e : Env) (j : Job) (sp : Point) (v : Volatile) → ((sp′ : Point) (v′ : Volatile) → RunEffects b (runSteps b e j sp′ v′)) → (o : Option Step)
     → RunEffects (suc b) (withStep o v (λ x. let d = exec e j b sp x v in continueRun x d (d .next) (λ sp′ v′. runSteps b e j sp′ v′)))
 unfolding withStep
-pays b e j sp v ih none = record { effects = refl; paid = zero-le }
-pays b e j sp v ih (some x) = goes-on b x (exec e j b sp x v) ((exec e j b sp x v) .next) _ ih
+with-step b e j sp v ih none = record { effects = refl; paid = zero-le }
+with-step b e j sp v ih (some x) = continue-run b x (exec e j b sp x v) ((exec e j b sp x v) .next) _ ih
 
 pub run-effects : (b : ℕ) (e : Env) (j : Job) (sp : Point) (v : Volatile) → RunEffects b (runSteps b e j sp v)
 unfolding runSteps
 run-effects zero e j sp v = record { effects = refl; paid = zero-le }
-run-effects (suc b) e j sp v = pays b e j sp v (λ sp′ v′. run-effects b e j sp′ v′) (stepAt (e .set) (j .index) sp)
+run-effects (suc b) e j sp v = with-step b e j sp v (λ sp′ v′. run-effects b e j sp′ v′) (stepAt (e .set) (j .index) sp)
 
 -- WHAT AN ACTION SAYS --------------------------------------------------------------------------------------------------------------
 abbrev disableReport : Option ℕ → Report
@@ -69,20 +68,20 @@ module _ (e : Env) (j : Job) (s : Rest) where
   unfolding NoDisable fails
   fails-no-disable s′ = refl
 
-  no-disable-silent : (s′ : Rest) → NoDisable (noEffect s′)
+  no-disable-same : (s′ : Rest) → NoDisable (noEffect s′)
   unfolding NoDisable
-  no-disable-silent s′ = refl
+  no-disable-same s′ = refl
 
   no-disable-arm : (name ms : ℕ) (s′ : Rest) → NoDisable (armTimer e j s name ms s′)
   unfolding armTimer
   no-disable-arm name ms s′ =
-      either (j .dry) _ _ (no-disable-silent _) (either (leb 16 (length (s′ .timers))) _ _ (fails-no-disable _) (no-disable-silent _))
+      either (j .dry) _ _ (no-disable-same _) (either (leb 16 (length (s′ .timers))) _ _ (fails-no-disable _) (no-disable-same _))
 
   no-disable-set : (name : ℕ) (x : VarValue) → NoDisable (varSet e j s name x)
   unfolding varSet
   no-disable-set name x =
-      either (j .dry) _ _ (no-disable-silent _)
-      (either (not (present (varNamed s name)) && leb 16 (length (s .vars))) _ _ (fails-no-disable _) (no-disable-silent _))
+      either (j .dry) _ _ (no-disable-same _)
+      (either (not (present (varNamed s name)) && leb 16 (length (s .vars))) _ _ (fails-no-disable _) (no-disable-same _))
 
   no-disable-add : (name : ℕ) (o : Option ℤ) (h : Option VarValue) → NoDisable (varAdd e j s name o h)
   no-disable-add name none h = fails-no-disable s
@@ -92,7 +91,7 @@ module _ (e : Env) (j : Job) (s : Rest) where
 
   no-disable-light : (t h a v : ℕ) → NoDisable (primLight e j s t h a v)
   unfolding NoDisable primLight
-  no-disable-light t h a v = either (eqb a 0) _ _ refl (either (eqb a 1) _ _ (no-disable-silent s) (fails-no-disable s))
+  no-disable-light t h a v = either (eqb a 0) _ _ refl (either (eqb a 1) _ _ (no-disable-same s) (fails-no-disable s))
 
   no-disable-recall : (a x m t : ℕ) → NoDisable (primRecall e j s a x m t)
   unfolding NoDisable primRecall
@@ -128,32 +127,32 @@ module _ (e : Env) (j : Job) (s : Rest) where
   disable-reports wet r none = refl
   disable-reports wet r (some i) = rw wet
 
-  act-tells : j .dry ≡ false → (a : Action) → disableReport ((runPrim e j s a) .disables) ≡ reportOf (e .set .image) a
+  action-reports : j .dry ≡ false → (a : Action) → disableReport ((runPrim e j s a) .disables) ≡ reportOf (e .set .image) a
   unfolding NoDisable runPrim
-  act-tells wet (Light t h a v) = no-disable-light t h a v
-  act-tells wet (Recall a x m t) = no-disable-recall a x m t
-  act-tells wet (Apply a x) = no-disable-apply a x
-  act-tells wet (Cycle f n) = no-disable-cycle f n
-  act-tells wet (HclResume t) = refl
-  act-tells wet (HclHold t) = refl
-  act-tells wet (HclEnable x) = refl
-  act-tells wet (HclDisable x) = refl
-  act-tells wet (FeedbackOn a i k) = refl
-  act-tells wet (FeedbackOff a i k) = refl
-  act-tells wet (PanelSelect a g v) = no-disable-selects a g (valueAt e s v)
-  act-tells wet (CancelHold a i k) = refl
-  act-tells wet (CatchMovement a i k) = refl
-  act-tells wet (TimerStart t ms) = either (present (timerNamed s t)) _ _ refl (no-disable-arm t ms s)
-  act-tells wet (TimerRestart t ms) = no-disable-arm t ms (cond (j .dry) s (cancelTimer t s))
-  act-tells wet (TimerCancel t) = refl
-  act-tells wet (VarSet n t l h) = no-disable-varset n t l h
-  act-tells wet (VarAdd n v) = no-disable-add n (valueAt e s v) (varNamed s n)
-  act-tells wet (RuleEnable r) = enable-reports r (ruleNamed (e .set .image) r)
-  act-tells wet (RuleDisable r) = disable-reports wet r (ruleNamed (e .set .image) r)
-  act-tells wet (MqttPublish t p r) = refl
-  act-tells wet (Log t) = refl
-  act-tells wet (StatCount n) = refl
-  act-tells wet NoAction = fails-no-disable s
+  action-reports wet (Light t h a v) = no-disable-light t h a v
+  action-reports wet (Recall a x m t) = no-disable-recall a x m t
+  action-reports wet (Apply a x) = no-disable-apply a x
+  action-reports wet (Cycle f n) = no-disable-cycle f n
+  action-reports wet (HclResume t) = refl
+  action-reports wet (HclHold t) = refl
+  action-reports wet (HclEnable x) = refl
+  action-reports wet (HclDisable x) = refl
+  action-reports wet (FeedbackOn a i k) = refl
+  action-reports wet (FeedbackOff a i k) = refl
+  action-reports wet (PanelSelect a g v) = no-disable-selects a g (valueAt e s v)
+  action-reports wet (CancelHold a i k) = refl
+  action-reports wet (CatchMovement a i k) = refl
+  action-reports wet (TimerStart t ms) = either (present (timerNamed s t)) _ _ refl (no-disable-arm t ms s)
+  action-reports wet (TimerRestart t ms) = no-disable-arm t ms (cond (j .dry) s (cancelTimer t s))
+  action-reports wet (TimerCancel t) = refl
+  action-reports wet (VarSet n t l h) = no-disable-varset n t l h
+  action-reports wet (VarAdd n v) = no-disable-add n (valueAt e s v) (varNamed s n)
+  action-reports wet (RuleEnable r) = enable-reports r (ruleNamed (e .set .image) r)
+  action-reports wet (RuleDisable r) = disable-reports wet r (ruleNamed (e .set .image) r)
+  action-reports wet (MqttPublish t p r) = refl
+  action-reports wet (Log t) = refl
+  action-reports wet (StatCount n) = refl
+  action-reports wet NoAction = fails-no-disable s
 
 -- A WET RUN'S TRACE IS THE RUN OF THE RULE'S LIST -----------------------------------------------------------------------------------
 module _ (e : Env) (j : Job) (wet : j .dry ≡ false) (b : ℕ) (sp : Point) (v : Volatile) (K : Point → Volatile → RunOutput)
@@ -176,20 +175,20 @@ module _ (e : Env) (j : Job) (wet : j .dry ≡ false) (b : ℕ) (sp : Point) (v 
       → RunOf (e .set) (j .index) (suc b) sp ((continueRun x (exec e j b sp x v) ((exec e j b sp x v) .next) K) .trace)
   unfolding exec afterPrim continueRun fails
   exec-trace (Primitive i) here =
-      acted-trace i (primAt e j (v .rest) i) ((primAt e j (v .rest) i) .disables) (act-tells e j (v .rest) wet (actionOf (recordOf (e .set .image) actions i))) here
+      acted-trace i (primAt e j (v .rest) i) ((primAt e j (v .rest) i) .disables) (action-reports e j (v .rest) wet (actionOf (recordOf (e .set .image) actions i))) here
   exec-trace (Wait ms) here = waits here
   exec-trace (After ms n) here = continues here (refl, refl) refl (ih _ _)
   exec-trace (Branch c t n) here = branched-trace c t n (conditionAt e (v .rest) c) here
   exec-trace Fail here = continues here (refl, refl) refl (ih _ _)
 
-  paying-trace : (o : Option Step) → stepAt (e .set) (j .index) sp ≡ o
+  with-step-trace : (o : Option Step) → stepAt (e .set) (j .index) sp ≡ o
       → RunOf (e .set) (j .index) (suc b) sp ((withStep o v (λ x. let d = exec e j b sp x v in continueRun x d (d .next) K)) .trace)
   unfolding withStep
-  paying-trace none here = ended here
-  paying-trace (some x) here = exec-trace x here
+  with-step-trace none here = ended here
+  with-step-trace (some x) here = exec-trace x here
 
 pub run-trace : (b : ℕ) (e : Env) (j : Job) → j .dry ≡ false → (sp : Point) (v : Volatile) → RunOf (e .set) (j .index) b sp ((runSteps b e j sp v) .trace)
 unfolding runSteps
 run-trace zero e j wet sp v = spent
 run-trace (suc b) e j wet sp v =
-    paying-trace e j wet b sp v (λ sp′ v′. runSteps b e j sp′ v′) (λ sp′ v′. run-trace b e j wet sp′ v′) (stepAt (e .set) (j .index) sp) refl
+    with-step-trace e j wet b sp v (λ sp′ v′. runSteps b e j sp′ v′) (λ sp′ v′. run-trace b e j wet sp′ v′) (stepAt (e .set) (j .index) sp) refl

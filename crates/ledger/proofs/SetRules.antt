@@ -1,31 +1,28 @@
 -- A loaded set: its actions, its lists and their bodies.
-use mathlib.Core.Path.{_≡_, refl, sym, _∙_, ap, subst}
-use Prim.Native.Nat.{ℕ, zero, suc, _+_, _≤_, _<_, zero-le}
+use mathlib.Core.Path.{_≡_, refl, ap, subst}
+use Prim.Native.Nat.{ℕ, zero, suc, _+_, _≤_, _<_}
 use native.Mathlib.Omega.{arith}
-use mathlib.Core.Bool.{Bool, true, false, cond, not, _&&_, _||_, true≢false, false≢true}
-use mathlib.Core.List.{List, [], _∷_, _++_, map}
-use mathlib.Core.Option.{Option, none, some}
-use lib.Dec.{leb, ltb, eqb}
+use mathlib.Core.Bool.{Bool, true, false, _||_, false≢true}
+use mathlib.Core.List.{List, [], _∷_, map}
+use lib.Dec.{leb, ltb}
 use lib.ListN.{length, take, drop, getD, getElem?, length-append, length-take, length-drop}
 use lib.Seq.{take-take}
 use borrow.Author.Tests.{leb-true, ltb-false, le-leb}
-use Rattle.model.specs.Lists.{all, every, flatten, upFrom}
+use Rattle.model.specs.Lists.{all, flatten}
 use Rattle.model.specs.Field.{fits}
 use Rattle.model.specs.Rows.{rules, actions, fieldOf}
 use Rattle.model.specs.Image.{sizeOf, wordAt, widthOf, tablesPass, tablePasses, recordPasses, wordPasses}
-use Rattle.model.specs.declared.Record.{Record}
-use Rattle.model.specs.declared.Action.{Action}
 use Rattle.model.specs.declared.Action.the-variants.{NoAction}
 use Rattle.model.specs.Rules.{recordOf, actionOf, actionsOf, ruleIndices}
 use Rattle.model.specs.declared.Step.{Step}
 use Rattle.model.specs.declared.Step.the-variants.{Primitive, Wait, Branch, After, Fail}
 use Rattle.model.specs.State.{RuleSet}
-use Rattle.model.specs.Flat.{Flattened, flattenRule, flattenRules, stepsIn, takenIn, tooManySteps, setOf, bodyLen, listIn}
-use Rattle.ledger.proofs.ListLaws.{and-l, and-r, and-i}
-use Rattle.ledger.proofs.Shapes.{notAfter, notBranch, regionsOf, bodiesInside, regionsInside, stepOk, listOk, numbersOk}
+use Rattle.model.specs.Flat.{Flattened, flattenRule, flattenRules, stepsIn, tooManySteps, setOf, bodyLen, listIn}
+use Rattle.ledger.proofs.ListLaws.{and-l, and-r, and-i, all-take, all-drop, all-getD, Every}
+use Rattle.ledger.proofs.Shapes.{notAfter, regionsOf, regionsInside, stepOk, listOk, numbersOk}
 use Rattle.ledger.proofs.FlatShapes.{isWord}
-use Rattle.ledger.proofs.Accepted.{Accepted, every-at, all-take, all-drop, word-of, few-rules, rule-shape, length-from}
-use Rattle.ledger.proofs.Values.{Every}
+use Rattle.ledger.proofs.Points.{take-short}
+use Rattle.ledger.proofs.Accepted.{Accepted, every-at, word-of, few-rules, rule-shape, length-from}
 use Rattle.ledger.proofs.ActionRules.{ActionOk}
 
 pub record SetOk (set : RuleSet) : Type 0 where
@@ -69,14 +66,6 @@ module _ (img : List ℕ) (ok : Accepted img) (i : ℕ) (lt : i < sizeOf img act
           (tt, (tt, (tt, (tt, (tt, (tt, (tt, (tt, (tt, (w 1, (w 1, (tt, ((w 1, (w 3, w 4)), (w 1, (tt, (tt, (tt, (tt, (tt, tt))))))))))))))))))) tt
 
 -- LISTS -----------------------------------------------------------------------------------------------------------------------------
-pub all-getD : {A : Type 0} (p : A → Bool) (xs : List A) (i : ℕ) (d : A) → all p xs ≡ true → p d ≡ true → p (getD xs i d) ≡ true
-all-getD p [] i d h k = k
-all-getD p (x ∷ xs) zero d h k = and-l (p x) _ h
-all-getD p (x ∷ xs) (suc i) d h k = all-getD p xs i d (and-r (p x) _ h) k
-
-take-short : (n : ℕ) (ys : List Step) → length (take n ys) ≤ n
-take-short n ys = simp length-take (omega arith)
-
 -- a part that holds no after, and the regions that begin in it
 ok-take : (n : ℕ) (ys : List Step) → listOk ys ≡ true → all notAfter (take n ys) ≡ true → regionsInside (take n ys) ≡ true → listOk (take n ys) ≡ true
 ok-take zero ys h a r = refl

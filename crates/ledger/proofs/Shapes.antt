@@ -1,6 +1,6 @@
 -- The shape of a flat list: bodies and regions end in the list, a region holds no branch, a body holds no after and no part of a region
 -- that begins in it, and the numbers in steps are words of the image or records of its table.
-use mathlib.Core.Path.{_≡_, refl, sym, _∙_, ap}
+use mathlib.Core.Path.{_≡_, refl}
 use Prim.Native.Nat.{ℕ, zero, suc, _+_, _≤_}
 use native.Mathlib.Omega.{arith}
 use mathlib.Core.Bool.{Bool, true, false, not, _&&_}

@@ -1,43 +1,36 @@
 -- The ledger follows the store. What each tick resumes is what leaves the ledger, and what is pending at the end is
 -- what stands there. The proof opens no primitive action, no condition and no trigger: it knows an action by its answer alone.
 use mathlib.Core.Path.{_≡_, refl, sym, _∙_, ap, ap₂}
-use Prim.Native.Nat.{ℕ, zero, suc, pred, _+_, _-_, _%_, _≤_, _<_, zero-le}
+use Prim.Native.Nat.{ℕ, zero, suc, pred, _+_, _≤_, _<_}
 use native.Mathlib.Omega.{arith}
-use mathlib.Core.Bool.{Bool, true, false, cond, _&&_, _||_, not, true≢false, false≢true}
+use mathlib.Core.Bool.{Bool, true, false, not, true≢false}
 use mathlib.Core.List.{List, [], _∷_, _++_, map, tail, cons≢nil, head-eq-of-cons-eq, tail-eq-of-cons-eq}
 use mathlib.Core.Option.{Option, none, some}
-use lib.Dec.{leb, ltb, eqb}
+use lib.Dec.{leb, eqb}
 use lib.ListN.{length, length-append, length-map}
-use borrow.Author.Tests.{leb-true, leb-false, ltb-true, ltb-false, eq-eqb, ne-eqb, lt-ltb, le-ltb}
-use Rattle.model.specs.Lists.{keep, all, sort, present, orElse, toList, flatten}
+use borrow.Author.Tests.{leb-true, leb-false, eq-eqb, ne-eqb}
+use Rattle.model.specs.Lists.{keep, all, present, orElse}
 use Rattle.model.specs.Image.{budget}
-use Rattle.model.specs.Rules.{nameOf, triggersOf, ruleNamed, ruleIndices}
+use Rattle.model.specs.Rules.{nameOf, ruleNamed, ruleIndices}
 use Rattle.model.specs.declared.Step.{Step}
 use Rattle.model.specs.declared.Point.{Point}
 use Rattle.model.specs.declared.Step.the-variants.{Primitive, Wait, Branch, After, Fail}
 use Rattle.model.specs.Outcome.{Item, started, resumed, paid, defers}
-use Rattle.model.specs.World.{WallTime}
 use Rattle.model.specs.declared.Pending.{Pending}
-use Rattle.model.specs.declared.NamedTimer.{NamedTimer}
-use Rattle.model.specs.declared.EverySlot.{EverySlot}
-use Rattle.model.specs.State.{Env, Rest, Volatile, RuleSet, withRest, isEnabled, isFull, strike, bump, continuationsFired}
+use Rattle.model.specs.State.{Env, Rest, Volatile, RuleSet, withRest, isFull, strike, bump, continuationsFired}
 use Rattle.model.specs.Flat.{stepAt}
 use Rattle.model.specs.Eval.{conditionAt}
 use Rattle.model.specs.Actions.{Job, PrimResult, primAt}
-use Rattle.model.specs.Exec.{Scheduled, dropped, accepted, schedule, StepResult, afterPrim, runBranch, exec, RunOutput, ended, continueRun, withStep, runSteps}
-use Rattle.model.specs.Activate.{Mode, Auto, Manual, Dry, isDry, Handled, noOutcome, andThen, jobOf, Decision, begins, suppressed, tooDeep, unevaluable, decide, finishWet, finished, executeWet, executeDry, execute, decided, activate, resume}
+use Rattle.model.specs.Exec.{dropped, accepted, schedule, StepResult, afterPrim, runBranch, exec, RunOutput, continueRun, withStep, runSteps}
+use Rattle.model.specs.Activate.{Mode, Auto, isDry, Handled, noOutcome, andThen, jobOf, Decision, begins, suppressed, tooDeep, unevaluable, decide, finishWet, executeWet, execute, decided, activate, resume}
 use Rattle.model.specs.Steps.{start}
-use Rattle.model.specs.Wheel.{byTimer, byEvery, dueBefore, dueNow, notDue, resumeAll, fireContinuations, Plan, activateIfEnabled, activateEach, planned, rulesOnTimer, timersDue, everyDue, dueTimers, startWall, wallTurn, dueWallKind, fireDueWallRules, weekMinutes, weekMinute, fireWindow, hasWallTriggers, windowOf, catchUp, fireWallAt, fireWallSchedules, fireTimers, fireEvery, serviceTick}
+use Rattle.model.specs.Wheel.{resumeAll}
 use Rattle.model.specs.Rules.{nameOrder}
 use Rattle.model.specs.Calls.{ruleIn}
-use Rattle.ledger.specs.Ledger.{Event, ticked, traced, Entry, Posting, Standing, Payer, Ledger, leavesBefore, leaving, staying, struck, accept, postReport, pay, resumedPayer, postItem, postItems, post, postAll, entryOf}
-use Rattle.ledger.proofs.ListLaws.{map-append, map-map, map-keep, map-sort, length-keep, all-append, all-keep, all-sort, and-l, and-r, and-i}
-use Rattle.ledger.proofs.Known.{indices-known, named-known, all-flatten}
-
--- go on by cases of a test
-pub by : {A : Type 0} (b : Bool) → (b ≡ true → A) → (b ≡ false → A) → A
-by true f g = f refl
-by false f g = g refl
+use Rattle.ledger.specs.Ledger.{traced, Entry, Posting, Standing, Payer, Ledger, struck, accept, postReport, pay, resumedPayer, postItem, postItems, post, postAll, entryOf}
+use Rattle.ledger.proofs.ListLaws.{map-append, map-keep, length-keep, all-append, all-keep, and-l, and-r, and-i, by, Every, every-sort, every-all}
+use Rattle.ledger.proofs.Known.{indices-known, named-known}
+use Rattle.ledger.proofs.Wheel.{WheelLaws}
 
 -- is there such a rule
 abbrev pub knownTo : Option RuleSet → ℕ → Bool
@@ -162,24 +155,24 @@ module _ (o : Option RuleSet) (j k : ℕ) where
     pub rule : l .payer .rule ≡ r
     pub left : l .payer .left ≡ b
 
-  goes-on : (e : Env) (r b : ℕ) (y : Step) (d : StepResult) (n : Option Point) (K : Point → Volatile → RunOutput) (l : Ledger)
+  continue-run : (e : Env) (r b : ℕ) (y : Step) (d : StepResult) (n : Option Point) (K : Point → Volatile → RunOutput) (l : Ledger)
       → Set e r b (d .vol) (postItem (paid y (d .report) (d .effect)) l)
       → ((sp : Point) (v : Volatile) (m : Ledger) → Set e r b v m → Ends m (K sp v))
       → Ends l (continueRun y d n K)
   unfolding continueRun postItem
-  goes-on e r b y d none K l h ih = record { sim = h .sim; kept = record { now = refl; budget = refl; due = refl } }
-  goes-on e r b y d (some sp) K l h ih =
+  continue-run e r b y d none K l h ih = record { sim = h .sim; kept = record { now = refl; budget = refl; due = refl } }
+  continue-run e r b y d (some sp) K l h ih =
       let x = ih sp (d .vol) (postItem (paid y (d .report) (d .effect)) l) h in
       record { sim = x .sim; kept = record { now = x .kept .now; budget = x .kept .budget; due = x .kept .due } }
 
   -- the first step of a run, and the rest by `ih`
-  pays : (b : ℕ) (e : Env) (w : Job) (sp : Point) (v : Volatile) (l : Ledger) → knownTo o (w .rule) ≡ true → Set e (w .rule) (suc b) v l
+  with-step : (b : ℕ) (e : Env) (w : Job) (sp : Point) (v : Volatile) (l : Ledger) → knownTo o (w .rule) ≡ true → Set e (w .rule) (suc b) v l
       → ((sp′ : Point) (v′ : Volatile) (m : Ledger) → Set e (w .rule) b v′ m → Ends m (runSteps b e w sp′ v′)) → (x : Option Step)
       → Ends l (withStep x v (λ s. let d = exec e w b sp s v in continueRun s d (d .next) (λ sp′ v′. runSteps b e w sp′ v′)))
   unfolding withStep postItem
-  pays b e w sp v l kr h ih none = record { sim = h .sim; kept = kept-refl }
-  pays b e w sp v l kr h ih (some x) =
-      goes-on e (w .rule) b x (exec e w b sp x v) ((exec e w b sp x v) .next) (λ sp′ v′. runSteps b e w sp′ v′) l
+  with-step b e w sp v l kr h ih none = record { sim = h .sim; kept = kept-refl }
+  with-step b e w sp v l kr h ih (some x) =
+      continue-run e (w .rule) b x (exec e w b sp x v) ((exec e w b sp x v) .next) (λ sp′ v′. runSteps b e w sp′ v′) l
       (record {
         sim = rw (h .now) (execs o j k e w b sp x v (pay (l .payer)) (l .standing) (h .sim) (h .rule) (ap pred (h .left)) kr);
         now = h .now;
@@ -191,7 +184,7 @@ module _ (o : Option RuleSet) (j k : ℕ) where
   pub runs : (b : ℕ) (e : Env) (w : Job) (sp : Point) (v : Volatile) (l : Ledger) → knownTo o (w .rule) ≡ true → Set e (w .rule) b v l → Ends l (runSteps b e w sp v)
   unfolding runSteps
   runs zero e w sp v l kr h = record { sim = h .sim; kept = kept-refl }
-  runs (suc b) e w sp v l kr h = pays b e w sp v l kr h (λ sp′ v′ m g. runs b e w sp′ v′ m kr g) (stepAt (e .set) (w .index) sp)
+  runs (suc b) e w sp v l kr h = with-step b e w sp v l kr h (λ sp′ v′ m g. runs b e w sp′ v′ m kr g) (stepAt (e .set) (w .index) sp)
 
   -- a list of runs: the budget of the set and the call's time stay
   pub record Simulates (l : Ledger) (x : Handled) : Type 0 where
@@ -199,11 +192,11 @@ module _ (o : Option RuleSet) (j k : ℕ) where
     pub now : (postItems (x .trace) l) .now ≡ l .now
     pub budget : (postItems (x .trace) l) .budget ≡ l .budget
 
-  pub idles : (v : Volatile) (l : Ledger) → Sim o j k v (l .standing) → Simulates l (noOutcome v)
-  idles v l h = record { sim = h; now = refl; budget = refl }
+  pub no-outcome : (v : Volatile) (l : Ledger) → Sim o j k v (l .standing) → Simulates l (noOutcome v)
+  no-outcome v l h = record { sim = h; now = refl; budget = refl }
 
-  pub joins : (l : Ledger) (x : Handled) (K : Volatile → Handled) → Simulates l x → Simulates (postItems (x .trace) l) (K (x .vol)) → Simulates l (andThen x K)
-  joins l x K p q =
+  pub and-then : (l : Ledger) (x : Handled) (K : Volatile → Handled) → Simulates l x → Simulates (postItems (x .trace) l) (K (x .vol)) → Simulates l (andThen x K)
+  and-then l x K p q =
       let y = K (x .vol) in
       record {
         sim = rw (post-append (x .trace) (y .trace) l) (q .sim);
@@ -220,15 +213,15 @@ module _ (o : Option RuleSet) (j k : ℕ) where
       (record { sim = any-rest o j k _ v (l .standing) h; now = hn; rule = refl; left = hb }) in
       record { sim = any-rest o j k _ _ _ (x .sim); now = x .kept .now; budget = x .kept .budget }
 
-  wets : (e : Env) (w : Job) (d : Bool) (v : Volatile) (l : Ledger) → d ≡ false → knownTo o (w .rule) ≡ true → Sim o j k v (l .standing)
+  wet-execute : (e : Env) (w : Job) (d : Bool) (v : Volatile) (l : Ledger) → d ≡ false → knownTo o (w .rule) ≡ true → Sim o j k v (l .standing)
       → l .now ≡ e .world .now → l .budget ≡ budget (e .set .image) → Simulates l (execute e w d v)
-  wets e w true v l wet kr h hn hb = absurd (true≢false wet)
-  wets e w false v l wet kr h hn hb = executes e w v l kr h hn hb
+  wet-execute e w true v l wet kr h hn hb = absurd (true≢false wet)
+  wet-execute e w false v l wet kr h hn hb = executes e w v l kr h hn hb
 
   decides : (e : Env) (w : Job) (d : Decision) (v : Volatile) (l : Ledger) → w .dry ≡ false → knownTo o (w .rule) ≡ true → Sim o j k v (l .standing)
       → l .now ≡ e .world .now → l .budget ≡ budget (e .set .image) → Simulates l (decided d e w v)
-  decides e w (begins s) v l wet kr h hn hb = wets e w (w .dry) (withRest s v) l wet kr (any-rest o j k s v (l .standing) h) hn hb
-  decides e w (suppressed s) v l wet kr h hn hb = idles (withRest s v) l (any-rest o j k s v (l .standing) h)
+  decides e w (begins s) v l wet kr h hn hb = wet-execute e w (w .dry) (withRest s v) l wet kr (any-rest o j k s v (l .standing) h) hn hb
+  decides e w (suppressed s) v l wet kr h hn hb = no-outcome (withRest s v) l (any-rest o j k s v (l .standing) h)
   decides e w (tooDeep s) v l wet kr h hn hb = record { sim = any-rest o j k s v (l .standing) h; now = refl; budget = refl }
   decides e w (unevaluable s) v l wet kr h hn hb = record { sim = any-rest o j k s v (l .standing) h; now = refl; budget = refl }
 
@@ -239,93 +232,50 @@ module _ (o : Option RuleSet) (j k : ℕ) where
 
   module _ (e : Env) (ok : (i : ℕ) → present (ruleNamed (e .set .image) (nameOf (e .set .image) i)) ≡ true → knownTo o (nameOf (e .set .image) i) ≡ true) where
     -- a rule of the set
-    abbrev ours : ℕ → Bool
-    ours i = present (ruleNamed (e .set .image) (nameOf (e .set .image) i))
+    abbrev pub named-rule : ℕ → Type 0
+    named-rule i = present (ruleNamed (e .set .image) (nameOf (e .set .image) i)) ≡ true
 
-    tries : (kind i : ℕ) (v : Volatile) (l : Ledger) → ours i ≡ true → Sim o j k v (l .standing) → l .now ≡ e .world .now → l .budget ≡ budget (e .set .image)
-        → Simulates l (activateIfEnabled e kind i v)
-    unfolding activateIfEnabled
-    tries kind i v l our h hn hb =
-        by (isEnabled (v .rest) i) (λ t. rw t (activates e i kind Auto v l refl (ok i our) h hn hb)) (λ f. rw f (idles v l h))
-
-    all-try : (kind : ℕ) (is : List ℕ) (v : Volatile) (l : Ledger) → all ours is ≡ true → Sim o j k v (l .standing) → l .now ≡ e .world .now
-        → l .budget ≡ budget (e .set .image) → Simulates l (activateEach e kind is v)
-    unfolding activateEach
-    all-try kind [] v l our h hn hb = idles v l h
-    all-try kind (i ∷ is) v l our h hn hb =
-        let p = tries kind i v l (and-l (ours i) _ our) h hn hb in
-        joins l (activateIfEnabled e kind i v) (λ v′. activateEach e kind is v′) p
-        (all-try kind is ((activateIfEnabled e kind i v) .vol) _ (and-r (ours i) _ our) (p .sim) (p .now ∙ hn) (p .budget ∙ hb))
-
-    pub plans : (kind : ℕ) (p : Plan) (v : Volatile) (l : Ledger) → all ours (p .rules) ≡ true → Sim o j k v (l .standing) → l .now ≡ e .world .now
-        → l .budget ≡ budget (e .set .image) → Simulates l (planned e kind p v)
-    plans kind p v l our h hn hb = all-try kind (p .rules) (withRest (p .rest) v) l our (any-rest o j k (p .rest) v (l .standing) h) hn hb
-
-    by-name : all ours (nameOrder (e .set .image)) ≡ true
+    by-name : Every named-rule (nameOrder (e .set .image))
     unfolding nameOrder
-    by-name = all-sort ours _ (ruleIndices (e .set .image)) (indices-known (e .set .image))
+    by-name =
+        every-sort named-rule _ (ruleIndices (e .set .image))
+        (every-all (λ i. present (ruleNamed (e .set .image) (nameOf (e .set .image) i))) (ruleIndices (e .set .image)) (indices-known (e .set .image)))
 
-    pub timers-ours : (s : Rest) → all ours ((timersDue e s) .rules) ≡ true
-    unfolding timersDue rulesOnTimer
-    timers-ours s = all-flatten ours _ (dueTimers (e .world .now) s) (λ t. all-keep ours _ (nameOrder (e .set .image)) by-name)
+    -- in a call at this time, with this set
+    pub record InCall (l : Ledger) : Type 0 where
+      pub now : l .now ≡ e .world .now
+      pub budget : l .budget ≡ budget (e .set .image)
 
-    slot-ours : (r : ℕ) (x : Option ℕ) → ruleNamed (e .set .image) r ≡ x → all ours (toList x) ≡ true
-    slot-ours r none h = refl
-    slot-ours r (some i) h = and-i (ours i) true (named-known (e .set .image) r i h) refl
+    pub record Follows (l : Ledger) (v : Volatile) : Type 0 where
+      pub sim : Sim o j k v (l .standing)
+      pub call : InCall l
 
-    pub every-ours : (s : Rest) → all ours ((everyDue e s) .rules) ≡ true
-    unfolding everyDue
-    every-ours s =
-        all-flatten ours (λ (x : EverySlot). toList (ruleNamed (e .set .image) (x .rule))) (keep (λ (x : EverySlot). leb (x .due) (e .world .now)) (s .every))
-        (λ x. slot-ours (x .rule) (ruleNamed (e .set .image) (x .rule)) refl)
+    follows-rest : (r : Rest) (l : Ledger) (v : Volatile) → Follows l v → Follows l (withRest r v)
+    follows-rest r l v p = record { sim = any-rest o j k r v (l .standing) (p .sim); call = p .call }
 
-    -- the wall schedules
-    starts-wall : (kind : Option ℕ) (i : ℕ) (v : Volatile) (l : Ledger) → ours i ≡ true → Sim o j k v (l .standing) → l .now ≡ e .world .now
-        → l .budget ≡ budget (e .set .image) → Simulates l (startWall kind e i v)
-    starts-wall none i v l our h hn hb = idles v l h
-    starts-wall (some kind) i v l our h hn hb = activates e i kind Auto v l refl (ok i our) h hn hb
-
-    turns : (on missed : Bool) (base window i : ℕ) (v : Volatile) (l : Ledger) (K : Bool → Volatile → Handled) → ours i ≡ true → Sim o j k v (l .standing)
-        → l .now ≡ e .world .now → l .budget ≡ budget (e .set .image)
-        → ((b : Bool) (v′ : Volatile) (m : Ledger) → Sim o j k v′ (m .standing) → m .now ≡ e .world .now → m .budget ≡ budget (e .set .image) → Simulates m (K b v′))
-        → Simulates l (wallTurn on missed e base window i v K)
-    turns false missed base window i v l K our h hn hb ih = ih missed v l h hn hb
-    turns true missed base window i v l K our h hn hb ih =
-        let w = dueWallKind e base window (triggersOf (e .set .image) i) in
-        let p = starts-wall (w .kind) i v l our h hn hb in
-        joins l (startWall (w .kind) e i v) (K (missed || w .unsynced)) p
-        (ih (missed || w .unsynced) ((startWall (w .kind) e i v) .vol) _ (p .sim) (p .now ∙ hn) (p .budget ∙ hb))
-
-    walls : (base window : ℕ) (missed : Bool) (is : List ℕ) (v : Volatile) (l : Ledger) → all ours is ≡ true → Sim o j k v (l .standing) → l .now ≡ e .world .now
-        → l .budget ≡ budget (e .set .image) → Simulates l (fireDueWallRules e base window missed is v)
-    unfolding fireDueWallRules
-    walls base window missed [] v l our h hn hb = idles _ l (any-rest o j k _ v (l .standing) h)
-    walls base window missed (i ∷ is) v l our h hn hb =
-        turns (isEnabled (v .rest) i) missed base window i v l (λ b v′. fireDueWallRules e base window b is v′) (and-l (ours i) _ our) h hn hb
-        (λ b v′ m g gn gb. walls base window b is v′ m (and-r (ours i) _ our) g gn gb)
-
-    windows : (now window : ℕ) (v : Volatile) (l : Ledger) → Sim o j k v (l .standing) → l .now ≡ e .world .now → l .budget ≡ budget (e .set .image)
-        → Simulates l (fireWindow e now window v)
-    unfolding fireWindow
-    windows now window v l h hn hb =
-        by (hasWallTriggers (e .set .image) (v .rest) && leb 1 window)
-        (λ t. rw t (walls ((now + weekMinutes - window) % weekMinutes) window false (nameOrder (e .set .image)) v l by-name h hn hb)) (λ f. rw f (idles v l h))
-
-    catches : (now : ℕ) (prev : Option ℕ) (v : Volatile) (l : Ledger) → Sim o j k v (l .standing) → l .now ≡ e .world .now → l .budget ≡ budget (e .set .image)
-        → Simulates l (catchUp e now prev v)
-    catches now none v l h hn hb = idles v l h
-    catches now (some prev) v l h hn hb = windows now (windowOf prev now) v l h hn hb
-
-    pub wall-goes : (t : Option WallTime) (v : Volatile) (l : Ledger) → Sim o j k v (l .standing) → l .now ≡ e .world .now → l .budget ≡ budget (e .set .image)
-        → Simulates l (fireWallAt t e v)
-    wall-goes none v l h hn hb = idles _ l (any-rest o j k _ v (l .standing) h)
-    wall-goes (some t) v l h hn hb = catches (weekMinute t) (v .rest .prevWeekMin) _ l (any-rest o j k _ v (l .standing) h) hn hb
+    pub ledger-laws : WheelLaws e Ledger named-rule InCall Follows Simulates
+    ledger-laws =
+        record {
+          next = λ l x. postItems (x .trace) l;
+          nothing = λ l v p. no-outcome v l (p .sim);
+          within = λ l v p. p .call;
+          behind = λ l x p a. record { sim = a .sim; call = record { now = a .now ∙ p .now; budget = a .budget ∙ p .budget } };
+          both = λ l x K a b. and-then l x K a b;
+          order = by-name;
+          slot = λ r i q. named-known (e .set .image) r i q;
+          starts = λ l i kind v our le p. activates e i kind Auto v l refl (ok i our) (p .sim) (p .call .now) (p .call .budget);
+          timers = λ l v p. follows-rest _ l v p;
+          slots = λ l v p. follows-rest _ l v p;
+          unsynced = λ l v p. follows-rest _ l v p;
+          week = λ l v w q p. follows-rest _ l v p;
+          no-week = λ l v p. follows-rest _ l v p;
+        }
 
     -- the due records resume in the ledger's order, each with the budget of its entry
     pub all-resume : (cs : List Pending) (hs : List Posting) (v : Volatile) (l : Ledger) → map (agedPending k) cs ≡ map (agedPosting j) hs → l .due ≡ hs
         → all (λ (c : Pending). knownTo o (c .rule)) cs ≡ true → Sim o j k v (l .standing) → l .now ≡ e .world .now → Simulates l (resumeAll e cs v)
     unfolding resumeAll resume jobOf finishWet postItem entryOf
-    all-resume [] hs v l m d kn h hn = idles v l h
+    all-resume [] hs v l m d kn h hn = no-outcome v l h
     all-resume (c ∷ cs) [] v l m d kn h hn = absurd (cons≢nil m)
     all-resume (c ∷ cs) (x ∷ xs) v l m d kn h hn =
         let q = runs (c .budget) e (jobOf e (c .rule) (orElse 0 (ruleNamed (e .set .image) (c .rule))) (c .trigger) false) (c .point)
@@ -337,5 +287,5 @@ module _ (o : Option RuleSet) (j k : ℕ) where
           left = ap (λ ds. (resumedPayer (c .rule) ds) .left) d ∙ sym (ap (λ (a : Aged). a .entry .budget) (head-eq-of-cons-eq m));
         }) in
         let p : Simulates l (resume e c v) = record { sim = any-rest o j k _ _ _ (q .sim); now = q .kept .now; budget = q .kept .budget } in
-        joins l (resume e c v) (λ v′. resumeAll e cs v′) p
+        and-then l (resume e c v) (λ v′. resumeAll e cs v′) p
         (all-resume cs xs ((resume e c v) .vol) _ (tail-eq-of-cons-eq m) (q .kept .due ∙ ap tail d) (and-r (knownTo o (c .rule)) _ kn) (p .sim) (p .now ∙ hn))

@@ -1,27 +1,26 @@
 -- Every call keeps the store rules. What concerns the sequence numbers is shown of the ledger's ages and carried over to them.
-use mathlib.Core.Path.{_≡_, refl, sym, _∙_, ap, ap₂}
-use Prim.Native.Nat.{ℕ, zero, suc, _+_, _≤_, _<_}
+use mathlib.Core.Path.{_≡_, refl, sym, _∙_, ap}
+use Prim.Native.Nat.{ℕ, _+_}
 use native.Mathlib.Omega.{arith}
-use mathlib.Core.Bool.{Bool, true, false, cond, _&&_, not, true≢false}
-use mathlib.Core.List.{List, [], _∷_, _++_, map}
-use mathlib.Core.Option.{Option, none, some}
-use lib.Dec.{leb, ltb, eqb}
+use mathlib.Core.Bool.{Bool, true}
+use mathlib.Core.List.{List, [], _∷_}
+use mathlib.Core.Option.{none}
+use lib.Dec.{ltb, eqb}
 use lib.ListN.{length}
-use borrow.Author.Tests.{ltb-true, ltb-false, eqb-true, eqb-false, eq-eqb, ne-eqb, lt-ltb, le-ltb}
-use Rattle.model.specs.Lists.{keep, all}
-use Rattle.model.specs.Outcome.{Report, plain, disables, defers, Item, started, resumed, paid}
+use Rattle.model.specs.Lists.{all}
+use Rattle.model.specs.Outcome.{plain, disables, defers, started, resumed, paid}
 use Rattle.model.specs.declared.Pending.{Pending}
 use Rattle.model.specs.State.{Store}
 use Rattle.model.specs.Calls.{Call, call}
 use Rattle.ledger.proofs.Sound.{Sound}
-use Rattle.ledger.specs.Ledger.{Event, cleared, disabled, ticked, ran, traced, Entry, Activation, Posting, Standing, Ledger, struck, staying, accept, postReport, postItem, post, postAll, eventsOf, entryOf, isRefused, startLedger, notices, finalStore}
-use Rattle.ledger.proofs.ListLaws.{all-append, all-keep, and-l, and-r, and-i}
+use Rattle.ledger.specs.Ledger.{Event, cleared, disabled, ticked, ran, traced, Posting, Standing, Ledger, struck, staying, accept, postReport, postItem, post, postAll, eventsOf, entryOf, isRefused, startLedger}
 use Rattle.ledger.proofs.Distinct.{distinctBy, distinct-keep, distinct-snoc, all-map, distinct-map}
-use Rattle.ledger.proofs.Simulation.{by, Aged, agedPending, agedPosting, Sim}
+use Rattle.ledger.proofs.Simulation.{Aged, agedPending, agedPosting}
 use Rattle.ledger.proofs.TickSimulation.{ltb-shift}
-use Rattle.ledger.proofs.History.{Agree, Followed, follows, starts}
+use Rattle.ledger.proofs.History.{Agree, follows, starts}
 use Rattle.ledger.proofs.EffectBound.{call-ok}
 use Rattle.ledger.proofs.Resumptions.{below, below-posts, sound-below}
+use Rattle.ledger.proofs.ListLaws.{by}
 
 abbrev ageOf : Posting → ℕ
 ageOf h = h .age

@@ -1,16 +1,15 @@
 -- What an action adds to a variable has room in 64 bits, and the times of a snapshot of words are in range.
-use mathlib.Core.Path.{_≡_, refl, sym, _∙_, ap}
-use Prim.Native.Nat.{ℕ, zero, suc, _+_, _-_, _*_, _/_, _%_, _^_, min, _≤_, _<_}
+use mathlib.Core.Path.{_≡_, refl}
+use Prim.Native.Nat.{ℕ, zero, suc, _-_, _^_, _≤_, _<_}
 use native.Mathlib.Omega.{arith}
-use mathlib.Core.Bool.{Bool, true, false, cond, _&&_, _||_}
+use mathlib.Core.Bool.{Bool, true, false, cond}
 use mathlib.Core.List.{List, [], _∷_, map}
 use mathlib.Core.Option.{Option, none, some}
-use lib.Dec.{leb, ltb, eqb}
+use lib.Dec.{ltb}
 use lib.IntN.{ℤ, pos, negsuc, _+ℤ_}
 use lib.ListN.{getD}
-use borrow.Author.Tests.{leb-true, ltb-true, lt-ltb}
-use mir.Syntax.{w64}
-use mir.Val.{toZ, ofZ, sel}
+use borrow.Author.Tests.{leb-true}
+use mir.Val.{sel}
 use Rattle.words.specs.Saturating.{max32}
 use Rattle.words.specs.Pairs.{joined}
 use Rattle.words.specs.Signed.{signed64, bits64, clamped, saturatingAddI64}
@@ -19,31 +18,18 @@ use Rattle.model.specs.Field.{unless}
 use Rattle.model.specs.Image.{wordAt}
 use Rattle.model.specs.Rows.{values}
 use Rattle.model.specs.Snapshot.{headWord, headFits, headerFits, snapshotSized, snapshotRefusal, tableFits, tableDistinct, cellAt, countOf}
-use Rattle.model.specs.World.{World, WallTime, SunTimes, LampState, GroupState, InputState, lamp, group, input, marked, lampOf, groupOf, inputOf, isOne, rowsIn, nowOf, worldOf}
-use Rattle.model.specs.declared.Record.{Record}
+use Rattle.model.specs.World.{World, WallTime, SunTimes, LampState, GroupState, InputState, lamp, group, input, marked, isOne, nowOf, worldOf}
 use Rattle.model.specs.declared.Reading.{Reading}
 use Rattle.model.specs.declared.Reading.the-variants.{LampLevel, LampCct, LampIsOn, LampLastLevel, GroupAnyOn, GroupAllOff, GroupMemberCount, InputOccupied, InputLight, InputPosition, InputLastEventAge, TimeNow, TimeHour, TimeMinute, TimeWeekday, SunRise, SunSet, SunIsUp, Var, EventValue, EventDevice, EventInstance, EventOption}
-use Rattle.model.specs.declared.Value.{Value}
 use Rattle.model.specs.declared.Value.the-variants.{Literal, Reading as OfReading, Offset, NoValue}
 use Rattle.model.specs.Rules.{recordOf, valueOf, readingOf}
 use Rattle.model.specs.declared.VarValue.{VarValue}
 use Rattle.model.specs.declared.VarValue.the-variants.{Int, Text}
 use Rattle.model.specs.State.{Env, Rest, varNamed}
 use Rattle.model.specs.Eval.{fromBool, number, asInt, sunIsUp, evalReading, evalValue, valueAt}
-use Rattle.ledger.proofs.ListLaws.{and-l, and-r}
-use Rattle.ledger.proofs.Simulation.{by}
+use Rattle.ledger.proofs.ListLaws.{and-l, IfSome, Every}
 use Rattle.ledger.proofs.FlatShapes.{isWord, word-at}
 use Rattle.ledger.proofs.Accepted.{every-at}
-
--- an option whose value, if any, has the property
-abbrev pub IfSome : {A : Type 0} → (A → Type 0) → Option A → Type 0
-IfSome P none = Unit {0}
-IfSome P (some a) = P a
-
--- a property of all members
-abbrev pub Every : {A : Type 0} → (A → Type 0) → List A → Type 0
-Every P [] = Unit {0}
-Every P (x ∷ xs) = P x × Every P xs
 
 if-bind : {A B : Type 0} (P : A → Type 0) (Q : B → Type 0) (o : Option A) (f : A → Option B) → IfSome P o → ((a : A) → P a → IfSome Q (f a)) → IfSome Q (o >>= f)
 if-bind P Q none f h k = tt

@@ -1,6 +1,6 @@
 -- The ledger of demand 3: document 01, "Demand 3 is one claim about the list". It is told each call's arguments and any refusal and, in
 -- order, the executed steps. "After the start it sees no store."
-use Prim.Native.Nat.{ℕ, zero, suc, pred, _+_}
+use Prim.Native.Nat.{ℕ, suc, pred}
 use mathlib.Core.Bool.{Bool, true, false, cond, not, _&&_, _||_}
 use mathlib.Core.List.{List, [], _∷_, _++_, map, tail}
 use mathlib.Core.Option.{Option, none, some}
@@ -122,9 +122,9 @@ pay u = record { rule = u .rule; left = pred (u .left); origin = u .origin }
 
 -- "and gives at most one effect": it is counted for its origin
 abbrev pub countEffect : Option Effect → Option Activation → List Activation → List Activation
-countEffect none ρ gs = gs
-countEffect (some x) none gs = gs
-countEffect (some x) (some ρ) gs = ρ ∷ gs
+countEffect none origin before = before
+countEffect (some x) none before = before
+countEffect (some x) (some a) before = a ∷ before
 
 -- a resumption goes on with the budget and the origin of the first entry that is still to resume
 abbrev pub resumedPayer : ℕ → List Posting → Payer

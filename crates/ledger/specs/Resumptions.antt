@@ -1,14 +1,13 @@
 -- The resumptions that an accepted continuation must have, read off the list of calls: one, at the first tick behind its acceptance whose
 -- time has reached its due time, unless something before that strikes it; then none.
-use Prim.Native.Nat.{ℕ, zero, suc, pred}
-use mathlib.Core.Bool.{Bool, true, false, cond}
+use Prim.Native.Nat.{ℕ, suc, pred}
+use mathlib.Core.Bool.{cond}
 use mathlib.Core.List.{List, [], _∷_, _++_, map}
-use mathlib.Core.Option.{Option, none, some}
 use lib.Dec.{leb, eqb}
 use Rattle.model.specs.Lists.{keep}
 use Rattle.words.specs.Saturating.{saturatingAdd, max64}
 use Rattle.model.specs.declared.Point.{Point}
-use Rattle.model.specs.Outcome.{Report, plain, disables, defers, Item, started, resumed, paid}
+use Rattle.model.specs.Outcome.{plain, disables, defers, started, resumed, paid}
 use Rattle.ledger.specs.Ledger.{Event, cleared, disabled, ticked, ran, traced, Entry, Posting, Ledger, Notice, eventsOf, leaving, post}
 
 -- all that changes the ledger, in one list

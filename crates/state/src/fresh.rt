@@ -13,9 +13,10 @@ use model::Point;
 use model::VarValue;
 use model::Variable;
 ghost use mathlib.Core.Path.{_≡_};
+ghost use mathlib.Core.Option.{none};
 ghost use Prim.Native.Nat.{ℕ};
 ghost use Rattle.model.specs.Calls as calls;
-ghost use Rattle.state.specs.Meaning.{AllNumbered};
+ghost use Rattle.state.specs.Meaning.{AllNumbered, option32, option64};
 
 fn no_records() -> PendingList
     ensures { λ r. ⌜ r .count ≡ 0 ⌝ }
@@ -59,30 +60,39 @@ fn no_slots() -> SlotList
     SlotList { slots, count: 0 }
 }
 
+fn absent32() -> OptionU32
+    ensures { λ r. ⌜ option32 r ≡ none ⌝ }
+{
+    OptionU32 {
+        present: false,
+        value: 0,
+    }
+}
+
+fn absent64() -> OptionU64
+    ensures { λ r. ⌜ option64 r ≡ none ⌝ }
+{
+    OptionU64 {
+        present: false,
+        value: 0,
+    }
+}
+
 // No set, nothing pending, nothing counted; the first record gets number 1.
 pub fn fresh() -> Volatile
     ensures { λ r. ⌜ ((t : ℕ) → AllNumbered r (calls.fresh t .vol)) ⌝ }
 {
-    let pending = no_records();
-    let timers = no_timers();
-    let slots = no_slots();
+    let pending = no_records().records;
+    let timers = no_timers().timers;
+    let every = no_slots().slots;
     let value = VarValue::Int(0);
     let x = Variable { name: 0, value };
-    let absent32 = OptionU32 {
-        present: false,
-        value: 0,
-    };
-    let absent64 = OptionU64 {
-        present: false,
-        value: 0,
-    };
-    let enabled = [false; 64];
-    let last_activation = [absent64; 64];
-    let cycle_pos = [absent32; 64];
     let vars = [x; 16];
-    let ts = timers.timers;
-    let every = slots.slots;
-    let records = pending.records;
+    let enabled = [false; 64];
+    let at = absent64();
+    let last_activation = [at; 64];
+    let prev_week_min = absent32();
+    let cycle_pos = [prev_week_min; 64];
     let counters = counters::none_counted();
     Volatile {
         rules: 0,
@@ -91,14 +101,14 @@ pub fn fresh() -> Volatile
         cycle_pos,
         vars,
         var_count: 0,
-        timers: ts,
+        timers,
         timer_count: 0,
         every,
         every_count: 0,
-        pending: records,
+        pending,
         pending_count: 0,
         stored_count: 0,
-        prev_week_min: absent32,
+        prev_week_min,
         next_seq: 1,
         accepted: 0,
         counters,

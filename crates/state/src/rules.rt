@@ -18,7 +18,8 @@ pub fn is_enabled(v: Volatile, i: usize) -> bool
     if i < v.rules { v.enabled[i] } else { false }
 }
 
-fn put_bit(v: Volatile, i: usize, on: bool) -> Volatile
+// The bit alone, as an action sets it: the run strikes the continuations of a rule that was disabled.
+pub fn put_bit(v: Volatile, i: usize, on: bool) -> Volatile
     requires { ⌜ Sound v ⌝ }
     ensures { λ r. ⌜ Means r (v .«next_seq») (withRest (withEnabled (set (meaning v .rest .enabled) i on) (meaning v .rest)) (meaning v)) ⌝ }
 {

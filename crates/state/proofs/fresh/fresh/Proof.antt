@@ -11,7 +11,7 @@ returns : tie.Need-returns
 unfolding meaning numbered fresh
 returns c t =
     record {
-      says = rw (c .none-counted .ensures);
+      says = rw (c .none-counted .ensures, c .before .absent32 .ensures);
       sound = record { rulesFit = omega arith; varsFit = omega arith; timersFit = omega arith; everyFit = omega arith; pendingFit = omega arith; storedFit = omega arith; offsets = tt };
       stored = refl;
       noneAccepted = refl;
@@ -21,7 +21,7 @@ pub fresh-spec : {M : Type 1} → statement M
 fresh-spec =
     tie.close
     (tie.spec
-    (λ c κs. search needs)
+    (λ c κs. search needs) (λ c κs. search needs) (λ c κs. search needs)
     (λ c κs. search needs)
     (λ c κs. search needs)
     (λ c κs. search needs)

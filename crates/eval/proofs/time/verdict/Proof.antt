@@ -1,0 +1,16 @@
+-- `eval::time::verdict` meets its contract. Assumes nothing.
+use Rattle.eval.proofs.time.verdict.Statement.{statement}
+use Rattle.eval.proofs.time.verdict.Tie as tie
+
+returns : tie.Need-returns
+returns c = rw (c .if1 .taken)
+
+returns-2 : tie.Need-returns-2
+returns-2 c = rw (c .if1 .left)
+
+pub verdict-spec : {M : Type 1} → statement M
+verdict-spec =
+    tie.close
+    (tie.spec
+    returns
+    returns-2)

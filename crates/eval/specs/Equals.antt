@@ -1,0 +1,54 @@
+-- What the contracts say: the answer is the specification's, in every environment of this snapshot and this image.
+use Prim.Native.Nat.{ℕ}
+use mathlib.Core.Path.{_≡_}
+use mathlib.Core.List.{List}
+use Rattle.model.specs.State.{Rest}
+use Rattle.model.specs.Eval.{evalReading, evalValue, valueAt, resolveTimeBound, boundAt, sunIsUp, evalCondition, conditionAt, conditionsHold}
+use Rattle.model.specs.Rules.{conditionsOfRule}
+use Rattle.model.specs.declared.Step.{Step}
+use Rattle.model.specs.declared.Reading.{Reading}
+use Rattle.model.specs.declared.Value.{Value}
+use Rattle.model.specs.declared.TimeBound.{TimeBound}
+use Rattle.model.specs.declared.Condition.{Condition}
+use Rattle.eval.specs.declared.Number.{Number}
+use Rattle.eval.specs.declared.Minute.{Minute}
+use Rattle.eval.specs.declared.Verdict.{Verdict}
+use Rattle.eval.specs.Answers.{numberOf, minuteOf, verdictOf, envOf}
+
+module _ (snapshot : List ℕ) where
+  abbrev pub ReadsIn : Rest → Reading → Number → Type 0
+  ReadsIn s x r = (image : List ℕ) (flat : List (List Step)) → numberOf r ≡ evalReading (envOf snapshot image flat) s x
+
+  -- a reading that looks at the snapshot alone
+  abbrev pub Reads : Reading → Number → Type 0
+  Reads x r = (s : Rest) → ReadsIn s x r
+
+  abbrev pub ValueIn : Rest → Value → Number → Type 0
+  ValueIn s x r = (image : List ℕ) (flat : List (List Step)) → numberOf r ≡ evalValue (envOf snapshot image flat) s x
+
+  abbrev pub SunIsUp : Verdict → Type 0
+  SunIsUp r = (image : List ℕ) (flat : List (List Step)) (s : Rest) → verdictOf r ≡ sunIsUp (envOf snapshot image flat) s
+
+  abbrev pub Resolves : TimeBound → Minute → Type 0
+  Resolves b r = (image : List ℕ) (flat : List (List Step)) (s : Rest) → minuteOf r ≡ resolveTimeBound (envOf snapshot image flat) s b
+
+  -- a condition that looks at the snapshot alone
+  abbrev pub Decides : Condition → Verdict → Type 0
+  Decides c r = (image : List ℕ) (flat : List (List Step)) (s : Rest) → verdictOf r ≡ evalCondition (envOf snapshot image flat) s c
+
+module _ (snapshot image : List ℕ) where
+  abbrev pub ValueAt : Rest → ℕ → Number → Type 0
+  ValueAt s i r = (flat : List (List Step)) → numberOf r ≡ valueAt (envOf snapshot image flat) s i
+
+  abbrev pub BoundAt : ℕ → Minute → Type 0
+  BoundAt i r = (flat : List (List Step)) (s : Rest) → minuteOf r ≡ boundAt (envOf snapshot image flat) s i
+
+  abbrev pub Evaluates : Rest → Condition → Verdict → Type 0
+  Evaluates s c r = (flat : List (List Step)) → verdictOf r ≡ evalCondition (envOf snapshot image flat) s c
+
+  -- the conditions of a rule
+  abbrev pub RuleHolds : Rest → ℕ → Verdict → Type 0
+  RuleHolds s rule r = (flat : List (List Step)) → verdictOf r ≡ conditionsHold (envOf snapshot image flat) s (conditionsOfRule image rule)
+
+  abbrev pub ConditionAt : Rest → ℕ → Verdict → Type 0
+  ConditionAt s i r = (flat : List (List Step)) → verdictOf r ≡ conditionAt (envOf snapshot image flat) s i

@@ -1,0 +1,40 @@
+// Functions of the proved crates under C names: what `comparison/` calls from Rust and holds against the oracle.
+use flat::Loaded;
+ghost use mathlib.Core.Path.{_≡_};
+ghost use mathlib.Core.Bool.{cond};
+ghost use lib.Dec.{eqb};
+ghost use Rattle.model.specs.Load.{imageRefusal};
+ghost use Rattle.model.specs.Flat.{flattenRules, stepsIn};
+ghost use Rattle.model.specs.Snapshot.{snapshotRefusal};
+
+// 10 to 17, 0 for none.
+#[no_mangle]
+pub extern "C" fn cerambiu_image_refusal(img: &[u32]) -> u32
+    ensures { λ r. ⌜ r ≡ imageRefusal (now (img .entry)) ⌝ }
+{
+    load::refusal(img)
+}
+
+// How many flat steps the set of an image has; 0 for an image that is refused.
+#[no_mangle]
+pub extern "C" fn cerambiu_flat_steps(img: &[u32]) -> usize
+    ensures { λ r. ⌜ r ≡ cond (eqb (imageRefusal (now (img .entry))) 0) (stepsIn (flattenRules (now (img .entry)))) 0 ⌝ }
+{
+    if load::refusal(img) != 0 {
+        return 0;
+    }
+    let mut words = [0u32; 1];
+    let mut lists = [0u32; 1];
+    match flat::rules::flatten_rules(img, &mut words[1..], &mut lists[1..]) {
+        Loaded::Over => 0,
+        Loaded::Steps(n) => n,
+    }
+}
+
+// 20 to 22, 0 for none.
+#[no_mangle]
+pub extern "C" fn cerambiu_snapshot_refusal(snapshot: &[u32]) -> u32
+    ensures { λ r. ⌜ r ≡ snapshotRefusal (now (snapshot .entry)) ⌝ }
+{
+    world::refusal(snapshot)
+}
