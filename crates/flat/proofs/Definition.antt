@@ -5,10 +5,11 @@ use Prim.Native.Nat.{ℕ, zero, suc, _+_, _*_, _-_, _/_, _≤_, _<_}
 use native.Mathlib.Omega.{arith}
 use native.Mathlib.Nat.{add-zero, add-suc, suc-add}
 use native.Mathlib.Numerals.{add-one, sub-one}
-use borrow.Author.Tests.{le-leb, lt-leb, ne-eqb, lt-ltb, le-ltb}
+use borrow.Author.Tests.{le-leb, lt-leb, ne-eqb, eqb-false, ltb-false}
 use lib.ListN.{length, take, drop}
 use lib.Seq.{drop-drop}
-use mathlib.Core.Bool.{Bool, true, false}
+use mathlib.Core.Bool.{Bool, true, false, _||_, true≢false}
+use lib.Dec.{ltb, eqb}
 use Rattle.model.specs.declared.Record.{Record}
 use Rattle.model.specs.declared.FlowAction.{FlowAction}
 use Rattle.model.specs.declared.FlowAction.the-variants.{After, Repeat, Conditional}
@@ -16,6 +17,10 @@ use Rattle.model.specs.declared.FlattenCtx.{FlattenCtx}
 use Rattle.model.specs.declared.Step.the-variants.{Fail}
 use Rattle.model.specs.Flat.{Flattened, Flattening, noSteps, oneStep, append, copies, flattenList, flattenAction, flatteningsFrom, flattenBlock, blockNamed, flattenCall, flattenings, withinAfter, withinRepeat, withinConditional, flattenAfter, flattenBranch, flattenRepeat, repeatFails}
 use Rattle.flat.specs.Outcome.{Behind, actionIn, listAt, actionAt, formAt}
+
+or-false : (a b : Bool) → a || b ≡ false → (a ≡ false) × (b ≡ false)
+or-false true b e = absurd (true≢false e)
+or-false false b e = (refl, e)
 
 -- copies
 module _ (b : Flattened) (n : ℕ) where
@@ -107,16 +112,23 @@ unfolding flattenCall flattenings
 call-more acts blocks zero b c n h = absurd (h refl)
 call-more acts blocks (suc d) b c n h = rw (sub-one (suc d))
 
--- when a repeat is none
+-- when a repeat gives Fail
 module _ (c : FlattenCtx) (times : ℕ) where
-  pub none-inside : c .«in_repeat» ≡ true → repeatFails c times ≡ true
-  none-inside h = rw h
+  pub fails-inside : c .«in_repeat» ≡ true → true ≡ repeatFails c times
+  fails-inside h = rw h
 
-  pub none-zero : c .«in_repeat» ≡ false → times ≡ 0 → repeatFails c times ≡ true
-  none-zero h e = rw (h, e)
+  pub fails-zero : c .«in_repeat» ≡ false → times ≡ 0 → true ≡ repeatFails c times
+  fails-zero h e = rw (h, e)
 
-  pub none-over : c .«in_repeat» ≡ false → (times ≡ 0 → ⊥) → c .limit < times → repeatFails c times ≡ true
-  none-over h e l = rw (h, ne-eqb times 0 e, lt-ltb (c .limit) times l)
+  pub fails-over : c .«in_repeat» ≡ false → (times ≡ 0 → ⊥) → ltb (c .limit) times ≡ repeatFails c times
+  fails-over h e = rw (h, ne-eqb times 0 e)
 
-  pub repeats : c .«in_repeat» ≡ false → (times ≡ 0 → ⊥) → times ≤ c .limit → repeatFails c times ≡ false
-  repeats h e l = rw (h, ne-eqb times 0 e, le-ltb (c .limit) times l)
+  -- what holds of one that does not
+  pub repeats-outside : repeatFails c times ≡ false → c .«in_repeat» ≡ false
+  repeats-outside e = or-false (c .«in_repeat») (eqb times 0 || ltb (c .limit) times) e .0
+
+  pub repeats-some : repeatFails c times ≡ false → times ≡ 0 → ⊥
+  repeats-some e = eqb-false times 0 (or-false (eqb times 0) (ltb (c .limit) times) (or-false (c .«in_repeat») (eqb times 0 || ltb (c .limit) times) e .1) .0)
+
+  pub repeats-within : repeatFails c times ≡ false → times ≤ c .limit
+  repeats-within e = ltb-false (c .limit) times (or-false (eqb times 0) (ltb (c .limit) times) (or-false (c .«in_repeat») (eqb times 0 || ltb (c .limit) times) e .1) .1)

@@ -1,21 +1,33 @@
 -- The words that flattening writes are those that model's codec puts into a store: the rows of 64 lists, and the counted steps.
 use mathlib.Core.Path.{_≡_, refl, sym, ap, _∙_}
-use mathlib.Core.Bool.{Bool, true, false, not}
+use mathlib.Core.Bool.{Bool, true, false, not, _&&_, false≢true}
 use mathlib.Core.List.{List, [], _∷_, _++_, map}
-use Prim.Native.Nat.{ℕ, zero, suc, _+_, _*_, _-_, _≤_}
+use Prim.Native.Nat.{ℕ, zero, suc, _+_, _*_, _-_, _≤_, _<_}
+use native.Mathlib.Numerals.{add-one}
+use borrow.Author.Tests.{eq-eqb, eqb-true}
+use lib.Dec.{eqb}
+use lib.Seq.{take-suc, take-all}
+use Rattle.model.proofs.Bools as bools
 use native.Mathlib.Omega.{arith}
-use lib.ListN.{length, replicate, length-map}
+use lib.ListN.{length, take, getD, replicate, length-map}
 use Rattle.model.specs.declared.Step.{Step}
-use Rattle.model.specs.Lists.{flatten}
+use Rattle.model.specs.Lists.{flatten, upFrom}
+use Rattle.model.specs.Rows.{rules}
+use Rattle.model.specs.Rules.{ruleIndices}
 use Rattle.model.specs.Field.{unless}
 use Rattle.model.specs.Codec.{wordsOf, most}
 use Rattle.model.specs.Parts.{listRow, stepRow}
-use Rattle.model.specs.Store.{filled, listRows, stepRowOf}
-use Rattle.model.specs.Image.{imageSized, limitsFit, placesFit, tablesPass, namesDiffer, fewEnough}
-use Rattle.model.specs.Flat.{Flattened, flattenRules, tooManySteps}
+use Rattle.model.specs.Store.{filled, listRows, stepRowOf, sameList}
+use Rattle.model.specs.Image.{sizeOf, imageSized, limitsFit, placesFit, tablesPass, namesDiffer, fewEnough}
+use Rattle.model.specs.Flat.{Flattened, flattenRule, flattenRules, tooManySteps}
 use Rattle.model.specs.Load.{tablesRefusal, imageRefusalWith, imageRefusal}
-use Rattle.flat.specs.Load.{stepLists, stepPart, listPart, Checked}
-use Rattle.flat.proofs.RuleLists.{words-append}
+use Rattle.flat.specs.Load.{stepLists, stepPart, listPart, Checked, loaded, Stored, Unmade, many, other, Made, Loading, sameFlat}
+use Rattle.flat.specs.declared.Loaded.{Loaded}
+use Rattle.flat.specs.declared.Loaded.the-variants.{Over, Steps}
+use Rattle.flat.specs.Words.{layout}
+use Rattle.flat.proofs.Words.{layout-is, layout-length}
+use Rattle.flat.proofs.Induction.{by}
+use Rattle.flat.proofs.RuleLists.{words-append, steps-in, loaded-over, loaded-steps}
 
 zero-rows : (k : ℕ) → wordsOf listRow (replicate k (0, 0)) ≡ replicate (k * 2) 0
 unfolding wordsOf
@@ -65,3 +77,83 @@ passed img e =
     let g = passed-one (namesDiffer img) 14 _ (f .1) in
     let h = passed-one (not (tooManySteps (flattenRules img))) 15 _ (g .1) in
     (record { sized = a .0; limited = b .0; placed = c .0; linked = f .0 }, not-true (tooManySteps (flattenRules img)) (h .0))
+
+-- COMPARING ---------------------------------------------------------------------------------------------------------------------------
+same-self : (a : List ℕ) → sameList eqb a a ≡ true
+same-self [] = refl
+same-self (x ∷ a) = rw (eq-eqb x x refl, same-self a)
+
+same-is : (a b : List ℕ) → sameList eqb a b ≡ true → a ≡ b
+same-is [] [] e = refl
+same-is [] (y ∷ b) e = absurd (false≢true e)
+same-is (x ∷ a) [] e = absurd (false≢true e)
+same-is (x ∷ a) (y ∷ b) e =
+    let p = bools.both (eqb x y) (sameList eqb a b) e in
+    rw (eqb-true x y (p .0), same-is a b (p .1))
+
+pub same-true : (a b : List ℕ) → a ≡ b → sameList eqb a b ≡ true
+same-true a b e = rw e (same-self b)
+
+pub same-false : (a b : List ℕ) → (a ≡ b → ⊥) → sameList eqb a b ≡ false
+same-false a b h = by (sameList eqb a b) (λ e. absurd (h (same-is a b e))) (λ e. e)
+
+-- two lists of one length agree in their first i words
+module _ (a b : List ℕ) (same : length a ≡ length b) where
+  pub agree-more : (i : ℕ) → i < length b → getD a i 0 ≡ getD b i 0 → take i a ≡ take i b → take (i + 1) a ≡ take (i + 1) b
+  agree-more i l e f = rw (add-one i, take-suc a i 0 (omega arith), take-suc b i 0 l, e, f)
+
+  pub agree-all : (i : ℕ) → length b ≤ i → take i a ≡ take i b → true ≡ sameList eqb a b
+  agree-all i l e = sym (same-true a b (sym (take-all i a (omega arith)) ∙ e ∙ take-all i b l))
+
+and-false : (a : Bool) → a && false ≡ false
+and-false true = refl
+and-false false = refl
+
+and-true : (a : Bool) → a && true ≡ a
+and-true true = refl
+and-true false = refl
+
+module _ (fs : List Flattened) (lists steps : List ℕ) where
+  other-steps : (steps ≡ stepPart fs → ⊥) → false ≡ sameFlat fs lists steps
+  unfolding sameFlat
+  other-steps h = rw (same-false steps (stepPart fs) h, and-false (sameList eqb lists (wordsOf listRow (filled 64 (0, 0) (listRows 0 (stepLists fs))))), and-false (not (tooManySteps fs)))
+
+  pub not-made : Unmade fs steps → false ≡ sameFlat fs lists steps
+  unfolding sameFlat
+  not-made (many h) = rw h
+  not-made (other d) =
+      other-steps
+      (λ e.
+      let w : steps ≡ layout (flatten (stepLists fs)) = e ∙ sym (layout-is (flatten (stepLists fs))) in
+      let n : length steps ≡ length (flatten (stepLists fs)) * 4 = ap length w ∙ layout-length (flatten (stepLists fs)) in
+      d .other (ap (λ (m : ℕ). take m steps) (sym n) ∙ take-all (length steps) steps (omega arith) ∙ w))
+
+  module _ (n : ℕ) (none rows : List ℕ) (m : Made fs n steps none rows) where
+    pub other-count : (n * 4 ≡ length steps → ⊥) → false ≡ sameFlat fs lists steps
+    other-count h =
+        other-steps
+        (λ e.
+        let l : length steps ≡ length (flatten (stepLists fs)) * 4 = ap length (e ∙ sym (layout-is (flatten (stepLists fs)))) ∙ layout-length (flatten (stepLists fs)) in
+        h (omega (arith, m .count, steps-in fs)))
+
+    pub same-rows : n * 4 ≡ length steps → length rows ≡ 128 → length fs ≤ 64 → (r : Bool) → r ≡ sameList eqb lists rows → r ≡ sameFlat fs lists steps
+    unfolding sameFlat
+    same-rows e k f r g =
+        let s : steps ≡ stepPart fs = sym (take-all (n * 4) steps (omega arith)) ∙ m .compared (omega arith) in
+        let w = stored-rows fs rows k (m .parts .rows (omega arith)) in
+        rw (m .few, same-true steps (stepPart fs) s, and-true (sameList eqb lists (wordsOf listRow (filled 64 (0, 0) (listRows 0 (stepLists fs)))))) (rw w at g)
+
+up-length : (i k : ℕ) → length (upFrom i k) ≡ k
+up-length i zero = refl
+up-length i (suc k) = ap suc (up-length (suc i) k)
+
+pub rules-length : (img : List ℕ) → length (flattenRules img) ≡ sizeOf img rules
+unfolding flattenRules
+rules-length img = length-map (ruleIndices img) (flattenRule img) ∙ up-length 0 (sizeOf img rules)
+
+-- what is loaded where nothing is compared
+pub loaded-alone : (fs : List Flattened) (seen words lists : List ℕ) (r : Loaded) → length seen ≡ 0 → Loading fs seen words lists r
+    → (r ≡ loaded fs) × Stored fs words lists r
+loaded-alone fs seen words lists Over e (many h) = (loaded-over fs h, tt)
+loaded-alone fs seen words lists Over e (other d) = let s = d .some in absurd (omega arith)
+loaded-alone fs seen words lists (Steps n) e m = (loaded-steps fs n (m .few) (m .count), m .parts)

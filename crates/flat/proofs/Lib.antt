@@ -2,6 +2,8 @@
 pub mod Words
 mod Definition
 mod Outcomes
+mod Branches
+mod Copies
 pub mod RuleLists
 pub mod Checked
 pub mod Parts

@@ -20,9 +20,9 @@ use Rattle.model.specs.Flat.{Flattened, stepsIn, takenIn, tooManySteps}
 use Rattle.flat.specs.declared.Loaded.{Loaded}
 use Rattle.flat.specs.declared.Loaded.the-variants.{Over, Steps}
 use Rattle.flat.specs.Words.{layout}
-use Rattle.flat.specs.Outcome.{Wrote}
-use Rattle.flat.specs.Load.{stepLists, stepPart, listPart, loaded, Parts, ruleAt, rulesUpTo}
-use Rattle.flat.proofs.Words.{layout-is, both, whole-length}
+use Rattle.flat.specs.Outcome.{Wrote, Differs, Refusal, over, differs}
+use Rattle.flat.specs.Load.{stepLists, stepPart, listPart, loaded, Parts, Unmade, many, other, Made, ruleAt, rulesUpTo}
+use Rattle.flat.proofs.Words.{layout-is, both, whole-length, tailOf, front-differs, back-differs, compared-both}
 
 -- LISTS OF LISTS --------------------------------------------------------------------------------------------------------------------
 pub up-more : (i k : ℕ) → upFrom i (suc k) ≡ upFrom i k ++ ((i + k) ∷ [])
@@ -75,23 +75,31 @@ module _ (f : Flattened) where
       ∙ words-append listRow (listRows 0 (stepLists fs)) ((0 + length (flatten (stepLists fs)), length (f .steps)) ∷ [])
       ∙ ap (λ (n : ℕ). listPart fs ++ (n ∷ length (f .steps) ∷ [])) e
 
--- what is loaded, by the tests
+-- over the limits or not
 or-true : (a : Bool) → a || true ≡ true
 or-true true = refl
 or-true false = refl
 
 module _ (fs : List Flattened) where
-  pub over-taken : 65536 < takenIn fs → Over ≡ loaded fs
-  unfolding loaded tooManySteps
+  pub over-taken : 65536 < takenIn fs → tooManySteps fs ≡ true
+  unfolding tooManySteps
   over-taken h = rw (lt-ltb 65536 (takenIn fs) h, or-true (ltb 2048 (stepsIn fs)))
 
-  pub over-steps : 2048 < stepsIn fs → Over ≡ loaded fs
-  unfolding loaded tooManySteps
+  pub over-steps : 2048 < stepsIn fs → tooManySteps fs ≡ true
+  unfolding tooManySteps
   over-steps h = rw (lt-ltb 2048 (stepsIn fs) h)
 
-  pub within : takenIn fs ≤ 65536 → stepsIn fs ≤ 2048 → Steps (stepsIn fs) ≡ loaded fs
-  unfolding loaded tooManySteps
+  pub within : takenIn fs ≤ 65536 → stepsIn fs ≤ 2048 → tooManySteps fs ≡ false
+  unfolding tooManySteps
   within h k = rw (le-ltb 2048 (stepsIn fs) k, le-ltb 65536 (takenIn fs) h)
+
+  pub loaded-over : tooManySteps fs ≡ true → Over ≡ loaded fs
+  unfolding loaded
+  loaded-over h = rw h
+
+  pub loaded-steps : (n : ℕ) → tooManySteps fs ≡ false → n ≡ stepsIn fs → Steps n ≡ loaded fs
+  unfolding loaded
+  loaded-steps n h e = rw (h, e)
 
 -- two words were stored, one behind the other
 pub two-set : (w : List ℕ) (k a b : ℕ) → (k + 1) * 2 ≤ length w
@@ -106,8 +114,8 @@ two-set w k a b h =
     ∙ append-assoc (take (k * 2) w) (a ∷ []) (b ∷ []))
 
 -- THE LOOP OVER THE RULES -----------------------------------------------------------------------------------------------------------
--- the lists of fs stand in front of w, and their rows in front of l
-pub record Front (fs : List Flattened) (room rows-room : ℕ) (w l : List ℕ) (k size left : ℕ) : Type 0 where
+-- the lists of fs stand in front of w, and in front of the words to be compared; their rows in front of l
+pub record Front (fs : List Flattened) (seen : List ℕ) (room rows-room : ℕ) (w l : List ℕ) (k size left : ℕ) : Type 0 where
   pub room-is : length w ≡ room
   pub rows-room-is : length l ≡ rows-room
   pub count-is : k ≡ length fs
@@ -115,11 +123,12 @@ pub record Front (fs : List Flattened) (room rows-room : ℕ) (w l : List ℕ) (
   pub taken-is : left + takenIn fs ≡ 65536
   pub bounded : size ≤ 4096 * takenIn fs + k
   pub written : size * 4 ≤ length w → take (size * 4) w ≡ layout (flatten (stepLists fs))
+  pub compared : size * 4 ≤ length seen → take (size * 4) seen ≡ layout (flatten (stepLists fs))
   pub listed : k * 2 ≤ length l → take (k * 2) l ≡ listPart fs
 
-pub at-start : (w l : List ℕ) → Front [] (length w) (length l) w l 0 0 65536
+pub at-start : (seen w l : List ℕ) → Front [] seen (length w) (length l) w l 0 0 65536
 unfolding wordsOf
-at-start w l =
+at-start seen w l =
     record {
       room-is = refl;
       rows-room-is = refl;
@@ -128,18 +137,20 @@ at-start w l =
       taken-is = omega arith;
       bounded = omega arith;
       written = λ h. refl;
+      compared = λ h. refl;
       listed = λ h. refl;
     }
 
-module _ (fs : List Flattened) (room rows-room : ℕ) (w l : List ℕ) (k size left : ℕ) (h : Front fs room rows-room w l k size left) where
-  -- one more list was written into the tail from i on, and its row behind the others
-  pub next : (f : Flattened) (v l′ : List ℕ) (i c s left′ : ℕ) → i ≤ length w → (size * 4 ≤ length w → i ≡ size * 4)
+module _ (fs : List Flattened) (seen : List ℕ) (room rows-room : ℕ) (w l : List ℕ) (k size left : ℕ) (h : Front fs seen room rows-room w l k size left) where
+  -- one more list was written into the tail from i on, and compared with the tail from j on, and its row behind the others
+  pub next : (f : Flattened) (v l′ : List ℕ) (i j c s left′ : ℕ) → i ≤ length w → (size * 4 ≤ length w → i ≡ size * 4)
+      → (size * 4 ≤ length seen → j ≡ size * 4)
       → length v ≡ length (midOf i (length w - i) w)
-      → Wrote 1 1 false left f v c s left′
+      → Wrote 1 1 false left f (tailOf seen j) v c s left′
       → length l′ ≡ length l
       → ((k + 1) * 2 ≤ length l → take ((k + 1) * 2) l′ ≡ take (k * 2) l ++ (size ∷ s ∷ []))
-      → Front (fs ++ (f ∷ [])) room rows-room (putMid i (length w - i) w v) l′ (k + 1) (size + s) left′
-  next f v l′ i c s left′ inside cut kept z same row =
+      → Front (fs ++ (f ∷ [])) seen room rows-room (putMid i (length w - i) w v) l′ (k + 1) (size + s) left′
+  next f v l′ i j c s left′ inside cut cut′ kept z same row =
       record {
         room-is = whole-length w v i inside kept ∙ h .room-is;
         rows-room-is = same ∙ h .rows-room-is;
@@ -148,32 +159,42 @@ module _ (fs : List Flattened) (room rows-room : ℕ) (w l : List ℕ) (k size l
         taken-is = omega (arith, h .taken-is, z .taken-is, taken-more f fs);
         bounded = omega (arith, h .bounded, z .bounded, taken-more f fs);
         written = λ g. rw (lists-more f fs) (both w v i inside kept size s cut (flatten (stepLists fs)) (f .steps) (h .written) (z .written) g);
+        compared = λ g. rw (lists-more f fs) (compared-both seen j size cut′ (flatten (stepLists fs)) (f .steps) s (h .compared) (z .compared) g);
         listed = λ g.
             rw (part-more f fs, ← h .size-is, ← z .size-is)
             (row (omega arith) ∙ ap (λ (q : List ℕ). q ++ (size ∷ s ∷ [])) (h .listed (omega arith)));
       }
 
-  pub too-many : 2048 < size → Over ≡ loaded fs
-  too-many g = over-steps fs (omega (arith, h .size-is))
+  -- one more list has other words than the tail from j on
+  pub next-differs : (f : Flattened) (j : ℕ) → (size * 4 ≤ length seen → j ≡ size * 4) → (length seen < size * 4 → j ≡ length seen)
+      → Differs (f .steps) (tailOf seen j) → Differs (flatten (stepLists (fs ++ (f ∷ [])))) seen
+  next-differs f j cut end d =
+      rw (lists-more f fs) (back-differs seen j size cut end (flatten (stepLists fs)) (f .steps) (omega (arith, h .size-is, steps-in fs)) d)
+
+  pub too-many : 2048 < size → Unmade fs seen
+  too-many g = many (over-steps fs (omega (arith, h .size-is)))
 
   -- the words behind the steps and behind the rows were cleared
   pub accepted : size ≤ 2048 → (final rows : List ℕ) (e e′ : ℕ)
       → (size * 4 ≤ length w → e ≡ size * 4) → final ≡ take e w ++ replicate (length w - e) 0 → length final ≡ length w
       → (k * 2 ≤ length l → e′ ≡ k * 2) → rows ≡ take e′ l ++ replicate (length l - e′) 0 → length rows ≡ length l
-      → (Steps size ≡ loaded fs) × Parts fs size final rows
-  accepted m final rows e e′ cut cleared same cut′ cleared′ same′ = (
-    rw (h .size-is) (within fs (omega (arith, h .taken-is)) (omega (arith, h .size-is))),
-    record {
-      steps = λ g.
-          let f : e ≡ size * 4 = cut (omega arith) in
-          let t = rw f at cleared in
-          rw same (t ∙ ap (λ (p : List ℕ). p ++ replicate (length w - size * 4) 0) (h .written (omega arith) ∙ layout-is (flatten (stepLists fs))));
-      rows = λ g.
-          let f : e′ ≡ k * 2 = cut′ (omega (arith, h .count-is)) in
-          let t = rw f at cleared′ in
-          rw (same′, ← h .count-is) (t ∙ ap (λ (p : List ℕ). p ++ replicate (length l - k * 2) 0) (h .listed (omega (arith, h .count-is))));
-    },
-  )
+      → Made fs size seen final rows
+  accepted m final rows e e′ cut cleared same cut′ cleared′ same′ =
+      record {
+        few = within fs (omega (arith, h .taken-is)) (omega (arith, h .size-is));
+        count = h .size-is;
+        parts = record {
+          steps = λ g.
+              let f : e ≡ size * 4 = cut (omega arith) in
+              let t = rw f at cleared in
+              rw same (t ∙ ap (λ (p : List ℕ). p ++ replicate (length w - size * 4) 0) (h .written (omega arith) ∙ layout-is (flatten (stepLists fs))));
+          rows = λ g.
+              let f : e′ ≡ k * 2 = cut′ (omega (arith, h .count-is)) in
+              let t = rw f at cleared′ in
+              rw (same′, ← h .count-is) (t ∙ ap (λ (p : List ℕ). p ++ replicate (length l - k * 2) 0) (h .listed (omega (arith, h .count-is))));
+        };
+        compared = λ g. h .compared g ∙ layout-is (flatten (stepLists fs));
+      }
 
 -- the rules of a set, one more at a time
 module _ (acts blocks rules : List ℕ) (d limit : ℕ) where
@@ -195,12 +216,27 @@ module _ (acts blocks rules : List ℕ) (d limit : ℕ) where
       let e : k + suc j ≡ k + j + 1 = omega arith in
       rw (e, rules-more (k + j)) (omega (arith, more-taken k j, taken-more (ruleAt acts blocks rules d limit (k + j)) (rulesUpTo acts blocks rules d limit (k + j))))
 
-  -- rule k takes more actions than are left
-  pub rule-over : (k n left : ℕ) → k < n → left + takenIn (rulesUpTo acts blocks rules d limit k) ≡ 65536 → left < ruleAt acts blocks rules d limit k .taken
-      → Over ≡ loaded (rulesUpTo acts blocks rules d limit n)
-  rule-over k n left h e g =
+  -- more rules begin with the same words
+  differs-more : (seen : List ℕ) (k j : ℕ) → Differs (flatten (stepLists (rulesUpTo acts blocks rules d limit k))) seen
+      → Differs (flatten (stepLists (rulesUpTo acts blocks rules d limit (k + j)))) seen
+  differs-more seen k zero x = rw (add-zero k) x
+  differs-more seen k (suc j) x =
+      let e : k + suc j ≡ k + j + 1 = omega arith in
+      let f = ruleAt acts blocks rules d limit (k + j) in
+      let fs = rulesUpTo acts blocks rules d limit (k + j) in
+      rw (e, rules-more (k + j), lists-more f fs) (front-differs (flatten (stepLists fs)) (f .steps) seen (differs-more seen k j x))
+
+  -- rule k takes more actions than are left, or has other words
+  pub rule-refused : (k n size left : ℕ) (seen w l : List ℕ) (room rows-room j : ℕ) → k < n → Front (rulesUpTo acts blocks rules d limit k) seen room rows-room w l k size left
+      → (size * 4 ≤ length seen → j ≡ size * 4) → (length seen < size * 4 → j ≡ length seen)
+      → Refusal left (ruleAt acts blocks rules d limit k) (tailOf seen j) → Unmade (rulesUpTo acts blocks rules d limit n) seen
+  rule-refused k n size left seen w l room rows-room j h o cut end (over g) =
       let q : k + 1 + (n - (k + 1)) ≡ n = omega arith in
       let m : takenIn (rulesUpTo acts blocks rules d limit (k + 1)) ≤ takenIn (rulesUpTo acts blocks rules d limit n) = rw q at (more-taken (k + 1) (n - (k + 1))) in
       let a : takenIn (rulesUpTo acts blocks rules d limit (k + 1)) ≡ takenIn (rulesUpTo acts blocks rules d limit k) + ruleAt acts blocks rules d limit k .taken =
       ap takenIn (rules-more k) ∙ taken-more (ruleAt acts blocks rules d limit k) (rulesUpTo acts blocks rules d limit k) in
-      over-taken (rulesUpTo acts blocks rules d limit n) (omega arith)
+      many (over-taken (rulesUpTo acts blocks rules d limit n) (omega (arith, o .taken-is)))
+  rule-refused k n size left seen w l room rows-room j h o cut end (differs x) =
+      let q : k + 1 + (n - (k + 1)) ≡ n = omega arith in
+      let y = next-differs (rulesUpTo acts blocks rules d limit k) seen room rows-room w l k size left o (ruleAt acts blocks rules d limit k) j cut end x in
+      other (rw q at (differs-more seen (k + 1) (n - (k + 1)) (rw (rules-more k) y)))

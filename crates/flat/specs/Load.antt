@@ -1,5 +1,6 @@
 -- Flattening a whole image, and where each rule's list stands in the flat part.
-use mathlib.Core.Bool.{Bool, true, false, cond}
+use mathlib.Core.Bool.{Bool, true, false, cond, not, _&&_}
+use lib.Dec.{eqb}
 use mathlib.Core.Path.{_≡_}
 use mathlib.Core.List.{List, [], _∷_, _++_, map}
 use Prim.Native.Nat.{ℕ, zero, suc, _+_, _*_, _-_, _/_, _≤_, _<_}
@@ -9,10 +10,10 @@ use Rattle.model.specs.declared.FlattenCtx.{FlattenCtx}
 use Rattle.model.specs.Lists.{upFrom, flatten}
 use Rattle.model.specs.Codec.{wordsOf}
 use Rattle.model.specs.Parts.{listRow, stepRow}
-use Rattle.model.specs.Store.{listRows, stepRowOf}
+use Rattle.model.specs.Store.{filled, listRows, stepRowOf, sameList}
 use Rattle.model.specs.Image.{imageSized, limitsFit, placesFit, tablesPass}
 use Rattle.model.specs.Flat.{Flattened, stepsIn, tooManySteps}
-use Rattle.flat.specs.Outcome.{Tables, listAt}
+use Rattle.flat.specs.Outcome.{Tables, Differs, listAt}
 use Rattle.flat.specs.declared.Loaded.{Loaded}
 use Rattle.flat.specs.declared.Loaded.the-variants.{Over, Steps}
 
@@ -39,6 +40,27 @@ pub record Parts (fs : List Flattened) (n : ℕ) (words lists : List ℕ) : Type
 abbrev pub Stored : List Flattened → List ℕ → List ℕ → Loaded → Type 0
 Stored fs words lists Over = Unit {0}
 Stored fs words lists (Steps n) = Parts fs n words lists
+
+-- what flattening all lists gives: the set is over the limits, or other words were to be compared; or its parts are told, written and
+-- compared
+pub data Unmade (fs : List Flattened) (seen : List ℕ) : Type 0 where
+  many : tooManySteps fs ≡ true → Unmade fs seen
+  other : Differs (flatten (stepLists fs)) seen → Unmade fs seen
+
+pub record Made (fs : List Flattened) (n : ℕ) (seen words lists : List ℕ) : Type 0 where
+  pub few : tooManySteps fs ≡ false
+  pub count : n ≡ stepsIn fs
+  pub parts : Parts fs n words lists
+  pub compared : n * 4 ≤ length seen → take (n * 4) seen ≡ stepPart fs
+
+abbrev pub Loading : List Flattened → List ℕ → List ℕ → List ℕ → Loaded → Type 0
+Loading fs seen words lists Over = Unmade fs seen
+Loading fs seen words lists (Steps n) = Made fs n seen words lists
+
+-- the words of a store's flat part are those of the set's flat form
+unfoldable pub sameFlat : List Flattened → List ℕ → List ℕ → Bool
+sameFlat fs lists steps =
+    not (tooManySteps fs) && (sameList eqb lists (wordsOf listRow (filled 64 (0, 0) (listRows 0 (stepLists fs)))) && sameList eqb steps (stepPart fs))
 
 -- OVER THE WORDS OF THE TABLES ------------------------------------------------------------------------------------------------------
 -- where a rule's own actions stand

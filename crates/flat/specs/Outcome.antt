@@ -9,6 +9,7 @@ use Rattle.model.specs.declared.Record.{Record}
 use Rattle.model.specs.declared.FlowAction.{FlowAction}
 use Rattle.model.specs.declared.FlowAction.the-variants.{Wait, After, Call, Repeat, Conditional, Plain}
 use Rattle.model.specs.declared.FlattenCtx.{FlattenCtx}
+use Rattle.model.specs.declared.Step.{Step}
 use Rattle.model.specs.Rules.{recordIn, flowOf}
 use Rattle.model.specs.Flat.{Flattened, Flattening, flattenList, flattenAction, flattenCall, flattenings, blockNamed}
 use Rattle.flat.specs.Words.{layout}
@@ -16,7 +17,6 @@ use Rattle.flat.specs.declared.Found.{Found}
 use Rattle.flat.specs.declared.Found.the-variants.{Block, Nothing}
 use Rattle.flat.specs.declared.Answer.{Answer}
 use Rattle.flat.specs.declared.Answer.the-variants.{Refused, Done}
-use Rattle.flat.specs.declared.Sizes.{Sizes}
 
 -- PARTS OF THE ACTION TABLE ---------------------------------------------------------------------------------------------------------
 -- the action in record i
@@ -63,16 +63,22 @@ pub record Tables (acts blocks : List ℕ) : Type 0 where
   pub found : (b : ℕ) → BlockIn (length acts / 8) (foundIn (blockNamed acts blocks b))
 
 -- what each function of the cycle requires: the tables are checked, and the numbers are small enough
-pub record Start (acts blocks : List ℕ) (room : ℕ) (ctx : FlattenCtx) (allowed : ℕ) : Type 0 where
+pub record Start (acts blocks : List ℕ) (room seen-room : ℕ) (ctx : FlattenCtx) (allowed : ℕ) : Type 0 where
   pub tables : Tables acts blocks
   pub room-le : room ≤ 8192
+  pub seen-le : seen-room ≤ 8192
   pub limit-lt : ctx .limit < 256
   pub allowed-le : allowed ≤ 65536
 
 -- WHAT IS ENSURED -------------------------------------------------------------------------------------------------------------------
--- `f` was flattened with so many actions allowed: its sizes are told, and its steps stand in front if they have room.
--- `bounded` and `bounded-repeated` keep the sizes from wrapping: a repeat multiplies steps, and there is none in a repeat.
-pub record Wrote (e e′ : ℕ) (repeated : Bool) (allowed : ℕ) (f : Flattened) (after : List ℕ) (counted size left : ℕ) : Type 0 where
+-- the words begin with these steps
+abbrev pub Starts : List Step → List ℕ → Type 0
+Starts xs w = take (length xs * 4) w ≡ layout xs
+
+-- `f` was flattened with so many actions allowed: its sizes are told; its steps stand in front of the words if they have room, and so in
+-- the words that were to be compared. `bounded` and `bounded-repeated` keep the sizes from wrapping: a repeat multiplies steps, and
+-- there is none in a repeat.
+pub record Wrote (e e′ : ℕ) (repeated : Bool) (allowed : ℕ) (f : Flattened) (seen after : List ℕ) (counted size left : ℕ) : Type 0 where
   pub counted-is : counted ≡ f .counted
   pub size-is : size ≡ length (f .steps)
   pub taken-is : left + f .taken ≡ allowed
@@ -80,21 +86,46 @@ pub record Wrote (e e′ : ℕ) (repeated : Bool) (allowed : ℕ) (f : Flattened
   pub bounded : size ≤ 4096 * f .taken + e
   pub bounded-repeated : repeated ≡ true → size ≤ 16 * f .taken + e′
   pub written : size * 4 ≤ length after → take (size * 4) after ≡ layout (f .steps)
+  pub compared : size * 4 ≤ length seen → take (size * 4) seen ≡ layout (f .steps)
 
--- too many actions, or all is told and written
-abbrev pub Outcome : ℕ → ℕ → Bool → ℕ → Flattened → List ℕ → Answer → Type 0
-Outcome e e′ repeated allowed f after Refused = allowed < f .taken
-Outcome e e′ repeated allowed f after (Done counted size left) = Wrote e e′ repeated allowed f after counted size left
+-- words to be compared, if there are any, do not begin with the steps
+pub record Differs (xs : List Step) (seen : List ℕ) : Type 0 where
+  pub some : 0 < length seen
+  pub other : Starts xs seen → ⊥
+
+-- too many actions, or other words
+pub data Refusal (allowed : ℕ) (f : Flattened) (seen : List ℕ) : Type 0 where
+  over : allowed < f .taken → Refusal allowed f seen
+  differs : Differs (f .steps) seen → Refusal allowed f seen
+
+abbrev pub Outcome : ℕ → ℕ → Bool → ℕ → Flattened → List ℕ → List ℕ → Answer → Type 0
+Outcome e e′ repeated allowed f seen after Refused = Refusal allowed f seen
+Outcome e e′ repeated allowed f seen after (Done counted size left) = Wrote e e′ repeated allowed f seen after counted size left
 
 -- of a list, and of an action, which has been counted by the list around it
-abbrev pub ListOut : Bool → ℕ → Flattened → List ℕ → Answer → Type 0
+abbrev pub ListOut : Bool → ℕ → Flattened → List ℕ → List ℕ → Answer → Type 0
 ListOut = Outcome 1 1
 
-abbrev pub ActOut : Bool → ℕ → Flattened → List ℕ → Answer → Type 0
+abbrev pub ActOut : Bool → ℕ → Flattened → List ℕ → List ℕ → Answer → Type 0
 ActOut = Outcome 4096 16
 
 -- what copying a body gives
-pub record Copied (f : Flattened) (after : List ℕ) (r : Sizes) : Type 0 where
-  pub counted-is : r .counted ≡ f .counted
-  pub size-is : r .size ≡ length (f .steps)
-  pub written : r .size * 4 ≤ length after → take (r .size * 4) after ≡ layout (f .steps)
+pub record Copied (f : Flattened) (seen after : List ℕ) (counted size : ℕ) : Type 0 where
+  pub counted-is : counted ≡ f .counted
+  pub size-is : size ≡ length (f .steps)
+  pub written : size * 4 ≤ length after → take (size * 4) after ≡ layout (f .steps)
+  pub compared : size * 4 ≤ length seen → take (size * 4) seen ≡ layout (f .steps)
+
+abbrev pub CopiedOut : Flattened → List ℕ → List ℕ → Answer → Type 0
+CopiedOut f seen after Refused = Differs (f .steps) seen
+CopiedOut f seen after (Done counted size left) = Copied f seen after counted size
+
+-- no copy has more steps than the body
+pub record CopiedFew (times size allowed counted sum left : ℕ) : Type 0 where
+  pub counted-le : counted ≤ sum
+  pub few : sum ≤ times * size + 1
+  pub left-is : left ≡ allowed
+
+abbrev pub CopyBounds : ℕ → ℕ → ℕ → Answer → Type 0
+CopyBounds times size allowed Refused = Unit {0}
+CopyBounds times size allowed (Done counted sum left) = CopiedFew times size allowed counted sum left

@@ -1,6 +1,6 @@
 // "An after body is handed to the runner as a part of the flat list."
 use crate::records::wide;
-use crate::steps::cut;
+use crate::steps::tail_start;
 ghost use mathlib.Core.Path.{_≡_};
 ghost use mathlib.Core.List.{List};
 ghost use Prim.Native.Nat.{suc, _+_, _*_, _≤_, _<_};
@@ -35,7 +35,7 @@ pub fn after_body(steps: &[u32], at: u32) -> &[u32]
     ensures { λ r. ⌜ ((xs : List Step) → now (steps .entry) ≡ layout xs → now r ≡ layout (listIn xs (suc at))) ⌝ }
 {
     let len = body_len(steps, at);
-    let from = cut(wide(at) + 1, steps.len());
+    let from = tail_start(wide(at) + 1, steps.len());
     let to = from + len * 4;
     &steps[from..to]
 }

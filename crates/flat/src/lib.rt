@@ -1,6 +1,7 @@
 // Flattening: the action table of a rule image becomes flat steps of four words each, written into a lent tail of words.
 // Where the tail has no room, steps are counted and not written: so an empty tail gives the sizes alone.
 pub mod body;
+mod context;
 mod cycle;
 mod records;
 pub mod rules;
@@ -22,20 +23,12 @@ pub struct Progress {
     pub left: usize,
 }
 
-// Refused: more actions were taken than the caller allowed. Done: how many steps the Rust counts, how many are stored, and how many
+// Refused: more actions were taken than the caller allowed, or the words to be compared are others. Done: how many steps the Rust counts, how many are stored, and how many
 // more actions may be taken.
 pub enum Answer {
     Refused,
-    Done {
-        counted: usize,
-        size: usize,
-        left: usize,
-    },
-}
-
-pub struct Sizes {
-    pub counted: usize,
-    pub size: usize,
+    // Counted, stored, left.
+    Done(usize, usize, usize),
 }
 
 // What flattening a set gives: refusal 16, or so many steps.

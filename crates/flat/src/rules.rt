@@ -5,15 +5,18 @@ use crate::Progress;
 use crate::cycle::flatten_list;
 use crate::records::wide;
 use crate::steps::clear;
-use crate::steps::cut;
+use crate::steps::tail_start;
 use model::FlattenCtx;
 ghost use mathlib.Core.Path.{_≡_};
 ghost use mathlib.Core.List.{[], _∷_, _++_};
 ghost use Prim.Native.Nat.{_+_, _*_, _≤_, _<_};
 ghost use lib.ListN.{length, take};
-ghost use Rattle.model.specs.Image.{trailer as trailerIn, firstOf};
+ghost use Rattle.model.specs.Image.{trailer as trailerIn, firstOf, sizeOf};
 ghost use Rattle.model.specs.Flat.{flattenRules};
-ghost use Rattle.flat.specs.Load.{Checked, CheckedTables, Stored, flattenTables, loaded};
+ghost use Rattle.model.specs.Rows.{rules};
+ghost use Rattle.model.specs.Store.{sameList};
+ghost use lib.Dec.{eqb};
+ghost use Rattle.flat.specs.Load.{Checked, CheckedTables, Loading, Stored, flattenTables, loaded, sameFlat};
 
 // The row of list k: where it begins, and how many steps it has; written if there is room.
 fn put_list(lists: &mut [u32], k: usize, first: u32, size: u32)
@@ -42,13 +45,13 @@ fn flatten_tables(
     rules: &[u32],
     words: &mut [u32],
     lists: &mut [u32],
+    seen: &[u32],
     depth: usize,
     limit: u32,
 ) -> Loaded
     requires { ⌜ CheckedTables (now acts) (now blocks) (now rules) limit ⌝ }
-    requires { ⌜ length (now words) ≤ 8192 ⌝ }
-    ensures { λ r. ⌜ r ≡ loaded (flattenTables (now (acts .entry)) (now (blocks .entry)) (now (rules .entry)) depth limit) ⌝ }
-    ensures { λ r. ⌜ Stored (flattenTables (now (acts .entry)) (now (blocks .entry)) (now (rules .entry)) depth limit) (now (words .exit)) (now (lists .exit)) r ⌝ }
+    requires { ⌜ (length (now words) ≤ 8192) × (length (now seen) ≤ 8192) ⌝ }
+    ensures { λ r. ⌜ Loading (flattenTables (now (acts .entry)) (now (blocks .entry)) (now (rules .entry)) depth limit) (now (seen .entry)) (now (words .exit)) (now (lists .exit)) r ⌝ }
 {
     let n = rules.len() / 16;
     let mut k: usize = 0;
@@ -61,7 +64,8 @@ fn flatten_tables(
         in_after: false,
     };
     while k < n {
-        let at = cut(size, words.len());
+        let at = tail_start(size, words.len());
+        let behind = tail_start(size, seen.len());
         let first = wide(rules[k * 16 + 8]);
         let count = wide(rules[k * 16 + 9]);
         let p = Progress {
@@ -70,12 +74,15 @@ fn flatten_tables(
             n: 0,
             left,
         };
-        let Answer::Done {
-            counted: _,
-            size: s,
-            left: l,
-        } = flatten_list(acts, blocks, &mut words[at..], first, count, p)
-        else {
+        let Answer::Done(_, s, l) = flatten_list(
+            acts,
+            blocks,
+            &mut words[at..],
+            &seen[behind..],
+            first,
+            count,
+            p,
+        ) else {
             return Loaded::Over;
         };
         put_list(lists, k, size as u32, s as u32);
@@ -86,7 +93,7 @@ fn flatten_tables(
     if 2048 < size {
         return Loaded::Over;
     }
-    let end = cut(size, words.len());
+    let end = tail_start(size, words.len());
     clear(words, end);
     let last = rows_end(n, lists.len());
     clear(lists, last);
@@ -109,13 +116,12 @@ fn first_of(image: &[u32], t: usize) -> usize
     wide(trailer(image, 5 + t))
 }
 
-// The flat part of the image's set: its steps in `words`, the rows of its lists in `lists`. Lent no words, it says only whether the set
-// is over the limits of refusal 16.
-pub fn flatten_rules(image: &[u32], words: &mut [u32], lists: &mut [u32]) -> Loaded
+// The flat part of the image's set: its steps in `words`, the rows of its lists in `lists`, both if they have room; and the steps are
+// compared with `seen`, if that has any words.
+fn flatten_image(image: &[u32], words: &mut [u32], lists: &mut [u32], seen: &[u32]) -> Loaded
     requires { ⌜ Checked (now image) ⌝ }
-    requires { ⌜ length (now words) ≤ 8192 ⌝ }
-    ensures { λ r. ⌜ r ≡ loaded (flattenRules (now (image .entry))) ⌝ }
-    ensures { λ r. ⌜ Stored (flattenRules (now (image .entry))) (now (words .exit)) (now (lists .exit)) r ⌝ }
+    requires { ⌜ (length (now words) ≤ 8192) × (length (now seen) ≤ 8192) ⌝ }
+    ensures { λ r. ⌜ Loading (flattenRules (now (image .entry))) (now (seen .entry)) (now (words .exit)) (now (lists .exit)) r ⌝ }
 {
     let rules = first_of(image, 0);
     let blocks = first_of(image, 1);
@@ -130,7 +136,55 @@ pub fn flatten_rules(image: &[u32], words: &mut [u32], lists: &mut [u32]) -> Loa
         &image[rules..blocks],
         words,
         lists,
+        seen,
         depth,
         limit,
     )
+}
+
+// The flat part of the image's set. Lent no words, it says only whether the set is over the limits of refusal 16.
+pub fn flatten_rules(image: &[u32], words: &mut [u32], lists: &mut [u32]) -> Loaded
+    requires { ⌜ Checked (now image) ⌝ }
+    requires { ⌜ length (now words) ≤ 8192 ⌝ }
+    ensures { λ r. ⌜ r ≡ loaded (flattenRules (now (image .entry))) ⌝ }
+    ensures { λ r. ⌜ Stored (flattenRules (now (image .entry))) (now (words .exit)) (now (lists .exit)) r ⌝ }
+{
+    let end = image.len();
+    flatten_image(image, words, lists, &image[end..])
+}
+
+// Whether two lists of words are the same.
+fn same_words(a: &[u32], b: &[u32]) -> bool
+    ensures { λ r. ⌜ r ≡ sameList eqb (now (a .entry)) (now (b .entry)) ⌝ }
+{
+    if a.len() != b.len() {
+        return false;
+    }
+    let mut i = 0;
+    while i < b.len() {
+        if a[i] != b[i] {
+            return false;
+        }
+        i += 1;
+    }
+    true
+}
+
+// Whether the words of a store's flat part, the rows of its lists and its steps, are the flat form of its image. The steps are compared
+// as they are flattened: there is no second copy of them.
+pub fn same_flat(image: &[u32], lists: &[u32], steps: &[u32]) -> bool
+    requires { ⌜ Checked (now image) ⌝ }
+    requires { ⌜ sizeOf (now image) rules ≤ 64 ⌝ }
+    requires { ⌜ length (now steps) ≤ 8192 ⌝ }
+    ensures { λ r. ⌜ r ≡ sameFlat (flattenRules (now (image .entry))) (now (lists .entry)) (now (steps .entry)) ⌝ }
+{
+    let mut none = [0u32; 1];
+    let mut rows = [0u32; 128];
+    let Loaded::Steps(n) = flatten_image(image, &mut none, &mut rows, steps) else {
+        return false;
+    };
+    if n * 4 != steps.len() {
+        return false;
+    }
+    same_words(lists, &rows)
 }

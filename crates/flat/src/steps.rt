@@ -1,6 +1,5 @@
-// Steps as words, at the front of a lent tail.
+// Steps as words: written at the front of a lent tail, or compared with the words at the front of a tail.
 use crate::Answer;
-use crate::Sizes;
 ghost use mathlib.Core.Path.{_≡_};
 ghost use mathlib.Core.Bool.{Bool};
 ghost use mathlib.Core.List.{[], _∷_, _++_};
@@ -9,14 +8,21 @@ ghost use lib.ListN.{length, take, drop, replicate};
 ghost use lib.Seq.{paste};
 ghost use Rattle.model.specs.declared.Step.{Step};
 ghost use Rattle.model.specs.Flat.{Flattened, oneStep, copies};
-ghost use Rattle.flat.specs.Words.{stepWords, layout};
-ghost use Rattle.flat.specs.Outcome.{ListOut, Copied};
+ghost use Rattle.flat.specs.Words.{stepWords, layout, SameWords};
+ghost use Rattle.flat.specs.Outcome.{ListOut, CopiedOut, CopyBounds};
 
 // Where the tail behind `size` steps begins: at the end, if they have no room.
-pub fn cut(size: usize, len: usize) -> usize
-    ensures { λ r. ⌜ (r ≤ len) × ((size * 4 ≤ len → r ≡ size * 4)) ⌝ }
+pub fn tail_start(size: usize, len: usize) -> usize
+    ensures { λ r. ⌜ (r ≤ len) × ((size * 4 ≤ len → r ≡ size * 4)) × ((len < size * 4 → r ≡ len)) ⌝ }
 {
     if size <= len / 4 { size * 4 } else { len }
+}
+
+// Where words that hold `size` steps begin: at the end, if they hold fewer.
+pub fn room_start(size: usize, len: usize) -> usize
+    ensures { λ r. ⌜ (r ≤ len) × ((size * 4 ≤ len → r ≡ 0)) × ((len < size * 4 → r ≡ len)) ⌝ }
+{
+    if size <= len / 4 { 0 } else { len }
 }
 
 // Writes one step at the front, if there is room.
@@ -31,16 +37,43 @@ pub fn put(words: &mut [u32], a: u32, b: u32, c: u32, d: u32)
     }
 }
 
-// One step at the front, counted and, if there is room, written.
-pub fn push(words: &mut [u32], a: u32, b: u32, left: usize) -> Answer
-    ensures { λ r. ⌜ ((s : Step) → stepWords s ≡ a ∷ b ∷ 0 ∷ 0 ∷ [] → (o : Bool) → ListOut o left (oneStep s) (now (words .exit)) r) ⌝ }
+// Whether the words at the front are those of `body`, if there are any.
+pub fn starts_with(seen: &[u32], body: &[u32]) -> bool
+    ensures { λ r. ⌜ SameWords (now (seen .entry)) (now (body .entry)) r ⌝ }
+{
+    if seen.len() == 0 {
+        return true;
+    }
+    if seen.len() < body.len() {
+        return false;
+    }
+    let mut i = 0;
+    while i < body.len() {
+        if seen[i] != body[i] {
+            return false;
+        }
+        i += 1;
+    }
+    true
+}
+
+// Whether the words at the front are this step's, if there are any.
+pub fn same_step(seen: &[u32], a: u32, b: u32, c: u32, d: u32) -> bool
+    ensures { λ r. ⌜ SameWords (now (seen .entry)) (a ∷ b ∷ c ∷ d ∷ []) r ⌝ }
+{
+    let step = [a, b, c, d];
+    starts_with(seen, &step)
+}
+
+// One step at the front, counted, written if there is room, and compared.
+pub fn push(words: &mut [u32], seen: &[u32], a: u32, b: u32, left: usize) -> Answer
+    ensures { λ r. ⌜ ((s : Step) → stepWords s ≡ a ∷ b ∷ 0 ∷ 0 ∷ [] → (o : Bool) → ListOut o left (oneStep s) (now (seen .entry)) (now (words .exit)) r) ⌝ }
 {
     put(words, a, b, 0, 0);
-    Answer::Done {
-        counted: 1,
-        size: 1,
-        left,
+    if !same_step(seen, a, b, 0, 0) {
+        return Answer::Refused;
     }
+    Answer::Done(1, 1, left)
 }
 
 // Copies the first `len` words behind themselves, if there is room.
@@ -57,34 +90,50 @@ pub fn double(words: &mut [u32], len: usize)
     }
 }
 
-// The body stands in front, if it has room: it is copied behind itself, again and again.
-pub fn copy_body(words: &mut [u32], times: u32, counted: usize, size: usize, n: usize) -> Sizes
-    requires { ⌜ (times < 256) × (size < 2 ^ 40) × (counted ≤ size) × (n < 2 ^ 40) ⌝ }
-    ensures { λ r. ⌜ (r .counted ≤ r .size) × (r .size ≤ times * size + 1) ⌝ }
+// The body stands in front, if it has room: it is copied behind itself, again and again. `body` has its words, if there are any to be
+// compared.
+pub fn copy_body(
+    words: &mut [u32],
+    body: &[u32],
+    seen: &[u32],
+    times: u32,
+    counted: usize,
+    size: usize,
+    n: usize,
+    left: usize,
+) -> Answer
+    requires { ⌜ (times < 256) × (size < 2 ^ 40) × (counted ≤ size) × (n < 2 ^ 40) × (length (now seen) ≤ 8192) ⌝ }
+    ensures { λ r. ⌜ CopyBounds times size left r ⌝ }
     ensures { λ r. ⌜ ((b : Flattened) → counted ≡ b .counted → size ≡ length (b .steps) →
         (size * 4 ≤ length (now (words .entry)) → take (size * 4) (now (words .entry)) ≡ layout (b .steps)) →
-        Copied (copies times b n) (now (words .exit)) r) ⌝ }
+        (0 < length (now (seen .entry)) → now (body .entry) ≡ layout (b .steps)) →
+        CopiedOut (copies times b n) (now (seen .entry)) (now (words .exit)) r) ⌝ }
 {
     if times == 0 {
-        return Sizes {
-            counted: 0,
-            size: 0,
-        };
+        return Answer::Done(0, 0, left);
     }
     if 256 < n + counted {
-        put(words, 4, 0, 0, 0);
-        return Sizes {
-            counted: 1,
-            size: 1,
-        };
+        return push(words, seen, 4, 0, left);
     }
-    let at = cut(size, words.len());
+    if !starts_with(seen, body) {
+        return Answer::Refused;
+    }
+    let at = tail_start(size, words.len());
     double(words, at);
-    let rest = copy_body(&mut words[at..], times - 1, counted, size, n + counted);
-    Sizes {
-        counted: counted + rest.counted,
-        size: size + rest.size,
-    }
+    let behind = tail_start(size, seen.len());
+    let Answer::Done(c, s, l) = copy_body(
+        &mut words[at..],
+        body,
+        &seen[behind..],
+        times - 1,
+        counted,
+        size,
+        n + counted,
+        left,
+    ) else {
+        return Answer::Refused;
+    };
+    Answer::Done(counted + c, size + s, l)
 }
 
 // Sets every word from `at` on to 0.

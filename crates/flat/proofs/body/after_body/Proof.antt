@@ -12,44 +12,44 @@ use Rattle.flat.proofs.body.after_body.Tie as tie
 mul-to : tie.Need-mul-to
 mul-to c =
     let a = c .before .before .before .before .args in
-    let r = part-room (a .steps .now) (a .at) (c .before .before .body-len .result) (c .cut .result) (c .before .before .body-len .ensures) (c .cut .ensures .0) (rw (c .before .wide .ensures, add-one) at (c .cut .ensures .1)) in
+    let r = part-room (a .steps .now) (a .at) (c .before .before .body-len .result) (c .tail-start .result) (c .before .before .body-len .ensures) (c .tail-start .ensures .0) (rw (c .before .wide .ensures, add-one) at (c .tail-start .ensures .1)) in
     omega arith
 
 add-to : tie.Need-add-to
 add-to c =
     let a = c .before .before .before .before .args in
-    let r = part-room (a .steps .now) (a .at) (c .before .before .body-len .result) (c .cut .result) (c .before .before .body-len .ensures) (c .cut .ensures .0) (rw (c .before .wide .ensures, add-one) at (c .cut .ensures .1)) in
+    let r = part-room (a .steps .now) (a .at) (c .before .before .body-len .result) (c .tail-start .result) (c .before .before .body-len .ensures) (c .tail-start .ensures .0) (rw (c .before .wide .ensures, add-one) at (c .tail-start .ensures .1)) in
     omega arith
 
 mul-result : tie.Need-mul-result
 mul-result c =
     let a = c .before .before .before .before .args in
-    let r = part-room (a .steps .now) (a .at) (c .before .before .body-len .result) (c .cut .result) (c .before .before .body-len .ensures) (c .cut .ensures .0) (rw (c .before .wide .ensures, add-one) at (c .cut .ensures .1)) in
+    let r = part-room (a .steps .now) (a .at) (c .before .before .body-len .result) (c .tail-start .result) (c .before .before .body-len .ensures) (c .tail-start .ensures .0) (rw (c .before .wide .ensures, add-one) at (c .tail-start .ensures .1)) in
     omega arith
 
 sub-result : tie.Need-sub-result
 sub-result c =
     let a = c .before .before .before .before .args in
-    let r = part-room (a .steps .now) (a .at) (c .before .before .body-len .result) (c .cut .result) (c .before .before .body-len .ensures) (c .cut .ensures .0) (rw (c .before .wide .ensures, add-one) at (c .cut .ensures .1)) in
+    let r = part-room (a .steps .now) (a .at) (c .before .before .body-len .result) (c .tail-start .result) (c .before .before .body-len .ensures) (c .tail-start .ensures .0) (rw (c .before .wide .ensures, add-one) at (c .tail-start .ensures .1)) in
     omega arith
 
 part-result-start : tie.Need-part-result-start
 part-result-start c =
     let a = c .before .before .before .before .args in
-    let r = part-room (a .steps .now) (a .at) (c .before .before .body-len .result) (c .cut .result) (c .before .before .body-len .ensures) (c .cut .ensures .0) (rw (c .before .wide .ensures, add-one) at (c .cut .ensures .1)) in
+    let r = part-room (a .steps .now) (a .at) (c .before .before .body-len .result) (c .tail-start .result) (c .before .before .body-len .ensures) (c .tail-start .ensures .0) (rw (c .before .wide .ensures, add-one) at (c .tail-start .ensures .1)) in
     omega arith
 
 part-result-end : tie.Need-part-result-end
 part-result-end c =
     let a = c .before .before .before .before .args in
-    let r = part-room (a .steps .now) (a .at) (c .before .before .body-len .result) (c .cut .result) (c .before .before .body-len .ensures) (c .cut .ensures .0) (rw (c .before .wide .ensures, add-one) at (c .cut .ensures .1)) in
+    let r = part-room (a .steps .now) (a .at) (c .before .before .body-len .result) (c .tail-start .result) (c .before .before .body-len .ensures) (c .tail-start .ensures .0) (rw (c .before .wide .ensures, add-one) at (c .tail-start .ensures .1)) in
     omega arith
 
 returns : tie.Need-returns
 returns c =
     let a = c .before .before .before .before .before .args in
     λ xs e.
-    body-part (a .steps .now) (a .at) (c .before .before .before .body-len .result) (c .before .cut .result) _ xs e (c .before .before .before .body-len .ensures) (rw (c .before .before .wide .ensures, add-one) at (c .before .cut .ensures .1)) refl
+    body-part (a .steps .now) (a .at) (c .before .before .before .body-len .result) (c .before .tail-start .result) _ xs e (c .before .before .before .body-len .ensures) (rw (c .before .before .wide .ensures, add-one) at (c .before .tail-start .ensures .1)) refl
 
 pub after-body-spec : {M : Type 1} → statement M
 after-body-spec =

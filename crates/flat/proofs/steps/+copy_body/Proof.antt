@@ -1,215 +1,220 @@
--- The proof of the cycle of calls {copy_body}. The measure is how many copies are left. Assumes noSteps.
+-- The proof of the cycle of calls {copy_body}. The measure is how many copies are left. Assumes nothing.
 use mathlib.Core.Path.{_≡_, refl, sym, ap, _∙_}
-use mathlib.Core.List.{List, [], _∷_, _++_}
+use mathlib.Core.Bool.{true, false}
 use Prim.Native.Nat.{ℕ, zero, suc, _+_, _*_, _-_, _≤_, _<_}
-use native.Mathlib.Nat.{suc-mul, mul-le-mul-right}
-use native.Mathlib.Numerals.{sub-one}
 use native.Mathlib.Omega.{arith}
-use lib.ListN.{length, take, drop, length-append}
+use lib.ListN.{length, take}
 use borrow.Author.Needs.{needs}
+use borrow.Author.Tests.{not-true, not-false}
 use borrow.Fn.Kinds.{In, Out}
 use borrow.Fn.PlainCycle.{Measures, is, falls, and}
-use Rattle.model.specs.Flat.{Flattened, copies}
-use Rattle.flat.specs.Words.{layout}
-use borrow.Rule.Slice.PartMut.{midOf, putMid, mid-len}
-use lib.Seq.{paste}
-use Rattle.flat.specs.declared.Sizes.{Sizes}
-use Rattle.flat.specs.Outcome.{Copied}
-use Rattle.flat.proofs.Words.{both, whole-length, doubled-front, doubled-next}
-use Rattle.flat.proofs.Definition.{copies-stop, copies-more}
+use Rattle.model.specs.declared.Step.the-variants.{Fail}
+use Rattle.flat.proofs.Words.{whole-length, tail-size}
+use Rattle.flat.proofs.Copies.{one-more, small, none-copied, fail-bounds, fail-copied, copy-differs, tail-words, rest-differs, tail-body, copied-more}
 use Rattle.flat.proofs.steps.copy_body.Reads as copy-body
 use Rattle.flat.proofs.steps.copy_body.Kinds as kinds
 use Rattle.flat.proofs.steps.+copy_body.Lts-copy_body as lts
-use Rattle.flat.proofs.steps.cut.Reads as cut
+use Rattle.flat.proofs.steps.tail_start.Reads as tail-start
+use Rattle.flat.proofs.steps.starts_with.Reads as starts-with
 use Rattle.flat.proofs.steps.double.Reads as double
-use Rattle.flat.proofs.steps.put.Reads as put
+use Rattle.flat.proofs.steps.push.Reads as push
 use Rattle.flat.proofs.steps.+copy_body.{statement}
 use Rattle.flat.proofs.steps.+copy_body.Tie.{close}
 
-abbrev μ : Measures 1 kinds.ps ℕ
-μ κs a = a .1 .0
+abbrev μ : Measures 3 kinds.ps ℕ
+μ κs a = a .1 .1 .1 .0
 
-abbrev at : ℕ → In 1 kinds.ps
-at t = and 1 kinds.ps (is 1 kinds.ps μ t) copy-body.Pre
+abbrev at : ℕ → In 3 kinds.ps
+at t = and 3 kinds.ps (is 3 kinds.ps μ t) copy-body.Pre
 
-abbrev below : ℕ → In 1 kinds.ps
-below t = and 1 kinds.ps (falls 1 kinds.ps _<_ μ t) copy-body.Pre
+abbrev below : ℕ → In 3 kinds.ps
+below t = and 3 kinds.ps (falls 3 kinds.ps _<_ μ t) copy-body.Pre
 
 -- what is known of the callees, and what a need asks where the measure is t
 abbrev claims : ℕ → lts.Claims
-claims t = (put.Asked, put.Learnt, cut.Asked, cut.Learnt, double.Asked, double.Learnt, below t, copy-body.Post)
+claims t = (push.Asked, push.Learnt, starts-with.Asked, starts-with.Learnt, tail-start.Asked, tail-start.Learnt, double.Asked, double.Learnt, below t, copy-body.Post)
 
-abbrev Of : ℕ → (lts.Claims → In 1 kinds.ps → Out 1 kinds.ps kinds.r → Type 0) → Type 0
+abbrev Of : ℕ → (lts.Claims → In 3 kinds.ps → Out 3 kinds.ps kinds.r → Type 0) → Type 0
 Of t need = need (claims t) (at t) copy-body.Post
-
--- times * size, a copy at a time
-one-more : (times size : ℕ) → (times ≡ 0 → ⊥) → times * size ≡ (times - 1) * size + size
-one-more zero size h = absurd (h refl)
-one-more (suc k) size h = rw (sub-one (suc k)) (suc-mul k size)
-
--- the body was copied behind itself, and the tail has the copies that are left
-module _ (b : Flattened) (times n : ℕ) (w d v : List ℕ) (k : ℕ) (r : Sizes)
-    (some : times ≡ 0 → ⊥) (fits : n + b .counted ≤ 256)
-    (inside : k ≤ length w) (cut : length (b .steps) * 4 ≤ length w → k ≡ length (b .steps) * 4)
-    (same : length d ≡ length w) (kept : length v ≡ length (midOf k (length d - k) d))
-    (copied : k + k ≤ length w → d ≡ paste w k w k) (left : length w < k + k → d ≡ w)
-    (body : length (b .steps) * 4 ≤ length w → take (length (b .steps) * 4) w ≡ layout (b .steps)) where
-  -- what the tail begins with
-  tail-body : length (b .steps) * 4 ≤ length (midOf k (length d - k) d) → take (length (b .steps) * 4) (midOf k (length d - k) d) ≡ layout (b .steps)
-  tail-body g =
-      let l : length (midOf k (length d - k) d) ≡ length d - k = mid-len k (length d) d (omega arith) in
-      doubled-next w d k (length (b .steps)) inside cut same copied left g ∙ body (omega arith)
-
-  copied-more : Copied (copies (times - 1) b (n + b .counted)) v r
-      → Copied (copies times b n) (putMid k (length d - k) d v) (record { counted = b .counted + r .counted; size = length (b .steps) + r .size })
-  copied-more z =
-      let m = copies-more b n times some fits in
-      let rest = copies (times - 1) b (n + b .counted) in
-      record {
-        counted-is = rw (m, z .counted-is);
-        size-is = rw (m, z .size-is) (sym (length-append (b .steps) (rest .steps)));
-        written = λ g. rw m (both d v k (rw same inside) kept (length (b .steps)) (r .size) (rw (← same) at cut) (b .steps) (rest .steps)
-            (λ h. doubled-front w d k (length (b .steps)) inside cut same copied left h ∙ body (omega arith)) (z .written) g);
-      }
 
 module _ (t : ℕ) where
   returns : Of t lts.Need-returns
   returns c =
-      let entry = c .before .before in
-      let a = entry .args in (
-        (omega arith, omega arith),
-        λ b e f h. record {
-          counted-is = rw (c .if1 .taken);
-          size-is = rw (c .if1 .taken);
-          written = λ g. rw (c .if1 .taken);
-        },
+      let o = c .before .before .before .before in
+      let a = o .args in (
+        record { counted-le = omega arith; few = omega arith; left-is = refl },
+        λ b e f h k. none-copied (a .times) (a .n) b (a .seen .now) (a .words .now) (c .if1 .taken),
       )
 
   add-if2 : Of t lts.Need-add-if2
   add-if2 c = omega arith
 
-  put-requires : Of t lts.Need-put-requires
-  put-requires c κs = search needs
+  push-requires : Of t lts.Need-push-requires
+  push-requires c κs = search needs
 
   same-length : Of t lts.Need-same-length
   same-length c = search needs
 
   returns-2 : Of t lts.Need-returns-2
   returns-2 c =
-      let at-put = c .before .before in
-      let at-if2 = at-put .before .before in
-      let at-if1 = at-if2 .before in
-      let entry = at-if1 .before .before in
-      let o = entry in
-      let p = at-put .put in (
-        (omega arith, omega arith),
-        λ b e f h.
-            let s = copies-stop b (o .args .n) (o .args .times) (at-if1 .if1 .left) (rw (← e) (at-if2 .if2 .taken)) in
-            record {
-              counted-is = rw s;
-              size-is = rw s;
-              written = λ g. rw (s, p .ensures (omega (arith, p .kept .0)));
-            },
+      let a = c .before .before .before .before .before .before .before .before .before .args in
+      let x = c .before .before .push in
+      let y = x .ensures Fail refl false in (
+        fail-bounds false (a .left) (a .seen .now) (x .last .0) (a .times) (a .size) (x .result) y,
+        λ b e f h k. fail-copied false (a .left) (a .seen .now) (x .last .0) (a .times) (a .n) b (x .result) (c .before .before .before .before .before .if1 .left) (rw e at (c .before .before .before .before .if2 .taken)) y,
       )
 
-  cut-requires : Of t lts.Need-cut-requires
-  cut-requires c κs = search needs
+  starts-with-requires : Of t lts.Need-starts-with-requires
+  starts-with-requires c κs = search needs
+
+  returns-3 : Of t lts.Need-returns-3
+  returns-3 c =
+      let a = c .before .before .before .before .before .before .before .args in
+      let x = c .before .starts-with in
+      (tt, λ b e f h k. copy-differs b (a .times) (a .n) (c .before .before .before .if1 .left) (rw e at (c .before .before .if2 .left)) (a .seen .now) (a .body .now) k (x .result) (x .ensures) (not-true (x .result) (c .if3 .taken)))
+
+  tail-start-requires : Of t lts.Need-tail-start-requires
+  tail-start-requires c κs = search needs
 
   double-requires : Of t lts.Need-double-requires
   double-requires c κs = search needs
+
+  tail-start-requires-2 : Of t lts.Need-tail-start-requires-2
+  tail-start-requires-2 c κs = search needs
 
   mul-copy-body : Of t lts.Need-mul-copy-body
   mul-copy-body c = omega arith
 
   sub-copy-body : Of t lts.Need-sub-copy-body
-  sub-copy-body c =
-      let at-double = c .before .before in
-      omega (arith, at-double .double .kept .0)
+  sub-copy-body c = omega (arith, c .before .before .before .double .kept .0, c .before .before .before .before .before .tail-start .ensures .0)
 
   part-copy-body-start : Of t lts.Need-part-copy-body-start
-  part-copy-body-start c =
-      let at-double = c .before .before in
-      omega (arith, at-double .double .kept .0)
+  part-copy-body-start c = omega (arith, c .before .before .before .double .kept .0, c .before .before .before .before .before .tail-start .ensures .0)
 
   part-copy-body-end : Of t lts.Need-part-copy-body-end
   part-copy-body-end c = search needs
 
+  mul-copy-body-2 : Of t lts.Need-mul-copy-body-2
+  mul-copy-body-2 c = omega (arith, c .before .tail-start2 .ensures .0, c .before .before .before .before .before .before .before .before .before .before .before .before .before .before .pre .1)
+
   sub-copy-body-2 : Of t lts.Need-sub-copy-body-2
   sub-copy-body-2 c = omega arith
+
+  part-copy-body-start-2 : Of t lts.Need-part-copy-body-start-2
+  part-copy-body-start-2 c = omega arith
+
+  part-copy-body-end-2 : Of t lts.Need-part-copy-body-end-2
+  part-copy-body-end-2 c = omega arith
+
+  sub-copy-body-3 : Of t lts.Need-sub-copy-body-3
+  sub-copy-body-3 c = omega (arith, c .before .before .before .before .before .before .before .before .before .before .before .if1 .left)
 
   add-copy-body : Of t lts.Need-add-copy-body
   add-copy-body c = omega arith
 
   copy-body-requires : Of t lts.Need-copy-body-requires
-  copy-body-requires c κs = omega arith
+  copy-body-requires c κs =
+      let o = c .before .before .before .before .before .before .before .before .before .before .before .before .before .before .before in
+      (omega (arith, o .pre .0, c .before .before .before .before .before .before .before .before .before .before .before .if1 .left), omega (arith, o .pre .1, c .before .before .before .before .before .before .before .before .before .before .if2 .left, tail-size (o .args .seen .now) (c .before .before .tail-start2 .result)))
 
-  -- the copies that are left have a size that fits
-  small : (times size : ℕ) → times < 256 → size < 1099511627776 → (times - 1) * size ≤ 281474976710656
-  small times size h k = let m : (times - 1) * size ≤ 256 * size = mul-le-mul-right size (omega arith) in omega arith
+  enum-known-c : Of t lts.Need-enum-known-c
+  enum-known-c c = search needs
 
-  add-t9 : Of t lts.Need-add-t9
-  add-t9 c =
-      let entry = c .before .before .before .before .before .before .before .before .before .before .before .before .before in
-      let a = entry .args in
-      omega (arith, small (a .times) (a .size) (omega arith) (omega arith))
-
-  add-t21 : Of t lts.Need-add-t21
-  add-t21 c =
-      let entry = c .before .before .before .before .before .before .before .before .before .before .before .before .before .before in
-      let a = entry .args in
-      omega (arith, small (a .times) (a .size) (omega arith) (omega arith))
+  enum-told : Of t lts.Need-enum-told
+  enum-told c = search needs
 
   same-length-2 : Of t lts.Need-same-length-2
   same-length-2 c =
-      let at-copy-body = c .before .before .before .before in
-      let at-double = at-copy-body .before .before .before .before in
-      let at-cut = at-double .before .before in
-      let d = at-double .double in
-      let r = at-copy-body .copy-body in
-      whole-length (d .last .0) (r .last .0) (at-cut .cut .result) (omega (arith, d .kept .0)) (r .kept .0) ∙ d .kept .0
+      let a = c .before .before .before .before .before .before .before .before .before .before .before .before .before .before .before .before .before .before .before .before .args in
+      let x = c .before .before .before .before .before .before .before .before .before .before .before .before .before .before .starts-with in
+      let t = c .before .before .before .before .before .before .before .before .before .before .before .before .tail-start in
+      let d = c .before .before .before .before .before .before .before .before .before .before .double in
+      let r = c .before .before .before .before .copy-body in
+      whole-length (d .last .0) (r .last .0) (t .result) (omega (arith, d .kept .0, t .ensures .0)) (r .kept .0) ∙ d .kept .0
 
-  returns-3 : Of t lts.Need-returns-3
-  returns-3 c =
-      let at-copy-body = c .before .before .before .before in
-      let at-double = at-copy-body .before .before .before .before in
-      let at-cut = at-double .before .before in
-      let at-if2 = at-cut .before in
-      let at-if1 = at-if2 .before in
-      let entry = at-if1 .before .before in
-      let a = entry .args in
-      let k = at-cut .cut in
-      let d = at-double .double in
-      let r = at-copy-body .copy-body in
-      let some = at-if1 .if1 .left in (
-        (omega arith, omega (arith, one-more (a .times) (a .size) some)),
-        λ b e f h.
-            let cut = rw f at (k .ensures .1) in
-            let body = rw f at h in
-            let fits = rw e at (at-if2 .if2 .left) in
-            let with-body = tail-body b (a .times) (a .n) (a .words .now) (d .last .0) (r .last .0) (k .result) (r .result)
-            some fits (k .ensures .0) cut (d .kept .0) (r .kept .0) (d .ensures .0) (d .ensures .1) body in
-            rw (e, f) (copied-more b (a .times) (a .n) (a .words .now) (d .last .0) (r .last .0) (k .result) (r .result)
-            some fits (k .ensures .0) cut (d .kept .0) (r .kept .0) (d .ensures .0) (d .ensures .1) body
-            (rw e at (r .ensures .1 b e f (rw (← f) at with-body)))),
+  returns-4 : Of t lts.Need-returns-4
+  returns-4 c =
+      let a = c .before .before .before .before .before .before .before .before .before .before .before .before .before .before .before .before .before .before .before .before .args in
+      let x = c .before .before .before .before .before .before .before .before .before .before .before .before .before .before .starts-with in
+      let t = c .before .before .before .before .before .before .before .before .before .before .before .before .tail-start in
+      let d = c .before .before .before .before .before .before .before .before .before .before .double in
+      let r = c .before .before .before .before .copy-body in (
+        tt,
+        λ b e f h k.
+            let fits = rw e at (c .before .before .before .before .before .before .before .before .before .before .before .before .before .before .before .if2 .left) in
+            rest-differs b (a .times) (a .n) (c .before .before .before .before .before .before .before .before .before .before .before .before .before .before .before .before .if1 .left) fits (a .seen .now) (a .body .now) k (x .result) (x .ensures) (c .before .before .before .before .before .before .before .tail-start2 .result) (rw f at (c .before .before .before .before .before .before .before .tail-start2 .ensures .1)) (rw f at (c .before .before .before .before .before .before .before .tail-start2 .ensures .2)) (rw (c .enum-told .given .1, e) at (r .ensures .1 b e f (rw (← f) at (tail-body b (a .times) (a .n) (c .before .before .before .before .before .before .before .before .before .before .before .before .before .before .before .before .if1 .left) fits (a .seen .now) (a .body .now) k (x .result) (x .ensures) (c .before .before .before .before .before .before .before .tail-start2 .result) (rw f at (c .before .before .before .before .before .before .before .tail-start2 .ensures .1)) (a .words .now) (d .last .0) (r .last .0) (t .result) (t .ensures .0) (rw f at (t .ensures .1)) (d .kept .0) (r .kept .0) (d .ensures .0) (d .ensures .1) (rw f at h))) (tail-words b (a .times) (a .n) (c .before .before .before .before .before .before .before .before .before .before .before .before .before .before .before .before .if1 .left) fits (a .seen .now) (a .body .now) k (x .result) (x .ensures) (c .before .before .before .before .before .before .before .tail-start2 .result) (rw f at (c .before .before .before .before .before .before .before .tail-start2 .ensures .1))))),
+      )
+
+  add-t15 : Of t lts.Need-add-t15
+  add-t15 c =
+      let o = c .before .before .before .before .before .before .before .before .before .before .before .before .before .before .before .before .before .before .before .before .before in
+      let a = o .args in
+      let z = rw (c .before .c .given .1) at (c .before .before .before .before .before .copy-body .ensures .0) in
+      omega (arith, small (a .times) (a .size) (omega (arith, o .pre .1)) (omega (arith, o .pre .1)), z .counted-le, z .few, o .pre .1)
+
+  add-t33 : Of t lts.Need-add-t33
+  add-t33 c =
+      let o = c .before .before .before .before .before .before .before .before .before .before .before .before .before .before .before .before .before .before .before .before .before in
+      let a = o .args in
+      let z = rw (c .before .c .given .1) at (c .before .before .before .before .before .copy-body .ensures .0) in
+      omega (arith, small (a .times) (a .size) (omega (arith, o .pre .1)) (omega (arith, o .pre .1)), z .counted-le, z .few, o .pre .1)
+
+  same-length-3 : Of t lts.Need-same-length-3
+  same-length-3 c =
+      let a = c .before .before .before .before .before .before .before .before .before .before .before .before .before .before .before .before .before .before .before .before .before .args in
+      let x = c .before .before .before .before .before .before .before .before .before .before .before .before .before .before .before .starts-with in
+      let t = c .before .before .before .before .before .before .before .before .before .before .before .before .before .tail-start in
+      let d = c .before .before .before .before .before .before .before .before .before .before .before .double in
+      let r = c .before .before .before .before .before .copy-body in
+      whole-length (d .last .0) (r .last .0) (t .result) (omega (arith, d .kept .0, t .ensures .0)) (r .kept .0) ∙ d .kept .0
+
+  returns-5 : Of t lts.Need-returns-5
+  returns-5 c =
+      let a = c .before .before .before .before .before .before .before .before .before .before .before .before .before .before .before .before .before .before .before .before .before .args in
+      let x = c .before .before .before .before .before .before .before .before .before .before .before .before .before .before .before .starts-with in
+      let t = c .before .before .before .before .before .before .before .before .before .before .before .before .before .tail-start in
+      let d = c .before .before .before .before .before .before .before .before .before .before .before .double in
+      let r = c .before .before .before .before .before .copy-body in
+      let y = rw (c .before .c .given .1) at (r .ensures .0) in (
+        record {
+          counted-le = omega (arith, y .counted-le, c .before .before .before .before .before .before .before .before .before .before .before .before .before .before .before .before .before .before .before .before .before .pre .1);
+          few = omega (arith, y .few, one-more (a .times) (a .size) (c .before .before .before .before .before .before .before .before .before .before .before .before .before .before .before .before .before .if1 .left));
+          left-is = y .left-is;
+        },
+        λ b e f h k.
+            let fits = rw e at (c .before .before .before .before .before .before .before .before .before .before .before .before .before .before .before .before .if2 .left) in
+            rw (e, f)
+            (copied-more b (a .times) (a .n) (c .before .before .before .before .before .before .before .before .before .before .before .before .before .before .before .before .before .if1 .left) fits (a .seen .now) (a .body .now) k (x .result) (x .ensures) (c .before .before .before .before .before .before .before .before .tail-start2 .result) (rw f at (c .before .before .before .before .before .before .before .before .tail-start2 .ensures .1)) (a .words .now) (d .last .0) (r .last .0) (t .result) (t .ensures .0) (rw f at (t .ensures .1)) (d .kept .0) (r .kept .0) (d .ensures .0) (d .ensures .1) (rw f at h) (not-false (x .result) (c .before .before .before .before .before .before .before .before .before .before .before .before .before .before .if3 .left)) _ _ (rw (c .before .c .given .1, e) at (r .ensures .1 b e f (rw (← f) at (tail-body b (a .times) (a .n) (c .before .before .before .before .before .before .before .before .before .before .before .before .before .before .before .before .before .if1 .left) fits (a .seen .now) (a .body .now) k (x .result) (x .ensures) (c .before .before .before .before .before .before .before .before .tail-start2 .result) (rw f at (c .before .before .before .before .before .before .before .before .tail-start2 .ensures .1)) (a .words .now) (d .last .0) (r .last .0) (t .result) (t .ensures .0) (rw f at (t .ensures .1)) (d .kept .0) (r .kept .0) (d .ensures .0) (d .ensures .1) (rw f at h))) (tail-words b (a .times) (a .n) (c .before .before .before .before .before .before .before .before .before .before .before .before .before .before .before .before .before .if1 .left) fits (a .seen .now) (a .body .now) k (x .result) (x .ensures) (c .before .before .before .before .before .before .before .before .tail-start2 .result) (rw f at (c .before .before .before .before .before .before .before .before .tail-start2 .ensures .1)))))),
       )
 
 pub +copy-body-spec : {M : Type 1} → statement M
 +copy-body-spec = close μ λ t. lts.spec (claims t) (at t) copy-body.Post
     (returns t)
     (add-if2 t)
-    (put-requires t)
+    (push-requires t)
     (same-length t)
     (returns-2 t)
-    (cut-requires t)
+    (starts-with-requires t)
+    (returns-3 t)
+    (tail-start-requires t)
     (double-requires t)
+    (tail-start-requires-2 t)
     (mul-copy-body t)
     (sub-copy-body t)
     (part-copy-body-start t)
     (part-copy-body-end t)
+    (mul-copy-body-2 t)
     (sub-copy-body-2 t)
+    (part-copy-body-start-2 t)
+    (part-copy-body-end-2 t)
+    (sub-copy-body-3 t)
     (add-copy-body t)
     (copy-body-requires t)
-    (add-t9 t)
-    (add-t21 t)
+    (enum-known-c t)
+    (enum-told t)
     (same-length-2 t)
-    (returns-3 t)
+    (returns-4 t)
+    (add-t15 t)
+    (add-t33 t)
+    (same-length-3 t)
+    (returns-5 t)

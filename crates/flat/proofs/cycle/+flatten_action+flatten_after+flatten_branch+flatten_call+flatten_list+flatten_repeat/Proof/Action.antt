@@ -6,6 +6,7 @@ use Prim.Native.Nat.{ℕ, zero, suc, _+_, _*_, _-_, _/_, _≤_, _<_}
 use native.Mathlib.Omega.{arith}
 use lib.ListN.{length, take, drop, length-append}
 use borrow.Author.Needs.{needs}
+use borrow.Author.Tests.{not-true, not-false}
 use borrow.Fn.Kinds.{In, Out}
 use Rattle.model.specs.declared.Step.the-variants as step
 use Rattle.model.specs.declared.FlowAction.the-variants.{Wait, After, Call, Repeat, Conditional, Plain}
@@ -26,7 +27,7 @@ use Rattle.flat.proofs.cycle.+flatten_action+flatten_after+flatten_bran
 abbrev claims : ℕ → lts.Claims
 claims t = (read-action.Asked, read-action.Learnt, push.Asked, push.Learnt, wide.Asked, wide.Learnt, after-below t, flatten-after.Post, call-below t, flatten-call.Post, repeat-below t, flatten-repeat.Post, branch-below t, flatten-branch.Post)
 
-abbrev Of : ℕ → (lts.Claims → In 3 kinds.ps → Out 3 kinds.ps kinds.r → Type 0) → Type 0
+abbrev Of : ℕ → (lts.Claims → In 4 kinds.ps → Out 4 kinds.ps kinds.r → Type 0) → Type 0
 Of t need = need (claims t) (action-at t) flatten-action.Post
 
 module _ (t : ℕ) where
@@ -50,13 +51,13 @@ module _ (t : ℕ) where
 
   flatten-after-requires : Of t lts.Need-flatten-after-requires
   flatten-after-requires c κs =
-      let o = c .before .before .before .before .before .before .before .before .before .before in
+      let o = c .before .before .before .before .before .before .before .before .before .before .before in
       let a = o .args in
       let e = sym (c .before .before .before .before .before .before .read-action .ensures) ∙ c .before .before .before .before .delay-ms .given .1 in
       let b = rw e at (o .pre .1 .0 .tables .nested (a .i) (o .pre .1 .1 .0)) in (
         omega (arith, o .pre .0, o .pre .1 .1 .0),
         (
-          start (a .acts .now) (a .blocks .now) (length (a .words .now)) _ (a .p .ctx) (a .p .ctx) (a .p .left) _ (o .pre .1 .0) (omega arith) refl (omega arith),
+          start (a .acts .now) (a .blocks .now) (length (a .words .now)) _ (length (a .seen .now)) _ (a .p .ctx) (a .p .ctx) (a .p .left) _ (o .pre .1 .0) (omega arith) (omega arith) refl (omega arith),
           (o .pre .1 .1 .0, o .pre .1 .1 .1, behind-is _ _ _ _ _ _ (c .before .wide .ensures) (c .wide2 .ensures) b),
         ),
       )
@@ -66,10 +67,10 @@ module _ (t : ℕ) where
 
   flatten-call-requires : Of t lts.Need-flatten-call-requires
   flatten-call-requires c κs =
-      let o = c .before .before .before .before .before .before .before .before in
+      let o = c .before .before .before .before .before .before .before .before .before in
       let a = o .args in (
         omega (arith, o .pre .0, o .pre .1 .1 .0),
-        start (a .acts .now) (a .blocks .now) (length (a .words .now)) _ (a .p .ctx) (a .p .ctx) (a .p .left) _ (o .pre .1 .0) (omega arith) refl (omega arith),
+        start (a .acts .now) (a .blocks .now) (length (a .words .now)) _ (length (a .seen .now)) _ (a .p .ctx) (a .p .ctx) (a .p .left) _ (o .pre .1 .0) (omega arith) (omega arith) refl (omega arith),
       )
 
   enum-known-times : Of t lts.Need-enum-known-times
@@ -83,13 +84,13 @@ module _ (t : ℕ) where
 
   flatten-repeat-requires : Of t lts.Need-flatten-repeat-requires
   flatten-repeat-requires c κs =
-      let o = c .before .before .before .before .before .before .before .before .before .before in
+      let o = c .before .before .before .before .before .before .before .before .before .before .before in
       let a = o .args in
       let e = sym (c .before .before .before .before .before .before .read-action .ensures) ∙ c .before .before .before .before .times .given .1 in
       let b = rw e at (o .pre .1 .0 .tables .nested (a .i) (o .pre .1 .1 .0)) in (
         omega (arith, o .pre .0, o .pre .1 .1 .0),
         (
-          start (a .acts .now) (a .blocks .now) (length (a .words .now)) _ (a .p .ctx) (a .p .ctx) (a .p .left) _ (o .pre .1 .0) (omega arith) refl (omega arith),
+          start (a .acts .now) (a .blocks .now) (length (a .words .now)) _ (length (a .seen .now)) _ (a .p .ctx) (a .p .ctx) (a .p .left) _ (o .pre .1 .0) (omega arith) (omega arith) refl (omega arith),
           (o .pre .1 .1 .0, o .pre .1 .1 .1, behind-is _ _ _ _ _ _ (c .before .wide3 .ensures) (c .wide4 .ensures) b),
         ),
       )
@@ -111,13 +112,13 @@ module _ (t : ℕ) where
 
   flatten-branch-requires : Of t lts.Need-flatten-branch-requires
   flatten-branch-requires c κs =
-      let o = c .before .before .before .before .before .before .before .before .before .before .before .before in
+      let o = c .before .before .before .before .before .before .before .before .before .before .before .before .before in
       let a = o .args in
       let e = sym (c .before .before .before .before .before .before .before .before .read-action .ensures) ∙ c .before .before .before .before .before .before .condition .given .1 in
       let b = rw e at (o .pre .1 .0 .tables .nested (a .i) (o .pre .1 .1 .0)) in (
         omega (arith, o .pre .0, o .pre .1 .1 .0),
         (
-          start (a .acts .now) (a .blocks .now) (length (a .words .now)) _ (a .p .ctx) (a .p .ctx) (a .p .left) _ (o .pre .1 .0) (omega arith) refl (omega arith),
+          start (a .acts .now) (a .blocks .now) (length (a .words .now)) _ (length (a .seen .now)) _ (a .p .ctx) (a .p .ctx) (a .p .left) _ (o .pre .1 .0) (omega arith) (omega arith) refl (omega arith),
           (o .pre .1 .1 .0, o .pre .1 .1 .1, behind-is _ _ _ _ _ _ (c .before .before .before .wide5 .ensures) (c .before .before .wide6 .ensures) (b .0), behind-is _ _ _ _ _ _ (c .before .wide7 .ensures) (c .wide8 .ensures) (b .1)),
         ),
       )
@@ -126,7 +127,7 @@ module _ (t : ℕ) where
   enum-told c = search needs
 
   cast-push : Of t lts.Need-cast-push
-  cast-push c = omega (arith, c .before .before .before .before .before .before .before .pre .1 .0 .tables .few, c .before .before .before .before .before .before .before .pre .1 .1 .0)
+  cast-push c = omega (arith, c .before .before .before .before .before .before .before .before .pre .1 .0 .tables .few, c .before .before .before .before .before .before .before .before .pre .1 .1 .0)
 
   push-requires-2 : Of t lts.Need-push-requires-2
   push-requires-2 c κs = search needs
@@ -136,59 +137,59 @@ module _ (t : ℕ) where
 
   returns : Of t lts.Need-returns
   returns c =
-      let a = c .before .before .before .before .before .before .before .before .before .before .before .args in
+      let a = c .before .before .before .before .before .before .before .before .before .before .before .before .args in
       let r = c .before .before .push in
       let ms = c .before .before .before .before .before .duration-ms .given .0 .0 in
-      out-act (a .acts .now) (a .blocks .now) (a .p .depth) (a .i) (a .p .ctx) (a .p .n) (a .p .left) (Wait ms) (r .last .0) (r .result) (sym (c .before .before .before .before .before .before .before .read-action .ensures) ∙ c .before .before .before .before .before .duration-ms .given .1)
-      (loosen (a .p .ctx .«in_repeat») (a .p .left) (oneStep (step.Wait ms)) (r .last .0) (r .result) (r .ensures (step.Wait ms) refl (a .p .ctx .«in_repeat»)))
+      out-act (a .acts .now) (a .blocks .now) (a .p .depth) (a .i) (a .p .ctx) (a .p .n) (a .p .left) (a .seen .now) (Wait ms) (r .last .0) (r .result) (sym (c .before .before .before .before .before .before .before .read-action .ensures) ∙ c .before .before .before .before .before .duration-ms .given .1)
+      (loosen (a .p .ctx .«in_repeat») (a .p .left) (oneStep (step.Wait ms)) (a .seen .now) (r .last .0) (r .result) (r .ensures (step.Wait ms) refl (a .p .ctx .«in_repeat»)))
 
   same-length-2 : Of t lts.Need-same-length-2
   same-length-2 c = search needs
 
   returns-2 : Of t lts.Need-returns-2
   returns-2 c =
-      let a = c .before .before .before .before .before .before .before .before .before .before .before .before .before .args in
+      let a = c .before .before .before .before .before .before .before .before .before .before .before .before .before .before .args in
       let r = c .before .before .flatten-after in
-      out-act (a .acts .now) (a .blocks .now) (a .p .depth) (a .i) (a .p .ctx) (a .p .n) (a .p .left) _ (r .last .1 .1 .0) (r .result) (sym (c .before .before .before .before .before .before .before .before .before .read-action .ensures) ∙ c .before .before .before .before .before .before .before .delay-ms .given .1 ∙ after-same _ _ _ _ _ (c .before .before .before .before .wide .ensures) (c .before .before .before .wide2 .ensures)) (r .ensures)
+      out-act (a .acts .now) (a .blocks .now) (a .p .depth) (a .i) (a .p .ctx) (a .p .n) (a .p .left) (a .seen .now) _ (r .last .1 .1 .0) (r .result) (sym (c .before .before .before .before .before .before .before .before .before .read-action .ensures) ∙ c .before .before .before .before .before .before .before .delay-ms .given .1 ∙ after-same _ _ _ _ _ (c .before .before .before .before .wide .ensures) (c .before .before .before .wide2 .ensures)) (r .ensures)
 
   same-length-3 : Of t lts.Need-same-length-3
   same-length-3 c = search needs
 
   returns-3 : Of t lts.Need-returns-3
   returns-3 c =
-      let a = c .before .before .before .before .before .before .before .before .before .before .before .args in
+      let a = c .before .before .before .before .before .before .before .before .before .before .before .before .args in
       let r = c .before .before .flatten-call in
       let b = c .before .before .before .before .before .block .given .0 .0 in
-      out-act (a .acts .now) (a .blocks .now) (a .p .depth) (a .i) (a .p .ctx) (a .p .n) (a .p .left) (Call b) (r .last .1 .1 .0) (r .result) (sym (c .before .before .before .before .before .before .before .read-action .ensures) ∙ c .before .before .before .before .before .block .given .1)
-      (loosen (a .p .ctx .«in_repeat») (a .p .left) (flattenCall (a .acts .now) (a .blocks .now) (a .p .depth) b (a .p .ctx) (a .p .n)) (r .last .1 .1 .0) (r .result) (r .ensures))
+      out-act (a .acts .now) (a .blocks .now) (a .p .depth) (a .i) (a .p .ctx) (a .p .n) (a .p .left) (a .seen .now) (Call b) (r .last .1 .1 .0) (r .result) (sym (c .before .before .before .before .before .before .before .read-action .ensures) ∙ c .before .before .before .before .before .block .given .1)
+      (loosen (a .p .ctx .«in_repeat») (a .p .left) (flattenCall (a .acts .now) (a .blocks .now) (a .p .depth) b (a .p .ctx) (a .p .n)) (a .seen .now) (r .last .1 .1 .0) (r .result) (r .ensures))
 
   same-length-4 : Of t lts.Need-same-length-4
   same-length-4 c = search needs
 
   returns-4 : Of t lts.Need-returns-4
   returns-4 c =
-      let a = c .before .before .before .before .before .before .before .before .before .before .before .before .before .args in
+      let a = c .before .before .before .before .before .before .before .before .before .before .before .before .before .before .args in
       let r = c .before .before .flatten-repeat in
-      out-act (a .acts .now) (a .blocks .now) (a .p .depth) (a .i) (a .p .ctx) (a .p .n) (a .p .left) _ (r .last .1 .1 .0) (r .result) (sym (c .before .before .before .before .before .before .before .before .before .read-action .ensures) ∙ c .before .before .before .before .before .before .before .times .given .1 ∙ repeat-same _ _ _ _ _ (c .before .before .before .before .wide3 .ensures) (c .before .before .before .wide4 .ensures)) (r .ensures)
+      out-act (a .acts .now) (a .blocks .now) (a .p .depth) (a .i) (a .p .ctx) (a .p .n) (a .p .left) (a .seen .now) _ (r .last .1 .1 .0) (r .result) (sym (c .before .before .before .before .before .before .before .before .before .read-action .ensures) ∙ c .before .before .before .before .before .before .before .times .given .1 ∙ repeat-same _ _ _ _ _ (c .before .before .before .before .wide3 .ensures) (c .before .before .before .wide4 .ensures)) (r .ensures)
 
   same-length-5 : Of t lts.Need-same-length-5
   same-length-5 c = search needs
 
   returns-5 : Of t lts.Need-returns-5
   returns-5 c =
-      let a = c .before .before .before .before .before .before .before .before .before .before .before .before .before .before .before .args in
+      let a = c .before .before .before .before .before .before .before .before .before .before .before .before .before .before .before .before .args in
       let r = c .before .before .flatten-branch in
-      out-act (a .acts .now) (a .blocks .now) (a .p .depth) (a .i) (a .p .ctx) (a .p .n) (a .p .left) _ (r .last .1 .1 .0) (r .result) (sym (c .before .before .before .before .before .before .before .before .before .before .before .read-action .ensures) ∙ c .before .before .before .before .before .before .before .before .before .condition .given .1 ∙ conditional-same _ _ _ _ _ _ _ _ _ (c .before .before .before .before .before .before .wide5 .ensures) (c .before .before .before .before .before .wide6 .ensures) (c .before .before .before .before .wide7 .ensures) (c .before .before .before .wide8 .ensures)) (r .ensures)
+      out-act (a .acts .now) (a .blocks .now) (a .p .depth) (a .i) (a .p .ctx) (a .p .n) (a .p .left) (a .seen .now) _ (r .last .1 .1 .0) (r .result) (sym (c .before .before .before .before .before .before .before .before .before .before .before .read-action .ensures) ∙ c .before .before .before .before .before .before .before .before .before .condition .given .1 ∙ conditional-same _ _ _ _ _ _ _ _ _ (c .before .before .before .before .before .before .wide5 .ensures) (c .before .before .before .before .before .wide6 .ensures) (c .before .before .before .before .wide7 .ensures) (c .before .before .before .wide8 .ensures)) (r .ensures)
 
   same-length-6 : Of t lts.Need-same-length-6
   same-length-6 c = search needs
 
   returns-6 : Of t lts.Need-returns-6
   returns-6 c =
-      let a = c .before .before .before .before .before .before .before .before .before .before .args in
+      let a = c .before .before .before .before .before .before .before .before .before .before .before .args in
       let r = c .before .before .push2 in
-      out-act (a .acts .now) (a .blocks .now) (a .p .depth) (a .i) (a .p .ctx) (a .p .n) (a .p .left) Plain (r .last .0) (r .result) (sym (c .before .before .before .before .before .before .read-action .ensures) ∙ c .before .before .before .before .enum-told .given .1)
-      (loosen (a .p .ctx .«in_repeat») (a .p .left) (oneStep (step.Primitive (a .i))) (r .last .0) (r .result) (r .ensures (step.Primitive (a .i)) refl (a .p .ctx .«in_repeat»)))
+      out-act (a .acts .now) (a .blocks .now) (a .p .depth) (a .i) (a .p .ctx) (a .p .n) (a .p .left) (a .seen .now) Plain (r .last .0) (r .result) (sym (c .before .before .before .before .before .before .read-action .ensures) ∙ c .before .before .before .before .enum-told .given .1)
+      (loosen (a .p .ctx .«in_repeat») (a .p .left) (oneStep (step.Primitive (a .i))) (a .seen .now) (r .last .0) (r .result) (r .ensures (step.Primitive (a .i)) refl (a .p .ctx .«in_repeat»)))
 
 pub closed : (M : Type 1) (t : ℕ) → lts.Closed (claims t) (action-at t) flatten-action.Post M
 closed M t =
