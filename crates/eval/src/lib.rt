@@ -1,8 +1,12 @@
 // Conditions and values: eval.rs. A function reads the snapshot, the image and the state, and changes none of them. An answer is
 // an enum, and specs/Answers.antt gives the specification's option for it: `Unevaluable` is Rust's `Err(Unevaluable)`.
-pub mod readings;
+mod compare;
+pub mod conditions;
+mod readings;
+mod state_conditions;
 pub mod time;
 pub mod values;
+mod world_conditions;
 
 // A signed number: a reading or a value.
 pub enum Number {

@@ -1,2 +1,10 @@
 pub mod Rest
 pub mod Tables
+pub mod Reading
+pub mod Writing
+pub mod Written
+pub mod Parts
+pub mod Whole
+pub mod Groups
+pub mod Stored
+pub mod New

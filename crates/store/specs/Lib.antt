@@ -1,2 +1,5 @@
 pub mod Cells
 pub mod Numbers
+pub mod Places
+pub mod Rows
+pub mod Volatile

@@ -7,7 +7,13 @@ ghost use Rattle.model.specs.Layout.{partsFit};
 ghost use Rattle.model.specs.Parts.{layout};
 
 mod cells;
+mod put;
+mod put_tables;
+mod read_tables;
+mod rows;
+pub mod set;
 mod table;
+pub mod volatile;
 
 // Refusal 1 is the length alone.
 pub fn sized(store: &[u32]) -> bool

@@ -6,7 +6,10 @@ use Rattle.eval.proofs.time.sun_is_up.Tie as tie
 
 returns : tie.Need-returns
 unfolding sunIsUp
-returns c = λ image flat s. rw (← c .before .before .before .before .before .before .before .before .before .wall .ensures, c .before .before .before .before .before .before .before .w .given .1, ← c .before .before .before .before .before .sun .ensures, c .before .before .before .t .given .1, c .verdict .ensures, c .before .is-day .ensures)
+returns c = λ image flat s.
+    let k = c .before .before .before in
+    let l = k .before .before .before .before in
+    rw (← l .before .before .wall .ensures, l .w .given .1, ← k .before .before .sun .ensures, k .t .given .1, c .verdict .ensures, c .before .is-day .ensures)
 
 returns-2 : tie.Need-returns-2
 unfolding sunIsUp

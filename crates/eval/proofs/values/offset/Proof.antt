@@ -8,7 +8,11 @@ use Rattle.eval.proofs.values.offset.Statement.{statement}
 use Rattle.eval.proofs.values.offset.Tie as tie
 
 returns : tie.Need-returns
-returns c = rw (c .before .before .x .given .1) (ap some (toZ-ofZ (record { sfits = c .add-signed-word .ok }) ∙ c .add-signed-word .ensures ∙ stored-sum (c .before .before .x .given .0 .0) (record { sfits = c .before .known-told .given .0 .1 }) (c .before .before .before .before .args .delta)))
+returns c =
+    let k = c .before .before in
+    let fits = c .before .known-told .given .0 .1 in
+    let sum = stored-sum (k .x .given .0 .0) (record { sfits = fits }) (k .before .before .args .delta) in
+    rw (k .x .given .1) (ap some (toZ-ofZ (record { sfits = c .add-signed-word .ok }) ∙ c .add-signed-word .ensures ∙ sum))
 
 pub offset-spec : {M : Type 1} → statement M
 offset-spec =

@@ -7,7 +7,10 @@ use Rattle.eval.proofs.values.variable.Statement.{statement}
 use Rattle.eval.proofs.values.variable.Tie as tie
 
 returns : tie.Need-returns
-returns c = rw (← c .before .before .before .before .before .before .before .variable .ensures, c .before .before .before .before .before .x .given .1, c .before .before .x2 .given .1) (ap some (toZ-ofZ (record { sfits = c .as-i64 .ok }) ∙ c .as-i64 .ensures))
+returns c =
+    let k = c .before .before .before .before .before in
+    let number = toZ-ofZ (record { sfits = c .as-i64 .ok }) ∙ c .as-i64 .ensures in
+    rw (← k .before .before .variable .ensures, k .x .given .1, c .before .before .x2 .given .1) (ap some number)
 
 returns-2 : tie.Need-returns-2
 returns-2 c = rw (← c .before .before .before .before .before .variable .ensures, c .before .before .before .x .given .1, c .enum-told .given .1)

@@ -1,6 +1,6 @@
--- `eval::time::verdict` meets its contract. Assumes nothing.
-use Rattle.eval.proofs.time.verdict.Statement.{statement}
-use Rattle.eval.proofs.time.verdict.Tie as tie
+-- `eval::compare::verdict` meets its contract. Assumes nothing.
+use Rattle.eval.proofs.compare.verdict.Statement.{statement}
+use Rattle.eval.proofs.compare.verdict.Tie as tie
 
 returns : tie.Need-returns
 returns c = rw (c .if1 .taken)

@@ -1,0 +1,21 @@
+-- `exec::variables::var_add` meets its contract. Assumes nothing.
+use mathlib.Core.Path.{sym, ap, refl, _∙_}
+use Rattle.eval.specs.Answers.{numberOf}
+use Rattle.state.specs.Meaning.{meaning}
+use Rattle.exec.specs.Results.{jobOf}
+use denote.Ref.{now}
+use Rattle.eval.specs.Answers.{envOf}
+use Rattle.exec.proofs.Follows.{answers}
+use Rattle.exec.proofs.Cases.{stored-some, adds}
+use borrow.Author.Needs.{needs}
+use Rattle.exec.proofs.variables.var_add.Statement.{statement}
+use Rattle.exec.proofs.variables.var_add.Tie as tie
+
+returns : tie.Need-returns
+returns c flat = answers (c .add-to .ensures (envOf (now (c .before .before .before .before .before .before .before .before .args .snapshot)) (now (c .before .before .before .before .before .before .before .before .args .image)) flat)) (adds (envOf (now (c .before .before .before .before .before .before .before .before .args .snapshot)) (now (c .before .before .before .before .before .before .before .before .args .image)) flat) (jobOf (c .before .before .before .before .before .before .before .before .args .job)) (meaning (c .before .before .before .before .before .before .before .before .args .v) .rest) (c .before .before .before .before .before .before .before .before .args .name) (c .before .before .before .before .before .before .before .before .args .delta) _ _ (stored-some (c .before .before .before .step .given .0 .0) _ (record { sfits = c .before .before .known-told .given .0 .1 }) (sym (ap numberOf (c .before .before .before .step .given .1)) ∙ c .before .before .before .before .before .value-at .ensures flat)) (c .before .variable .ensures))
+
+returns-2 : tie.Need-returns-2
+returns-2 c flat = answers (c .fails .ensures) (adds (envOf (now (c .before .before .before .before .before .before .args .snapshot)) (now (c .before .before .before .before .before .before .args .image)) flat) (jobOf (c .before .before .before .before .before .before .args .job)) (meaning (c .before .before .before .before .before .before .args .v) .rest) (c .before .before .before .before .before .before .args .name) (c .before .before .before .before .before .before .args .delta) _ _ (sym (ap numberOf (c .before .enum-told .given .1)) ∙ c .before .before .before .value-at .ensures flat) refl)
+
+pub var-add-spec : {M : Type 1} → statement M
+var-add-spec = tie.close (tie.spec (λ c κs. search needs) (λ c. search needs) (λ c κs. search needs) (λ c κs. search needs) (λ c. search needs) (λ c κs. search needs) returns returns-2)

@@ -1,0 +1,82 @@
+-- What an action did, in the specification's terms.
+use Prim.Native.Nat.{ℕ}
+use mathlib.Core.Path.{_≡_}
+use mathlib.Core.Bool.{Bool}
+use mathlib.Core.List.{List}
+use mathlib.Core.Option.{Option, none, some}
+use lib.IntN.{ℤ}
+use denote.Enum.Declared.{tagOf}
+use Rattle.model.specs.Actions as model
+use Rattle.model.specs.State as model-state
+use Rattle.model.specs.State.{Env, Rest, withRest, strike}
+use Rattle.model.specs.declared.Action.{Action}
+use Rattle.model.proofs.Action.{the-type}
+use Rattle.model.specs.declared.Effect.{Effect}
+use Rattle.model.specs.declared.Step.{Step}
+use Rattle.model.specs.declared.VarValue.{VarValue}
+use Rattle.state.specs.Meaning.{Means, meaning}
+use Rattle.state.specs.declared.Volatile.{Volatile}
+use Rattle.eval.specs.Answers.{envOf}
+use Rattle.exec.specs.declared.Job.{Job}
+use Rattle.exec.specs.declared.MaybeEffect.{MaybeEffect}
+use Rattle.exec.specs.declared.MaybeEffect.the-variants.{Nothing, One}
+use Rattle.exec.specs.declared.MaybeRule.{MaybeRule}
+use Rattle.exec.specs.declared.MaybeRule.the-variants.{NoRule, Rule}
+use Rattle.exec.specs.declared.PrimResult.{PrimResult}
+
+abbrev pub effectOption : MaybeEffect → Option Effect
+effectOption Nothing = none
+effectOption (One x) = some x
+
+abbrev pub ruleOption : MaybeRule → Option ℕ
+ruleOption NoRule = none
+ruleOption (Rule q) = some q
+
+abbrev pub jobOf : Job → model.Job
+jobOf j = record { rule = j .rule; index = j .index; hold = j .hold; trigger = j .trigger; dry = j .dry }
+
+-- who disables a rule also strikes its continuations
+abbrev pub struck : Option ℕ → model-state.Volatile → model-state.Volatile
+struck none v = v
+struck (some q) v = strike q v
+
+-- from v the action came to r, and the specification to a
+pub record Does (v : Volatile) (r : PrimResult) (a : model.PrimResult) : Type 0 where
+  pub state : Means (r .vol) (v .«next_seq») (struck (a .disables) (withRest (a .rest) (meaning v)))
+  pub effect : effectOption (r .effect) ≡ a .effect
+  pub disables : ruleOption (r .disables) ≡ a .disables
+  pub reason : r .reason ≡ a .reason
+
+-- an action, in every environment; and in every environment of a snapshot and an image
+abbrev pub Performs : Job → Volatile → Action → PrimResult → Type 0
+Performs j v x r = (e : Env) → Does v r (model.runPrim e (jobOf j) (meaning v .rest) x)
+
+module _ (snapshot image : List ℕ) where
+  abbrev pub PerformsIn : Job → Volatile → Action → PrimResult → Type 0
+  PerformsIn j v x r = (flat : List (List Step)) → Does v r (model.runPrim (envOf snapshot image flat) (jobOf j) (meaning v .rest) x)
+
+  -- action i of the image
+  abbrev pub PerformsAt : Job → Volatile → ℕ → PrimResult → Type 0
+  PerformsAt j v i r = (flat : List (List Step)) → Does v r (model.primAt (envOf snapshot image flat) (jobOf j) (meaning v .rest) i)
+
+-- the parts of actions that several share
+abbrev pub Arms : List ℕ → Job → Volatile → ℕ → ℕ → PrimResult → Type 0
+Arms snapshot j v name ms r =
+    (image : List ℕ) (flat : List (List Step)) (s : Rest) → Does v r (model.armTimer (envOf snapshot image flat) (jobOf j) s name ms (meaning v .rest))
+
+abbrev pub Assigns : Job → Volatile → ℕ → VarValue → PrimResult → Type 0
+Assigns j v name value r = (e : Env) → Does v r (model.varSet e (jobOf j) (meaning v .rest) name value)
+
+abbrev pub Adds : Job → Volatile → ℕ → Option ℤ → Option VarValue → PrimResult → Type 0
+Adds j v name step held r = (e : Env) → Does v r (model.varAdd e (jobOf j) (meaning v .rest) name step held)
+
+abbrev pub Selects : List ℕ → Job → Volatile → ℕ → ℕ → Option ℤ → PrimResult → Type 0
+Selects image j v adapter group n r =
+    (snapshot : List ℕ) (flat : List (List Step)) → Does v r (model.selects (envOf snapshot image flat) (jobOf j) (meaning v .rest) adapter group n)
+
+abbrev pub SetsBit : Job → Volatile → ℕ → Bool → Option ℕ → PrimResult → Type 0
+SetsBit j v rule on i r = (e : Env) → Does v r (model.setRuleBit e (jobOf j) (meaning v .rest) rule on i)
+
+-- the kind of an action: the place of its constructor
+abbrev pub kindOf : Action → ℕ
+kindOf x = tagOf the-type x

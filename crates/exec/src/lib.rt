@@ -1,0 +1,40 @@
+// The step runner: exec.rs. A function takes the state by value and returns it; a contract is one equation with a definition of
+// the specification, on what the state means.
+pub mod actions;
+mod answers;
+mod lights;
+mod rules;
+mod timers;
+mod variables;
+
+use model::Effect;
+use state::Volatile;
+
+// What a run knows of its rule: name, place in the image, hold_hcl; and the trigger for the outcome.
+pub struct Job {
+    pub rule: u32,
+    pub index: u32,
+    pub hold: u32,
+    pub trigger: u32,
+    pub dry: bool,
+}
+
+// A step gives at most one effect.
+pub enum MaybeEffect {
+    Nothing,
+    One(Effect),
+}
+
+// The rule that an action disabled.
+pub enum MaybeRule {
+    NoRule,
+    Rule(u32),
+}
+
+// What an action did: the state after it, its effect, the rule that it disabled, the reason that it notes.
+pub struct PrimResult {
+    pub vol: Volatile,
+    pub effect: MaybeEffect,
+    pub disables: MaybeRule,
+    pub reason: u32,
+}

@@ -1,0 +1,97 @@
+// Lights and scenes. The answers of `light_verb` and `scene_number` stand in the image.
+use crate::Job;
+use crate::PrimResult;
+use crate::answers::emits;
+use crate::answers::fails;
+use crate::answers::no_effect;
+use state::OptionU32;
+use state::Volatile;
+ghost use mathlib.Core.Path.{_≡_};
+ghost use mathlib.Core.List.{List};
+ghost use Prim.Native.Nat.{ℕ, _<_, _%_};
+ghost use Rattle.model.specs.Actions.{holdOr};
+ghost use Rattle.model.specs.Lists.{orElse};
+ghost use Rattle.model.specs.State.{cyclePosAt};
+ghost use Rattle.model.specs.declared.Action.the-variants.{Light, Recall, Apply, Cycle};
+ghost use Rattle.image.specs.Sized.{Sized};
+ghost use Rattle.state.specs.Meaning.{Sound, meaning};
+ghost use Rattle.exec.specs.Results.{Performs, PerformsIn};
+
+const LIGHT: u32 = 0;
+
+const SCENE_RECALL: u32 = 1;
+
+const SCENE_APPLY: u32 = 2;
+
+// The table of pool words.
+const POOL: u32 = 7;
+
+// A light's own hold_hcl, or the rule's where 2 says that it has none.
+fn hold_or(hold: u32, rule: u32) -> u32
+    ensures { λ r. ⌜ r ≡ holdOr hold rule ⌝ }
+{
+    if hold == 2 { rule } else { hold }
+}
+
+pub fn light(v: Volatile, job: Job, target: u32, hold: u32, answer: u32, verb: u32) -> PrimResult
+    requires { ⌜ Sound v ⌝ }
+    ensures { λ r. ⌜ Performs job v (Light target hold answer verb) r ⌝ }
+{
+    if answer == 0 {
+        return emits(v, LIGHT, target, verb, hold_or(hold, job.hold), 0);
+    }
+    if answer == 1 {
+        return no_effect(v);
+    }
+    fails(v)
+}
+
+pub fn recall(v: Volatile, job: Job, answer: u32, scene: u32, mark: u32, target: u32) -> PrimResult
+    requires { ⌜ Sound v ⌝ }
+    ensures { λ r. ⌜ Performs job v (Recall answer scene mark target) r ⌝ }
+{
+    if answer == 0 {
+        return emits(v, SCENE_RECALL, scene, mark, target, job.hold);
+    }
+    fails(v)
+}
+
+pub fn apply(v: Volatile, job: Job, answer: u32, scene: u32) -> PrimResult
+    requires { ⌜ Sound v ⌝ }
+    ensures { λ r. ⌜ Performs job v (Apply answer scene) r ⌝ }
+{
+    if answer == 0 {
+        return emits(v, SCENE_APPLY, scene, job.hold, 0, 0);
+    }
+    fails(v)
+}
+
+// The rule's position, modulo the length of the list at hand.
+fn cycle_place(v: Volatile, index: u32, count: u32) -> u32
+    requires { ⌜ Sound v × (0 < count) ⌝ }
+    ensures { λ r. ⌜ (r ≡ orElse 0 (cyclePosAt (meaning v .rest) index) % count) × (r < count) ⌝ }
+{
+    let o = state::rules::cycle_pos(v, index as usize);
+    if o.present {
+        return o.value % count;
+    }
+    0
+}
+
+// The sum saturates: past the end of the image there is no word, however far.
+pub fn cycle(image: &[u32], v: Volatile, job: Job, first: u32, count: u32) -> PrimResult
+    requires { ⌜ Sized (now image) × Sound v ⌝ }
+    ensures { λ r. ⌜ ((snapshot : List ℕ) → PerformsIn snapshot (now (image .entry)) job v (Cycle first count) r) ⌝ }
+{
+    if count == 0 {
+        return fails(v);
+    }
+    let at = cycle_place(v, job.index, count);
+    let place = words::saturating_add_u32(first, at);
+    let scene = image::layout::word_at(image, POOL, place, 0);
+    if job.dry {
+        return emits(v, SCENE_RECALL, scene, 0, 0, job.hold);
+    }
+    let w = state::rules::set_cycle_pos(v, job.index as usize, (at + 1) % count);
+    emits(w, SCENE_RECALL, scene, 0, 0, job.hold)
+}
