@@ -3,6 +3,7 @@
 //! number of calls by answer, the slowest images, and each difference; its status is 1 if there is one.
 
 mod proved;
+mod worst;
 
 use std::collections::BTreeMap;
 use std::process::ExitCode;
@@ -96,6 +97,15 @@ fn main() -> ExitCode {
         return ExitCode::from(2);
     };
     let mut tally = Tally::default();
+    for (name, image) in [
+        ("deepest", worst::deepest()),
+        ("most actions", worst::most_actions()),
+        ("accepted actions", worst::accepted_actions()),
+    ] {
+        let start = Instant::now();
+        let answer = tally.image(&image);
+        println!("{name}: {} words, answer {answer}, {:?}", image.len(), start.elapsed());
+    }
     let (mut images, mut snapshots) = (Vec::new(), Vec::new());
     for call in (seed..seed + histories).flat_map(generate::history) {
         match call {

@@ -3,3 +3,8 @@ pub mod Follows
 pub mod Cases
 pub mod PoolWords
 pub mod Keys
+pub mod Stepped
+pub mod Written
+pub mod Decoded
+pub mod Bounds
+pub mod Going

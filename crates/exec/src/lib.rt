@@ -2,12 +2,19 @@
 // the specification, on what the state means.
 pub mod actions;
 mod answers;
+mod effects;
 mod lights;
+mod lists;
+mod places;
 mod rules;
+pub mod runs;
+pub mod steps;
 mod timers;
 mod variables;
 
 use model::Effect;
+use model::Point;
+use model::Step;
 use state::Volatile;
 
 // What a run knows of its rule: name, place in the image, hold_hcl; and the trigger for the outcome.
@@ -37,4 +44,40 @@ pub struct PrimResult {
     pub effect: MaybeEffect,
     pub disables: MaybeRule,
     pub reason: u32,
+}
+
+// Where a run goes on.
+pub enum Next {
+    Ends,
+    At(Point),
+}
+
+// What one paid step did.
+pub struct StepResult {
+    pub vol: Volatile,
+    pub effect: MaybeEffect,
+    pub reason: u32,
+    pub next: Next,
+}
+
+// A step of a list, and none past its end.
+pub enum MaybeStep {
+    Nothing,
+    One(Step),
+}
+
+// A run under way: `count` effects are written, or would be.
+pub struct Run {
+    pub vol: Volatile,
+    pub point: Point,
+    pub reason: u32,
+    pub count: u32,
+    pub ended: bool,
+}
+
+// What came of a run.
+pub struct RunResult {
+    pub vol: Volatile,
+    pub reason: u32,
+    pub count: u32,
 }

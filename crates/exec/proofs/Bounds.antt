@@ -1,0 +1,97 @@
+-- A step accepts at most one continuation, and stays in its list. Assumes nothing.
+use Prim.Native.Nat.{ℕ, suc, _+_, _≤_}
+use native.Mathlib.Omega.{arith}
+use mathlib.Core.Path.{_≡_, refl, sym, ap, _∙_}
+use mathlib.Core.Bool.{Bool, true, false, cond}
+use mathlib.Core.Option.{Option, none, some}
+use lib.Dec.{eqb}
+use Rattle.model.specs.Actions as actions
+use Rattle.model.specs.Eval.{conditionAt}
+use Rattle.model.specs.Exec.{StepResult, Scheduled, afterPrim, runBranch, exec, schedule, accepted, dropped, advance, enterThen}
+use Rattle.model.specs.Lists.{orElse}
+use Rattle.model.specs.State.{Env, Volatile, isFull, strike}
+use Rattle.model.specs.Steps.{arrive, point}
+use Rattle.model.specs.declared.Jump.{Jump}
+use Rattle.model.specs.declared.Jump.the-variants.{NoJump, JumpFrom}
+use Rattle.model.specs.declared.Point.{Point}
+use Rattle.model.specs.declared.Step.{Step}
+use Rattle.model.specs.declared.Step.the-variants.{Primitive, Wait, Branch, After, Fail}
+use Rattle.state.specs.Meaning.{meaning}
+use Rattle.state.specs.declared.Volatile as state
+use Rattle.exec.specs.Paid as paid
+use Rattle.exec.specs.declared.StepResult as code
+
+-- ---- numbers
+after-next : (o : Option ℕ) (a : actions.PrimResult) (to : Point) (v : Volatile) → afterPrim o a to v .vol .next ≡ v .next
+unfolding afterPrim strike
+after-next none a to v = refl
+after-next (some q) a to v = refl
+
+schedule-next : (e : Env) (j : actions.Job) (b ms : ℕ) (sp : Point) (v : Volatile) → schedule e j b ms sp v .vol .next ≤ suc (v .next)
+unfolding schedule accepted dropped
+schedule-next e j b ms sp v = go (isFull v)
+  where
+    go : (t : Bool) → cond t (dropped v) (accepted e j b ms sp v) .vol .next ≤ suc (v .next)
+    go true = omega arith
+    go false = omega arith
+
+branch-next : (o : Option Bool) (t n : ℕ) (sp : Point) (v : Volatile) → runBranch o t n sp v .vol .next ≤ suc (v .next)
+unfolding runBranch
+branch-next (some true) t n sp v = omega arith
+branch-next (some false) t n sp v = omega arith
+branch-next none t n sp v = omega (arith, after-next none (actions.fails (v .rest)) (advance sp (t + n)) v)
+
+next-grows : (e : Env) (j : actions.Job) (b : ℕ) (sp : Point) (x : Step) (v : Volatile) → exec e j b sp x v .vol .next ≤ suc (v .next)
+unfolding exec
+next-grows e j b sp (Primitive i) v = let a = actions.primAt e j (v .rest) i in omega (arith, after-next (a .disables) a (advance sp 0) v)
+next-grows e j b sp (Wait ms) v = schedule-next e j b ms (advance sp 0) v
+next-grows e j b sp (Branch c t n) v = branch-next (conditionAt e (v .rest) c) t n sp v
+next-grows e j b sp (After ms n) v = schedule-next e j b ms (point (suc (sp .place)) 0 NoJump) v
+next-grows e j b sp Fail v = omega (arith, after-next none (actions.fails (v .rest)) (advance sp 0) v)
+
+pub accepts-one :
+    (e : Env) (j : actions.Job) (b : ℕ) (sp : Point) (x : Step) (v : state.Volatile) (d : code.StepResult) → paid.Steps v d (exec e j b sp x (meaning v))
+    → d .vol .accepted ≤ suc (v .accepted)
+unfolding meaning
+accepts-one e j b sp x v d s =
+    let g = next-grows e j b sp x (meaning v) in
+    let n = ap (λ (m : Volatile). m .next) (s .state .says) in
+    let f = s .state .based in
+    omega (arith, g, n, f)
+
+-- ---- places
+arrive-list : (n p : ℕ) (j : Jump) → arrive n p j .list ≡ n
+unfolding arrive
+arrive-list n p NoJump = refl
+arrive-list n p (JumpFrom at to) = go (eqb p at)
+  where
+    go : (t : Bool) → cond t (point n to NoJump) (point n p (JumpFrom at to)) .list ≡ n
+    go true = refl
+    go false = refl
+
+after-list : (o : Option ℕ) (a : actions.PrimResult) (to sp : Point) (v : Volatile) → to .list ≡ sp .list → orElse sp (afterPrim o a to v .next) .list ≡ sp .list
+unfolding afterPrim
+after-list none a to sp v h = h
+after-list (some q) a to sp v h = h
+
+advance-list : (sp : Point) (n : ℕ) → advance sp n .list ≡ sp .list
+advance-list sp n = arrive-list (sp .list) (suc (sp .place) + n) (sp .jump)
+
+branch-list : (o : Option Bool) (t n : ℕ) (sp : Point) (v : Volatile) → orElse sp (runBranch o t n sp v .next) .list ≡ sp .list
+unfolding runBranch
+branch-list (some true) t n sp v = arrive-list (sp .list) (suc (sp .place)) (JumpFrom (suc (sp .place) + t) (suc (sp .place) + t + n))
+branch-list (some false) t n sp v = advance-list sp t
+branch-list none t n sp v = after-list none (actions.fails (v .rest)) (advance sp (t + n)) sp v (advance-list sp (t + n))
+
+same-list : (e : Env) (j : actions.Job) (b : ℕ) (sp : Point) (x : Step) (v : Volatile) → orElse sp (exec e j b sp x v .next) .list ≡ sp .list
+unfolding exec
+same-list e j b sp (Primitive i) v = let a = actions.primAt e j (v .rest) i in after-list (a .disables) a (advance sp 0) sp v (advance-list sp 0)
+same-list e j b sp (Wait ms) v = refl
+same-list e j b sp (Branch c t n) v = branch-list (conditionAt e (v .rest) c) t n sp v
+same-list e j b sp (After ms n) v = advance-list sp n
+same-list e j b sp Fail v = after-list none (actions.fails (v .rest)) (advance sp 0) sp v (advance-list sp 0)
+
+pub keeps-list :
+    (e : Env) (j : actions.Job) (b : ℕ) (sp : Point) (x : Step) (v : state.Volatile) (d : code.StepResult) → paid.Steps v d (exec e j b sp x (meaning v))
+    → orElse sp (paid.nextOption (d .next)) .list ≡ sp .list
+keeps-list e j b sp x v d s = ap (λ (o : Option Point). orElse sp o .list) (s .next) ∙ same-list e j b sp x (meaning v)

@@ -1,0 +1,25 @@
+-- `exec::runs::turn` meets its contract. Assumes nothing.
+use native.Mathlib.Omega.{arith}
+use mathlib.Core.Path.{sym, ap, _∙_}
+use denote.Ref.{now}
+use Rattle.exec.specs.Lists.{stepOption}
+use Rattle.exec.proofs.Decoded.{found-near}
+use Rattle.exec.proofs.Going.{turn-ends, turn-steps}
+use borrow.Author.Needs.{needs}
+use Rattle.exec.proofs.runs.turn.Statement.{statement}
+use Rattle.exec.proofs.runs.turn.Tie as tie
+
+exec-requires : tie.Need-exec-requires
+exec-requires c κs =
+    let f = c .before .before .before .before .before .before .before .before .before .before .pre .0 .1 in
+    let g = found-near _ _ _ f (sym (ap stepOption (c .before .step .given .1)) ∙ c .before .before .before .step-at .ensures (f .steps) (f .words)) in
+    (c .before .before .before .before .before .before .before .before .before .before .pre .0 .0, c .before .before .before .before .before .before .before .before .before .before .pre .1 .0, c .before .before .before .before .before .before .before .before .before .before .pre .1 .1, omega (arith, g .0, g .1))
+
+returns : tie.Need-returns
+returns c = turn-ends (now (c .before .before .before .before .before .before .before .before .before .args .snapshot)) (now (c .before .before .before .before .before .before .before .before .before .args .image)) (now (c .before .before .before .before .before .before .before .before .before .args .list)) (c .before .before .before .before .before .before .before .before .before .args .job) (c .before .before .before .before .before .before .before .before .before .args .left) (c .before .before .before .before .before .before .before .before .before .args .run) _ _ (c .before .before .step-at .ensures) (c .enum-told .given .1) (c .before .before .before .before .before .before .before .before .before .pre .1 .0)
+
+returns-2 : tie.Need-returns-2
+returns-2 c = turn-steps (now (c .before .before .before .before .before .before .before .before .before .before .before .before .before .before .before .args .snapshot)) (now (c .before .before .before .before .before .before .before .before .before .before .before .before .before .before .before .args .image)) (now (c .before .before .before .before .before .before .before .before .before .before .before .before .before .before .before .args .list)) (c .before .before .before .before .before .before .before .before .before .before .before .before .before .before .before .args .job) (c .before .before .before .before .before .before .before .before .before .before .before .before .before .before .before .args .left) (c .before .before .before .before .before .before .before .before .before .before .before .before .before .before .before .args .run) _ _ (c .before .before .before .before .before .before .before .before .step-at .ensures) _ _ _ _ (c .before .before .before .before .before .before .step .given .1) (c .before .before .before .before .exec .ensures) (c .before .before .take-step .ensures)
+
+pub turn-spec : {M : Type 1} → statement M
+turn-spec = tie.close (tie.spec (λ c κs. search needs) (λ c. search needs) (λ c. search needs) exec-requires (λ c κs. search needs) returns (λ c. search needs) returns-2)

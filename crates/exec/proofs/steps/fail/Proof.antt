@@ -1,0 +1,12 @@
+-- `exec::steps::fail` meets its contract. Assumes nothing.
+use Rattle.exec.specs.Results.{jobOf}
+use Rattle.exec.proofs.Stepped.{steps-as, fail-is}
+use borrow.Author.Needs.{needs}
+use Rattle.exec.proofs.steps.fail.Statement.{statement}
+use Rattle.exec.proofs.steps.fail.Tie as tie
+
+returns : tie.Need-returns
+returns c e b = steps-as (c .after-prim .ensures _ _ (c .before .before .fails .ensures)) (fail-is e (jobOf (c .before .before .before .args .job)) b (c .before .before .before .args .sp) _ (c .before .before .before .args .v) (c .before .advance .ensures))
+
+pub fail-spec : {M : Type 1} → statement M
+fail-spec = tie.close (tie.spec (λ c κs. search needs) (λ c κs. search needs) (λ c κs. search needs) returns)

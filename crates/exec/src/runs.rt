@@ -1,0 +1,150 @@
+// `run_steps`: a run of a rule from a point on, with a budget.
+use crate::Job;
+use crate::MaybeStep;
+use crate::Next;
+use crate::Run;
+use crate::RunResult;
+use crate::StepResult;
+use crate::effects::put_effect;
+use crate::lists::list_of;
+use crate::lists::step_at;
+use crate::steps::exec;
+use model::Point;
+use state::Volatile;
+ghost use mathlib.Core.Path.{_≡_};
+ghost use Prim.Native.Nat.{_+_, _≤_, _<_};
+ghost use Rattle.words.specs.Saturating.{max32, max64};
+ghost use Rattle.model.specs.Exec.{firstReason};
+ghost use Rattle.image.specs.Sized.{Sized};
+ghost use Rattle.state.specs.Meaning.{Sound};
+ghost use Rattle.exec.specs.Lists.{FlatWords};
+ghost use Rattle.exec.specs.Runs.{Taken, Turned, Finishes, Ready, Runs};
+
+const EFFECT_BUDGET: u32 = 2;
+
+// `note_partial`: the first reason stays.
+fn first_reason(a: u32, b: u32) -> u32
+    ensures { λ r. ⌜ r ≡ firstReason a b ⌝ }
+{
+    if a == 0 { b } else { a }
+}
+
+// What a paid step did is taken over, and its effect written.
+fn take_step(run: Run, effects: &mut [u32], d: StepResult) -> Run
+    requires { ⌜ run .count < max32 ⌝ }
+    ensures { λ r. ⌜ Taken run (now (effects .entry)) d r (now (effects .exit)) ⌝ }
+{
+    let effect = d.effect;
+    let count = put_effect(effects, run.count, effect);
+    let reason = first_reason(run.reason, d.reason);
+    let vol = d.vol;
+    let next = d.next;
+    let point = run.point;
+    match next {
+        Next::Ends => Run {
+            vol,
+            point,
+            reason,
+            count,
+            ended: true,
+        },
+        Next::At(p) => Run {
+            vol,
+            point: p,
+            reason,
+            count,
+            ended: false,
+        },
+    }
+}
+
+// One turn: the step at the run's place is paid, or the list is at its end.
+fn turn(
+    snapshot: &[u32],
+    image: &[u32],
+    list: &[u32],
+    effects: &mut [u32],
+    run: Run,
+    job: Job,
+    left: u32,
+) -> Run
+    requires { ⌜ Sized (now image) × FlatWords (now list) ⌝ }
+    requires { ⌜ Sound (run .vol) × (run .vol .accepted < max64) × (run .count < max32) ⌝ }
+    ensures { λ r. ⌜ Turned (now (snapshot .entry)) (now (image .entry)) (now (list .entry)) job left run (now (effects .entry)) r (now (effects .exit)) ⌝ }
+{
+    let point = run.point;
+    let vol = run.vol;
+    match step_at(list, point.place) {
+        MaybeStep::Nothing => {
+            let mut r = run;
+            r.ended = true;
+            r
+        }
+        MaybeStep::One(step) => {
+            let d = exec(snapshot, image, vol, job, left, point, step);
+            take_step(run, effects, d)
+        }
+    }
+}
+
+// The end of a run: where a step is left and no budget for it, the reason is `EffectBudget`.
+fn finish(list: &[u32], run: Run) -> RunResult
+    requires { ⌜ Sound (run .vol) ⌝ }
+    ensures { λ r. ⌜ Finishes (now (list .entry)) run r ⌝ }
+{
+    let vol = run.vol;
+    let point = run.point;
+    if run.ended {
+        return RunResult {
+            vol,
+            reason: run.reason,
+            count: run.count,
+        };
+    }
+    match step_at(list, point.place) {
+        MaybeStep::Nothing => RunResult {
+            vol,
+            reason: run.reason,
+            count: run.count,
+        },
+        MaybeStep::One(_) => RunResult {
+            vol,
+            reason: first_reason(run.reason, EFFECT_BUDGET),
+            count: run.count,
+        },
+    }
+}
+
+pub fn run_steps(
+    snapshot: &[u32],
+    image: &[u32],
+    steps: &[u32],
+    effects: &mut [u32],
+    v: Volatile,
+    job: Job,
+    from: Point,
+    budget: u32,
+    count: u32,
+) -> RunResult
+    requires { ⌜ Sized (now image) × FlatWords (now steps) ⌝ }
+    requires { ⌜ Ready v budget count ⌝ }
+    ensures { λ r. ⌜ Runs (now (snapshot .entry)) (now (image .entry)) (now (steps .entry)) job v from budget count (now (effects .entry)) r (now (effects .exit)) ⌝ }
+{
+    let list = list_of(steps, from.list);
+    let mut run = Run {
+        vol: v,
+        point: from,
+        reason: 0,
+        count,
+        ended: false,
+    };
+    let mut left = budget;
+    while 0 < left {
+        if run.ended {
+            return finish(list, run);
+        }
+        left -= 1;
+        run = turn(snapshot, image, list, effects, run, job, left);
+    }
+    finish(list, run)
+}

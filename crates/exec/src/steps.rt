@@ -1,0 +1,170 @@
+// One paid step, by its kind: `exec`.
+use crate::Job;
+use crate::MaybeEffect;
+use crate::Next;
+use crate::PrimResult;
+use crate::StepResult;
+use crate::actions::prim_at;
+use crate::answers::fails;
+use crate::places::advance;
+use crate::places::body_start;
+use crate::places::enter_then;
+use eval::Verdict;
+use eval::conditions::condition_at;
+use model::Point;
+use model::Step;
+use state::Volatile;
+ghost use mathlib.Core.List.{List};
+ghost use Prim.Native.Nat.{ℕ, suc, _+_, _≤_, _<_};
+ghost use Rattle.words.specs.Saturating.{max32, max64};
+ghost use Rattle.model.specs.declared.Step.the-variants.{Primitive, Wait, Branch, After, Fail};
+ghost use Rattle.image.specs.Sized.{Sized};
+ghost use Rattle.state.specs.Meaning.{Sound};
+ghost use Rattle.exec.specs.Paid.{Follows, GoesOn, StepsAlways, StepsAt, StepsIn, reach};
+
+// What an action did, and the run goes on.
+fn after_prim(a: PrimResult, to: Point) -> StepResult
+    ensures { λ r. ⌜ Follows a to r ⌝ }
+{
+    let vol = a.vol;
+    let effect = a.effect;
+    StepResult {
+        vol,
+        effect,
+        reason: a.reason,
+        next: Next::At(to),
+    }
+}
+
+// Nothing happens, and the run goes on.
+fn goes_on(v: Volatile, to: Point) -> StepResult
+    requires { ⌜ Sound v ⌝ }
+    ensures { λ r. ⌜ GoesOn v to r ⌝ }
+{
+    StepResult {
+        vol: v,
+        effect: MaybeEffect::Nothing,
+        reason: 0,
+        next: Next::At(to),
+    }
+}
+
+fn primitive(
+    snapshot: &[u32],
+    image: &[u32],
+    v: Volatile,
+    job: Job,
+    sp: Point,
+    i: u32,
+) -> StepResult
+    requires { ⌜ Sized (now image) × Sound v × (suc (sp .place) ≤ max32) ⌝ }
+    ensures { λ r. ⌜ ((b : ℕ) → StepsIn (now (snapshot .entry)) (now (image .entry)) job v b sp (Primitive i) r) ⌝ }
+{
+    after_prim(prim_at(snapshot, image, v, job, i), advance(sp, 0))
+}
+
+// What follows a wait is scheduled, and the run ends: also where the continuation is dropped.
+fn wait(snapshot: &[u32], v: Volatile, job: Job, left: u32, sp: Point, ms: u32) -> StepResult
+    requires { ⌜ Sound v × (v .accepted < max64) × (suc (sp .place) ≤ max32) ⌝ }
+    ensures { λ r. ⌜ StepsAt (now (snapshot .entry)) job v left sp (Wait ms) r ⌝ }
+{
+    let to = advance(sp, 0);
+    let s = state::pending::schedule(
+        v,
+        world::now_ms(snapshot),
+        job.rule,
+        job.trigger,
+        left,
+        ms,
+        to,
+    );
+    let vol = s.vol;
+    StepResult {
+        vol,
+        effect: MaybeEffect::Nothing,
+        reason: s.reason,
+        next: Next::Ends,
+    }
+}
+
+// The body is scheduled, and the run goes on behind it: also where the continuation is dropped.
+fn after(
+    snapshot: &[u32],
+    v: Volatile,
+    job: Job,
+    left: u32,
+    sp: Point,
+    ms: u32,
+    n: u32,
+) -> StepResult
+    requires { ⌜ Sound v × (v .accepted < max64) × (suc (sp .place) + n ≤ max32) ⌝ }
+    ensures { λ r. ⌜ StepsAt (now (snapshot .entry)) job v left sp (After ms n) r ⌝ }
+{
+    let body = body_start(sp);
+    let s = state::pending::schedule(
+        v,
+        world::now_ms(snapshot),
+        job.rule,
+        job.trigger,
+        left,
+        ms,
+        body,
+    );
+    let vol = s.vol;
+    let to = advance(sp, n);
+    StepResult {
+        vol,
+        effect: MaybeEffect::Nothing,
+        reason: s.reason,
+        next: Next::At(to),
+    }
+}
+
+// A condition that cannot be evaluated skips both regions.
+fn branch(
+    snapshot: &[u32],
+    image: &[u32],
+    v: Volatile,
+    job: Job,
+    sp: Point,
+    c: u32,
+    t: u32,
+    n: u32,
+) -> StepResult
+    requires { ⌜ Sized (now image) × Sound v × (suc (sp .place) + (t + n) ≤ max32) ⌝ }
+    ensures { λ r. ⌜ ((b : ℕ) → StepsIn (now (snapshot .entry)) (now (image .entry)) job v b sp (Branch c t n) r) ⌝ }
+{
+    match condition_at(snapshot, image, v, c) {
+        Verdict::Yes => goes_on(v, enter_then(sp, t, n)),
+        Verdict::No => goes_on(v, advance(sp, t)),
+        Verdict::Unevaluable => after_prim(fails(v), advance(sp, t + n)),
+    }
+}
+
+fn fail(v: Volatile, job: Job, sp: Point) -> StepResult
+    requires { ⌜ Sound v × (suc (sp .place) ≤ max32) ⌝ }
+    ensures { λ r. ⌜ StepsAlways job v sp Fail r ⌝ }
+{
+    after_prim(fails(v), advance(sp, 0))
+}
+
+pub fn exec(
+    snapshot: &[u32],
+    image: &[u32],
+    v: Volatile,
+    job: Job,
+    left: u32,
+    sp: Point,
+    step: Step,
+) -> StepResult
+    requires { ⌜ Sized (now image) × Sound v × (v .accepted < max64) × (suc (sp .place) + reach step ≤ max32) ⌝ }
+    ensures { λ r. ⌜ StepsIn (now (snapshot .entry)) (now (image .entry)) job v left sp step r ⌝ }
+{
+    match step {
+        Step::Primitive(i) => primitive(snapshot, image, v, job, sp, i),
+        Step::Wait(ms) => wait(snapshot, v, job, left, sp, ms),
+        Step::Branch(c, t, n) => branch(snapshot, image, v, job, sp, c, t, n),
+        Step::After(ms, n) => after(snapshot, v, job, left, sp, ms, n),
+        Step::Fail => fail(v, job, sp),
+    }
+}
