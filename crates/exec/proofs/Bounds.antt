@@ -1,13 +1,13 @@
 -- A step accepts at most one continuation, and stays in its list. Assumes nothing.
 use Prim.Native.Nat.{ℕ, suc, _+_, _≤_}
 use native.Mathlib.Omega.{arith}
-use mathlib.Core.Path.{_≡_, refl, sym, ap, _∙_}
+use mathlib.Core.Path.{_≡_, refl, ap, _∙_}
 use mathlib.Core.Bool.{Bool, true, false, cond}
 use mathlib.Core.Option.{Option, none, some}
 use lib.Dec.{eqb}
 use Rattle.model.specs.Actions as actions
 use Rattle.model.specs.Eval.{conditionAt}
-use Rattle.model.specs.Exec.{StepResult, Scheduled, afterPrim, runBranch, exec, schedule, accepted, dropped, advance, enterThen}
+use Rattle.model.specs.Exec.{StepResult, afterPrim, runBranch, exec, schedule, accepted, dropped, advance}
 use Rattle.model.specs.Lists.{orElse}
 use Rattle.model.specs.State.{Env, Volatile, isFull, strike}
 use Rattle.model.specs.Steps.{arrive, point}

@@ -3,13 +3,13 @@
 use Prim.Native.Nat.{ℕ, suc, _+_, _-_, _%_, _≤_, _<_, _^_}
 use native.Mathlib.Omega.{arith}
 use native.Mathlib.Numerals.{add-one}
-use mathlib.Core.Path.{_≡_, refl, sym, ap, _∙_}
+use mathlib.Core.Path.{_≡_, refl, ap, _∙_}
 use mathlib.Core.Bool.{Bool, true, false, not, _&&_}
 use mathlib.Core.Option.{Option, none, some}
 use lib.Dec.{leb}
 use lib.IntN.{ℤ, pos, negsuc}
 use lib.ListN.{length, set}
-use borrow.Author.Tests.{eq-eqb, ne-eqb, lt-ltb, le-ltb, le-leb, lt-leb}
+use borrow.Author.Tests.{ne-eqb, lt-ltb, le-ltb, le-leb, lt-leb}
 use mir.Syntax.{w64}
 use mir.Val.{SFits}
 use Rattle.words.specs.Saturating.{saturatingAdd, max64}
@@ -19,10 +19,9 @@ use Rattle.words.specs.Signed.{signed64, bits64, saturatingAddI64}
 use Rattle.model.specs.Lists.{orElse, present}
 use Rattle.model.specs.Image.{wordAt, textLimit, groupLimit}
 use Rattle.model.specs.Rows.{pool}
-use Rattle.model.specs.Rules.{ruleNamed}
-use Rattle.model.specs.State.{Env, Rest, cyclePosAt, timerNamed, varNamed, cancelTimer, addTimer, withCyclePos, withVars, withEnabled, putVar}
+use Rattle.model.specs.State.{Env, Rest, cyclePosAt, timerNamed, varNamed, cancelTimer, addTimer, withCyclePos, withVars, putVar}
 use Rattle.model.specs.Eval.{valueAt}
-use Rattle.model.specs.Actions.{Job, PrimResult, emits, noEffect, fails, holdOr, primLight, primRecall, primApply, primCycle, cycleEffect, selects, armTimer, varSet, primVarSet, varAdd, setRuleBit, runPrim}
+use Rattle.model.specs.Actions.{Job, emits, noEffect, fails, holdOr, primLight, primRecall, primApply, primCycle, cycleEffect, selects, armTimer, varSet, primVarSet, varAdd, setRuleBit, runPrim}
 use Rattle.model.specs.declared.Action.the-variants.{Light, Recall, Apply, Cycle, PanelSelect, TimerStart, TimerRestart, TimerCancel, VarSet, VarAdd}
 use Rattle.state.specs.Named.{foundValue}
 use Rattle.state.specs.declared.variables.VarFound.{VarFound}

@@ -5,8 +5,7 @@ use native.Mathlib.Nat.{not-suc-le-zero}
 use mathlib.Core.Path.{_≡_, refl, sym, ap, _∙_}
 use mathlib.Core.Bool.{Bool, true, false, _&&_}
 use mathlib.Core.List.{List, [], _∷_, _++_}
-use mathlib.Core.Option.{Option, none, some}
-use lib.Dec.{leb}
+use mathlib.Core.Option.{none, some}
 use lib.ListN.{length, take, drop, getD, getElem?, List·getD-eq-default, length-take, length-drop}
 use borrow.Author.Tests.{leb-true}
 use Rattle.model.specs.Flat.{listIn, bodyLen}

@@ -3,13 +3,12 @@ use Prim.Native.Nat.{ℕ, zero, suc, _+_, _-_, _≤_, _<_}
 use native.Mathlib.Omega.{arith}
 use native.Mathlib.Nat.{add-assoc, add-zero}
 use mathlib.Core.Path.{_≡_, refl, sym, ap, subst, _∙_}
-use mathlib.Core.Bool.{Bool, true, false, not, cond}
-use mathlib.Core.List.{List, [], _∷_, _++_}
+use mathlib.Core.Bool.{Bool, true, false, not}
+use mathlib.Core.List.{List, [], _++_}
 use mathlib.Core.Option.{Option, none, some}
 use lib.Dec.{eqb}
 use borrow.Author.Tests.{ne-eqb}
 use lib.ListN.{length, getD, getElem?, length-append}
-use Rattle.words.specs.Saturating.{max32, max64}
 use Rattle.model.specs.Actions as actions
 use Rattle.model.specs.Exec as model
 use Rattle.model.specs.Exec.{runSteps, withStep, continueRun, exec, firstReason, ended, unpaid}
@@ -20,14 +19,14 @@ use Rattle.model.specs.State.{Env}
 use Rattle.model.specs.declared.Point.{Point}
 use Rattle.model.specs.declared.Step.{Step}
 use Rattle.flat.specs.Words.{layout}
-use Rattle.state.specs.Meaning.{Sound, Means, meaning}
+use Rattle.state.specs.Meaning.{Sound, meaning}
 use Rattle.state.specs.declared.Volatile.{Volatile}
 use Rattle.eval.specs.Answers.{envOf}
 use Rattle.exec.specs.Results.{effectOption, jobOf}
 use Rattle.exec.specs.Paid.{Steps, nextOption}
 use Rattle.exec.specs.PutEffects.{putEffects}
-use Rattle.exec.specs.Lists.{StepAt, stepOption, FlatWords, ListOf}
-use Rattle.exec.specs.Runs.{Machine, machine, Finished, finished, finish, takeStep, turnWith, turnOf, leftOf, Taken, Turned, Finishes, Ready, Runs}
+use Rattle.exec.specs.Lists.{StepAt, stepOption, ListOf}
+use Rattle.exec.specs.Runs.{Machine, machine, Finished, finished, finish, takeStep, turnWith, turnOf, leftOf, Taken, Turned, Finishes, Runs}
 use Rattle.exec.specs.declared.Job.{Job}
 use Rattle.exec.specs.declared.MaybeStep.{MaybeStep}
 use Rattle.exec.specs.declared.MaybeStep.the-variants.{Nothing, One}
@@ -46,11 +45,11 @@ some-reason a = ne-eqb (suc a) 0 (differs a)
     differs : (a : ℕ) → suc a ≡ 0 → ⊥
     differs a h = omega arith
 
-reason-none : (a : ℕ) → firstReason a 0 ≡ a
+pub reason-none : (a : ℕ) → firstReason a 0 ≡ a
 reason-none zero = refl
 reason-none (suc a) = rw (some-reason a)
 
-reason-assoc : (a b c : ℕ) → firstReason a (firstReason b c) ≡ firstReason (firstReason a b) c
+pub reason-assoc : (a b c : ℕ) → firstReason a (firstReason b c) ≡ firstReason (firstReason a b) c
 reason-assoc zero b c = refl
 reason-assoc (suc a) b c = simp (some-reason a)
 

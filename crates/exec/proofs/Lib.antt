@@ -8,3 +8,7 @@ pub mod Written
 pub mod Decoded
 pub mod Bounds
 pub mod Going
+pub mod DryLaws
+pub mod DryQueue
+pub mod DryGoing
+pub mod DryShape

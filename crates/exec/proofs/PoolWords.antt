@@ -1,5 +1,5 @@
 -- The place of a Cycle in its list, and its pool word: past the end of the image it is 0, however far past. Assumes nothing.
-use Prim.Native.Nat.{ℕ, _+_, _*_, _%_, _≤_, _<_}
+use Prim.Native.Nat.{ℕ, _+_, _%_, _≤_, _<_}
 use mathlib.Core.Bool.{true, false}
 use mathlib.Core.Option.{Option}
 use Rattle.model.specs.Lists.{orElse}
@@ -8,12 +8,12 @@ use Rattle.state.specs.declared.OptionU32.{OptionU32}
 use native.Mathlib.Omega.{arith}
 use native.Mathlib.Decide.{decLe}
 use native.Mathlib.Nat.{mod-lt, zero-mod}
-use mathlib.Core.Path.{_≡_, refl, sym, ap, _∙_}
+use mathlib.Core.Path.{_≡_, sym, ap, _∙_}
 use mathlib.Core.List.{List}
-use lib.ListN.{length, getD, List·getD-eq-default}
+use lib.ListN.{length, List·getD-eq-default}
 use Rattle.words.specs.Saturating.{saturatingAdd, max32}
 use Rattle.words.proofs.Laws.{add-within, add-beyond}
-use Rattle.model.specs.Image.{wordAt, widthOf, firstOf}
+use Rattle.model.specs.Image.{wordAt, widthOf}
 use Rattle.model.specs.Rows.{pool}
 
 past : (img : List ℕ) (i : ℕ) → length img ≤ i → wordAt img pool i 0 ≡ 0

@@ -5,7 +5,7 @@ use native.Mathlib.Numerals.{add-one}
 use borrow.Author.Tests.{eq-eqb, ne-eqb}
 use Rattle.words.specs.Saturating.{max32}
 use native.Mathlib.Omega.{arith}
-use mathlib.Core.Path.{_≡_, refl, sym, ap, subst, _∙_}
+use mathlib.Core.Path.{_≡_, refl, ap, subst, _∙_}
 use mathlib.Core.Bool.{true, false}
 use mathlib.Core.Option.{Option, none, some}
 use Rattle.model.specs.Actions as actions
@@ -23,7 +23,7 @@ use Rattle.model.specs.declared.Step.the-variants.{Primitive, Wait, Branch, Aft
 use Rattle.state.specs.Meaning.{Means, meaning}
 use Rattle.state.specs.declared.Volatile.{Volatile}
 use Rattle.exec.specs.Results.{Does}
-use Rattle.exec.specs.Paid.{Steps, nextOption, reach}
+use Rattle.exec.specs.Paid.{Steps, reach}
 use Rattle.exec.specs.declared.MaybeEffect.the-variants.{Nothing}
 use Rattle.exec.specs.declared.Next.the-variants.{Ends, At}
 use Rattle.exec.specs.declared.PrimResult.{PrimResult}

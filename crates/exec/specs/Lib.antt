@@ -4,3 +4,4 @@ pub mod Paid
 pub mod PutEffects
 pub mod Lists
 pub mod Runs
+pub mod DryRuns

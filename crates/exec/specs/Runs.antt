@@ -4,7 +4,7 @@ use mathlib.Core.Path.{_≡_}
 use mathlib.Core.Bool.{Bool, true, false, not}
 use mathlib.Core.List.{List, []}
 use mathlib.Core.Option.{Option, none, some}
-use lib.ListN.{length, getD, getElem?}
+use lib.ListN.{length, getD}
 use Rattle.words.specs.Saturating.{max32, max64}
 use Rattle.model.specs.Exec as model
 use Rattle.model.specs.Actions as actions

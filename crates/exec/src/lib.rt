@@ -2,6 +2,7 @@
 // the specification, on what the state means.
 pub mod actions;
 mod answers;
+pub mod dry;
 mod effects;
 mod lights;
 mod lists;
@@ -80,4 +81,16 @@ pub struct RunResult {
     pub vol: Volatile,
     pub reason: u32,
     pub count: u32,
+}
+
+// A dry run under way. `bodies` has, from `first` up to `queued`, the lists of the bodies that are still to come.
+pub struct DryRun {
+    pub vol: Volatile,
+    pub point: Point,
+    pub bodies: [u32; 256],
+    pub first: usize,
+    pub queued: usize,
+    pub reason: u32,
+    pub count: u32,
+    pub ended: bool,
 }

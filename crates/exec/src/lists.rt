@@ -2,12 +2,7 @@
 use crate::MaybeStep;
 use model::Step;
 ghost use mathlib.Core.Path.{_≡_};
-ghost use mathlib.Core.List.{List};
-ghost use Prim.Native.Nat.{ℕ};
-ghost use lib.ListN.{getElem?};
-ghost use Rattle.model.specs.Flat.{listIn};
-ghost use Rattle.flat.specs.Words.{layout};
-ghost use Rattle.exec.specs.Lists.{decoded, stepOption, StepAt, ListOf};
+ghost use Rattle.exec.specs.Lists.{decoded, StepAt, ListOf};
 
 fn decode(kind: u32, a: u32, b: u32, c: u32) -> Step
     ensures { λ r. ⌜ r ≡ decoded kind a b c ⌝ }

@@ -12,7 +12,7 @@ use crate::steps::exec;
 use model::Point;
 use state::Volatile;
 ghost use mathlib.Core.Path.{_≡_};
-ghost use Prim.Native.Nat.{_+_, _≤_, _<_};
+ghost use Prim.Native.Nat.{_<_};
 ghost use Rattle.words.specs.Saturating.{max32, max64};
 ghost use Rattle.model.specs.Exec.{firstReason};
 ghost use Rattle.image.specs.Sized.{Sized};
@@ -23,7 +23,7 @@ ghost use Rattle.exec.specs.Runs.{Taken, Turned, Finishes, Ready, Runs};
 const EFFECT_BUDGET: u32 = 2;
 
 // `note_partial`: the first reason stays.
-fn first_reason(a: u32, b: u32) -> u32
+pub fn first_reason(a: u32, b: u32) -> u32
     ensures { λ r. ⌜ r ≡ firstReason a b ⌝ }
 {
     if a == 0 { b } else { a }

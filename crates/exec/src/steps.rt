@@ -14,7 +14,6 @@ use eval::conditions::condition_at;
 use model::Point;
 use model::Step;
 use state::Volatile;
-ghost use mathlib.Core.List.{List};
 ghost use Prim.Native.Nat.{ℕ, suc, _+_, _≤_, _<_};
 ghost use Rattle.words.specs.Saturating.{max32, max64};
 ghost use Rattle.model.specs.declared.Step.the-variants.{Primitive, Wait, Branch, After, Fail};
@@ -37,7 +36,7 @@ fn after_prim(a: PrimResult, to: Point) -> StepResult
 }
 
 // Nothing happens, and the run goes on.
-fn goes_on(v: Volatile, to: Point) -> StepResult
+pub fn goes_on(v: Volatile, to: Point) -> StepResult
     requires { ⌜ Sound v ⌝ }
     ensures { λ r. ⌜ GoesOn v to r ⌝ }
 {
@@ -49,7 +48,7 @@ fn goes_on(v: Volatile, to: Point) -> StepResult
     }
 }
 
-fn primitive(
+pub fn primitive(
     snapshot: &[u32],
     image: &[u32],
     v: Volatile,
@@ -121,7 +120,7 @@ fn after(
 }
 
 // A condition that cannot be evaluated skips both regions.
-fn branch(
+pub fn branch(
     snapshot: &[u32],
     image: &[u32],
     v: Volatile,
@@ -141,7 +140,7 @@ fn branch(
     }
 }
 
-fn fail(v: Volatile, job: Job, sp: Point) -> StepResult
+pub fn fail(v: Volatile, job: Job, sp: Point) -> StepResult
     requires { ⌜ Sound v × (suc (sp .place) ≤ max32) ⌝ }
     ensures { λ r. ⌜ StepsAlways job v sp Fail r ⌝ }
 {

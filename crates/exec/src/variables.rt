@@ -12,10 +12,9 @@ use state::variables::VarFound;
 ghost use mathlib.Core.List.{List};
 ghost use mathlib.Core.Option.{some};
 ghost use Prim.Native.Nat.{ℕ};
-ghost use Rattle.model.specs.State.{varNamed};
 ghost use Rattle.model.specs.declared.Action.the-variants.{VarSet, VarAdd, PanelSelect};
 ghost use Rattle.image.specs.Sized.{Sized};
-ghost use Rattle.state.specs.Meaning.{Sound, meaning};
+ghost use Rattle.state.specs.Meaning.{Sound};
 ghost use Rattle.state.specs.Named.{foundValue};
 ghost use Rattle.exec.specs.Results.{PerformsIn, Assigns, Adds, Selects};
 

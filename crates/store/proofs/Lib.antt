@@ -8,3 +8,8 @@ pub mod Whole
 pub mod Groups
 pub mod Stored
 pub mod New
+pub mod Rules
+pub mod LoadWords
+pub mod StepPlaces
+pub mod RuleSteps
+pub mod RecordRules

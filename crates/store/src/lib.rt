@@ -7,6 +7,11 @@ ghost use Rattle.model.specs.Layout.{partsFit};
 ghost use Rattle.model.specs.Parts.{layout};
 
 mod cells;
+pub mod checks;
+pub mod flat_part;
+pub mod load;
+pub mod pending;
+pub mod points;
 mod put;
 mod put_tables;
 mod read_tables;

@@ -4,8 +4,6 @@ use mathlib.Core.List.{_++_}
 use Rattle.model.specs.Lists.{upFrom}
 use Rattle.exec.proofs.Keys.{least}
 use Rattle.model.specs.Actions.{runPrim}
-use denote.Ref.{now}
-use Rattle.eval.specs.Answers.{envOf}
 use borrow.Author.Needs.{needs}
 use Rattle.exec.proofs.actions.run_input.Statement.{statement}
 use Rattle.exec.proofs.actions.run_input.Tie as tie

@@ -1,6 +1,5 @@
 -- `exec::actions::run_variable` meets its contract: one callee for each kind. Assumes nothing.
-use Prim.Native.Nat.{suc, _≤_}
-use native.Mathlib.Omega.{arith}
+use Prim.Native.Nat.{suc}
 use mathlib.Core.Path.{refl}
 use Rattle.exec.specs.Results.{kindOf}
 use Rattle.exec.proofs.Keys.{least, below}

@@ -1,6 +1,4 @@
 -- `exec::lights::cycle_place` meets its contract. Assumes nothing.
-use native.Mathlib.Omega.{arith}
-use mathlib.Core.Path.{_≡_, refl, ap}
 use Rattle.exec.proofs.PoolWords.{place-some, place-none}
 use borrow.Author.Needs.{needs}
 use Rattle.exec.proofs.lights.cycle_place.Statement.{statement}

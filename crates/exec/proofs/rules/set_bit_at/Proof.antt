@@ -1,7 +1,7 @@
 -- `exec::rules::set_bit_at` meets its contract. Assumes nothing.
 use mathlib.Core.Path.{refl}
 use Rattle.model.specs.Actions.{noEffect}
-use Rattle.exec.proofs.Follows.{answers, follows}
+use Rattle.exec.proofs.Follows.{follows}
 use borrow.Author.Needs.{needs}
 use Rattle.exec.proofs.rules.set_bit_at.Statement.{statement}
 use Rattle.exec.proofs.rules.set_bit_at.Tie as tie

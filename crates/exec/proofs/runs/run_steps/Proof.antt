@@ -2,7 +2,6 @@
 use native.Mathlib.Omega.{arith}
 use mathlib.Core.Path.{refl}
 use denote.Ref.{now}
-use Rattle.exec.specs.Results.{jobOf}
 use Rattle.exec.proofs.Decoded.{flat-list}
 use Rattle.exec.proofs.Going.{Going, again, ends, spent-ended, spent-budget}
 use borrow.Author.Needs.{needs}

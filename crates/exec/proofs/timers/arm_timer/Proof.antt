@@ -1,5 +1,5 @@
 -- `exec::timers::arm_timer` meets its contract. Assumes nothing.
-use mathlib.Core.Path.{_≡_, sym, ap, subst, _∙_}
+use mathlib.Core.Path.{sym, _∙_}
 use Rattle.model.specs.Actions.{noEffect}
 use Rattle.exec.proofs.Follows.{answers, follows}
 use Rattle.exec.proofs.Cases.{arm-dry, arm-full, arm-wet}

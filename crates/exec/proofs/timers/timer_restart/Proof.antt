@@ -1,6 +1,5 @@
 -- `exec::timers::timer_restart` meets its contract. Assumes nothing.
 use Rattle.model.specs.Actions.{armTimer}
-use Rattle.model.specs.State.{cancelTimer}
 use Rattle.state.specs.Meaning.{meaning}
 use Rattle.eval.specs.Answers.{envOf}
 use Rattle.exec.specs.Results.{jobOf}

@@ -1,0 +1,219 @@
+// `run_steps`, dry: a wait waits for nothing, and an after's body goes behind all that is queued. Continuations are not touched.
+use crate::DryRun;
+use crate::Job;
+use crate::MaybeStep;
+use crate::Next;
+use crate::RunResult;
+use crate::StepResult;
+use crate::effects::put_effect;
+use crate::lists::list_of;
+use crate::lists::step_at;
+use crate::places::advance;
+use crate::runs::first_reason;
+use crate::steps;
+use model::Jump;
+use model::Point;
+use model::Step;
+use state::Volatile;
+ghost use mathlib.Core.Path.{_≡_};
+ghost use mathlib.Core.Bool.{true};
+ghost use Prim.Native.Nat.{suc, _+_, _≤_, _<_};
+ghost use Rattle.words.specs.Saturating.{max32};
+ghost use Rattle.image.specs.Sized.{Sized};
+ghost use Rattle.state.specs.Meaning.{Sound};
+ghost use Rattle.exec.specs.Lists.{FlatWords};
+ghost use Rattle.exec.specs.Paid.{reach};
+ghost use Rattle.exec.specs.DryRuns.{DryStepsIn, Queues, HasStep, Moved, DryTaken, DryTurned, DryFinishes, DryReady, RunsDry};
+
+const EFFECT_BUDGET: u32 = 2;
+
+fn exec_dry(
+    snapshot: &[u32],
+    image: &[u32],
+    v: Volatile,
+    job: Job,
+    sp: Point,
+    step: Step,
+) -> StepResult
+    requires { ⌜ Sized (now image) × Sound v × (job .dry ≡ true) × (suc (sp .place) + reach step ≤ max32) ⌝ }
+    ensures { λ r. ⌜ DryStepsIn (now (snapshot .entry)) (now (image .entry)) job v sp step r ⌝ }
+{
+    match step {
+        Step::Primitive(i) => steps::primitive(snapshot, image, v, job, sp, i),
+        Step::Wait(_) => steps::goes_on(v, advance(sp, 0)),
+        Step::Branch(c, t, n) => steps::branch(snapshot, image, v, job, sp, c, t, n),
+        Step::After(_, n) => steps::goes_on(v, advance(sp, n)),
+        Step::Fail => steps::fail(v, job, sp),
+    }
+}
+
+// The body of an after goes behind all that is queued.
+fn queue_body(run: DryRun, step: Step) -> DryRun
+    requires { ⌜ (run .first ≤ run .queued) × (run .queued < 256) × (suc (run .point .place) ≤ max32) ⌝ }
+    ensures { λ r. ⌜ Queues run step r ⌝ }
+{
+    match step {
+        Step::After(_, _) => {
+            let mut r = run;
+            let point = r.point;
+            let k = r.queued;
+            r.bodies[k] = point.place + 1;
+            r.queued = k + 1;
+            r
+        }
+        _ => run,
+    }
+}
+
+fn has_step(rule: &[u32], point: Point) -> bool
+    ensures { λ r. ⌜ HasStep (now (rule .entry)) point r ⌝ }
+{
+    let list = list_of(rule, point.list);
+    match step_at(list, point.place) {
+        MaybeStep::Nothing => false,
+        MaybeStep::One(_) => true,
+    }
+}
+
+// Where a list is at its end, the next body that has a step is begun.
+fn next_list(rule: &[u32], run: DryRun) -> DryRun
+    requires { ⌜ (run .first ≤ run .queued) × (run .queued ≤ 256) ⌝ }
+    ensures { λ r. ⌜ Moved (now (rule .entry)) run r ⌝ }
+{
+    let mut r = run;
+    while r.first < r.queued {
+        let point = r.point;
+        if has_step(rule, point) {
+            return r;
+        }
+        let k = r.first;
+        let list = r.bodies[k];
+        let p = Point {
+            list,
+            place: 0,
+            jump: Jump::NoJump,
+        };
+        r.point = p;
+        r.first = k + 1;
+    }
+    r
+}
+
+fn take_dry(run: DryRun, effects: &mut [u32], d: StepResult) -> DryRun
+    requires { ⌜ run .count < max32 ⌝ }
+    ensures { λ r. ⌜ DryTaken run (now (effects .entry)) d r (now (effects .exit)) ⌝ }
+{
+    let effect = d.effect;
+    let count = put_effect(effects, run.count, effect);
+    let reason = first_reason(run.reason, d.reason);
+    let vol = d.vol;
+    let next = d.next;
+    let mut r = run;
+    r.vol = vol;
+    r.count = count;
+    r.reason = reason;
+    match next {
+        Next::Ends => r,
+        Next::At(p) => {
+            r.point = p;
+            r
+        }
+    }
+}
+
+// One turn: the next step is paid, or none is left.
+fn turn_dry(
+    snapshot: &[u32],
+    image: &[u32],
+    rule: &[u32],
+    effects: &mut [u32],
+    run: DryRun,
+    job: Job,
+) -> DryRun
+    requires { ⌜ Sized (now image) × FlatWords (now rule) × (job .dry ≡ true) ⌝ }
+    requires { ⌜ Sound (run .vol) × (run .count < max32) × (run .first ≤ run .queued) × (run .queued < 256) ⌝ }
+    ensures { λ r. ⌜ DryTurned (now (snapshot .entry)) (now (image .entry)) (now (rule .entry)) job run (now (effects .entry)) r (now (effects .exit)) ⌝ }
+{
+    let r = next_list(rule, run);
+    let point = r.point;
+    let vol = r.vol;
+    let list = list_of(rule, point.list);
+    match step_at(list, point.place) {
+        MaybeStep::Nothing => {
+            let mut q = r;
+            q.ended = true;
+            q
+        }
+        MaybeStep::One(step) => {
+            let d = exec_dry(snapshot, image, vol, job, point, step);
+            let q = queue_body(r, step);
+            take_dry(q, effects, d)
+        }
+    }
+}
+
+// The end of a run: where a step is left and no budget for it, the reason is `EffectBudget`.
+fn finish_dry(rule: &[u32], run: DryRun) -> RunResult
+    requires { ⌜ (run .first ≤ run .queued) × (run .queued ≤ 256) ⌝ }
+    ensures { λ r. ⌜ DryFinishes (now (rule .entry)) run r ⌝ }
+{
+    let vol = run.vol;
+    if run.ended {
+        return RunResult {
+            vol,
+            reason: run.reason,
+            count: run.count,
+        };
+    }
+    let r = next_list(rule, run);
+    let point = r.point;
+    if has_step(rule, point) {
+        return RunResult {
+            vol,
+            reason: first_reason(run.reason, EFFECT_BUDGET),
+            count: run.count,
+        };
+    }
+    RunResult {
+        vol,
+        reason: run.reason,
+        count: run.count,
+    }
+}
+
+// A run of a rule from a point on, with a budget and no body queued yet.
+pub fn run_steps_dry(
+    snapshot: &[u32],
+    image: &[u32],
+    rule: &[u32],
+    effects: &mut [u32],
+    v: Volatile,
+    job: Job,
+    from: Point,
+    budget: u32,
+    count: u32,
+) -> RunResult
+    requires { ⌜ Sized (now image) × FlatWords (now rule) × (job .dry ≡ true) ⌝ }
+    requires { ⌜ DryReady v budget count ⌝ }
+    ensures { λ r. ⌜ RunsDry (now (snapshot .entry)) (now (image .entry)) (now (rule .entry)) job v from budget count (now (effects .entry)) r (now (effects .exit)) ⌝ }
+{
+    let mut run = DryRun {
+        vol: v,
+        point: from,
+        bodies: [0; 256],
+        first: 0,
+        queued: 0,
+        reason: 0,
+        count,
+        ended: false,
+    };
+    let mut left = budget;
+    while 0 < left {
+        if run.ended {
+            return finish_dry(rule, run);
+        }
+        left -= 1;
+        run = turn_dry(snapshot, image, rule, effects, run, job);
+    }
+    finish_dry(rule, run)
+}
