@@ -13,3 +13,4 @@ pub mod LoadWords
 pub mod StepPlaces
 pub mod RuleSteps
 pub mod RecordRules
+pub mod LoadedSet

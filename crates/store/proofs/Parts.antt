@@ -1,20 +1,22 @@
 -- Where each part of a store stands, and what the layout says of its numbers. Assumes nothing.
 use mathlib.Core.Path.{_≡_, refl, sym, ap, _∙_}
 use mathlib.Core.Bool.{Bool, true, _&&_}
-use mathlib.Core.List.{List}
-use Prim.Native.Nat.{ℕ, _+_, _≤_, _^_}
+use mathlib.Core.List.{List, [], _∷_}
+use Prim.Native.Nat.{ℕ, zero, suc, _+_, _-_, _≤_, _<_, _^_}
+use native.Mathlib.Nat.{le-of-suc-le-suc, not-suc-le-zero}
 use native.Mathlib.Omega.{arith}
 use lib.Dec.{leb, ltb, eqb}
-use lib.ListN.{length, getD, drop}
+use lib.ListN.{length, getD, take, drop, length-drop}
 use lib.Seq.{drop-drop, getD-drop}
 use borrow.Author.Tests.{leb-true}
 use Rattle.model.specs.Layout.{sizes, partsFit}
 use Rattle.model.specs.Codec.{Row, word, wide, maybe, rowsAt, allGood}
-use Rattle.model.specs.Parts.{any, bit, variableRow, timerRow, slotRow, pendingRow, Changing, loadedPart, changingPart, layout}
+use Rattle.model.specs.Parts.{any, bit, listRow, stepRow, variableRow, timerRow, slotRow, pendingRow, Loaded, Changing, loadedPart, changingPart, layout}
 use Rattle.model.proofs.Bools.{both}
 use Rattle.model.proofs.RowLaws.{RowLaws, rows-count}
-use Rattle.model.proofs.PartsLaws.{variable-laws, timer-laws, slot-laws, pending-laws, layout-laws}
+use Rattle.model.proofs.PartsLaws.{any-laws, step-laws, variable-laws, timer-laws, slot-laws, pending-laws, layout-laws}
 use Rattle.store.specs.Places.{rowAt, tableAt}
+use Rattle.store.specs.Set.{loadedIn}
 use Rattle.store.specs.Volatile.{changingIn, Readable}
 
 -- PLACES ------------------------------------------------------------------------------------------------------------------------------
@@ -88,6 +90,22 @@ module _ (w : List ℕ) where
   unfolding rowAt tableAt
   counted-at r v k e = ap (λ (x : List ℕ). rowsAt r (getD x 0 0) (drop 1 x)) e ∙ ap (rowsAt r (getD (drop k w) 0 0)) (drop-drop 1 k w)
 
+  pub loaded-at : loadedIn w .loaded ≡ rowAt any w 2
+  unfolding loadedIn layout loadedPart sizes rowAt
+  loaded-at = refl
+
+  pub image-at : loadedIn w .image ≡ tableAt any (rowAt any w 3) w 4
+  unfolding loadedIn layout loadedPart sizes
+  image-at = counted-at any (drop 1 (drop 2 w)) 3 (drop-drop 1 2 w)
+
+  pub lists-at : loadedIn w .lists ≡ tableAt listRow 64 w 4100
+  unfolding loadedIn layout loadedPart sizes tableAt
+  lists-at = ap (rowsAt listRow 64) (next (drop 1 (drop 2 w)) 4097 3 (drop-drop 1 2 w))
+
+  pub steps-at : loadedIn w .steps ≡ tableAt stepRow (rowAt any w 4228) w 4229
+  unfolding loadedIn layout loadedPart sizes
+  steps-at = counted-at stepRow (drop 128 (drop 4097 (drop 1 (drop 2 w)))) 4228 (next (drop 4097 (drop 1 (drop 2 w))) 128 4100 (next (drop 1 (drop 2 w)) 4097 3 (drop-drop 1 2 w)))
+
   pub bits-at : changingIn w .bits ≡ tableAt bit 64 w 12421
   unfolding changingIn layout loadedPart changingPart sizes tableAt
   bits-at = ap (rowsAt bit 64) at₁
@@ -153,6 +171,31 @@ few m g =
       pending = leb-true _ _ (both (leb (length (m .pending)) 32) (allGood pendingRow (m .pending)) p .0);
     }
 
+-- the same of the set
+pub record FewLoaded (l : Loaded) : Type 0 where
+  pub mark : l .loaded ≤ 1
+  pub image : length (l .image) ≤ 4096
+  pub steps : length (l .steps) ≤ 2048
+
+few-loaded : (l : Loaded) → loadedPart .good l ≡ true → FewLoaded l
+unfolding loadedPart
+few-loaded l g =
+    let (m, a) = both (leb (l .loaded) 1) _ g in
+    let (i, b) = both (leb (length (l .image)) 4096 && allGood any (l .image)) _ a in
+    let (_, s) = both (eqb (length (l .lists)) 64 && allGood listRow (l .lists)) _ b in
+    record {
+      mark = leb-true _ _ m;
+      image = leb-true _ _ (both (leb (length (l .image)) 4096) (allGood any (l .image)) i .0);
+      steps = leb-true _ _ (both (leb (length (l .steps)) 2048) (allGood stepRow (l .steps)) s .0);
+    }
+
+good-loaded : (w : List ℕ) → partsFit (layout .parts) w ≡ true → loadedPart .good (loadedIn w) ≡ true
+unfolding layout loadedIn
+good-loaded w f =
+    let g = layout-laws .writes w f .1 in
+    let p = layout .get w in
+    both (loadedPart .good (p .set)) _ (both (ltb (p .last) (2 ^ 64)) _ g .1) .0
+
 good-changing : (w : List ℕ) → partsFit (layout .parts) w ≡ true → changingPart .good (changingIn w) ≡ true
 unfolding layout changingIn
 good-changing w f =
@@ -179,3 +222,45 @@ counted w r =
     let s = ap length (slots-at w) ∙ table-long slotRow slot-laws (rowAt any w 12919) w 12920 in
     let p = ap length (pending-at w) ∙ table-long pendingRow pending-laws (rowAt any w 13240) w 13241 in
     record { variables = omega arith; timers = omega arith; slots = omega arith; pending = omega arith }
+
+pub record CountedSet (w : List ℕ) : Type 0 where
+  pub mark : rowAt any w 2 ≤ 1
+  pub image : rowAt any w 3 ≤ 4096
+  pub steps : rowAt any w 4228 ≤ 2048
+
+pub counted-set : (w : List ℕ) → Readable w → CountedSet w
+counted-set w r =
+    let f = few-loaded (loadedIn w) (good-loaded w (r .fit)) in
+    let m = loaded-at w in
+    let i = ap length (image-at w) ∙ table-long any any-laws (rowAt any w 3) w 4 in
+    let s = ap length (steps-at w) ∙ table-long stepRow step-laws (rowAt any w 4228) w 4229 in
+    let a = f .mark in
+    let b = f .image in
+    let c = f .steps in
+    record { mark = omega arith; image = omega arith; steps = omega arith }
+
+-- THE IMAGE ---------------------------------------------------------------------------------------------------------------------------
+any-rows : (n : ℕ) (v : List ℕ) → n ≤ length v → rowsAt any n v ≡ take n v
+unfolding rowsAt
+any-rows zero v h = refl
+any-rows (suc n) [] h = absurd (not-suc-le-zero h)
+any-rows (suc n) (x ∷ v) h = ap (λ (l : List ℕ). x ∷ l) (any-rows n v (le-of-suc-le-suc h))
+
+-- a table of words
+pub words-at : (n : ℕ) (w : List ℕ) (k : ℕ) → k + n ≤ length w → tableAt any n w k ≡ take n (drop k w)
+unfolding tableAt
+words-at n w k h = any-rows n (drop k w) (omega (arith, length-drop k w))
+
+module _ (w : List ℕ) (r : Readable w) (n to : ℕ) (e : n ≡ rowAt any w 3) (o : to ≡ 4 + n) where
+  pub image-part : take (to - 4) (drop 4 w) ≡ loadedIn w .image
+  image-part =
+      let c = counted-set w r .image in
+      let l = r .long in
+      let m : to - 4 ≡ rowAt any w 3 = omega arith in
+      ap (λ (k : ℕ). take k (drop 4 w)) m ∙ sym (words-at (rowAt any w 3) w 4 (omega arith)) ∙ sym (image-at w)
+
+  pub image-inside : length w < to → ⊥
+  image-inside h =
+      let c = counted-set w r .image in
+      let l = r .long in
+      omega arith

@@ -8,12 +8,17 @@ ghost use Rattle.model.specs.Codec.{wide};
 ghost use Rattle.model.specs.Parts.{loadedPart};
 ghost use Rattle.model.specs.Store.{loadedOf, write};
 ghost use Rattle.model.specs.Calls.{fresh};
+ghost use Rattle.model.specs.World.{isOne};
 ghost use Rattle.store.specs.Places.{rowAt, laid};
+ghost use Rattle.store.specs.Set.{loadedIn};
+ghost use Rattle.store.specs.Volatile.{Readable};
 
 // The words of the set: the loaded word, the image, the lists and the flat steps.
 const SET: usize = 2;
 
 const SET_WORDS: usize = 12419;
+
+const IMAGE: usize = 3;
 
 const NEXT: usize = 13691;
 
@@ -22,6 +27,25 @@ pub fn last_at(store: &[u32]) -> u64
     ensures { λ r. ⌜ r ≡ rowAt wide (now (store .entry)) 0 ⌝ }
 {
     rows::wide_at(store, 0)
+}
+
+// Whether a set is loaded.
+pub fn is_loaded(store: &[u32]) -> bool
+    ensures { λ r. ⌜ r ≡ isOne (loadedIn (now (store .entry)) .loaded) ⌝ }
+{
+    rows::word_at(store, SET) == 1
+}
+
+// The words of the loaded image; none where the store has not so many.
+pub fn image_in(store: &[u32]) -> &[u32]
+    ensures { λ r. ⌜ (Readable (now (store .entry)) → now r ≡ loadedIn (now (store .entry)) .image) ⌝ }
+{
+    let from = IMAGE + 1;
+    let to = from + rows::word_at(store, IMAGE) as usize;
+    if store.len() < to {
+        return &store[0..0];
+    }
+    &store[from..to]
 }
 
 pub fn put_last(store: &mut [u32], time: u64)

@@ -1,0 +1,3 @@
+-- What the contracts of `wheel` cite.
+pub mod Wall
+pub mod Deadline
