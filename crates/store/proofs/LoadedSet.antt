@@ -1,14 +1,13 @@
 -- The loaded set of a store that is read: its words, and what load's acceptance says of it. Assumes nothing.
-use mathlib.Core.Path.{_≡_, refl, sym, ap, _∙_}
-use mathlib.Core.Bool.{Bool, true, false, _&&_, cond}
-use mathlib.Core.List.{List, map}
+use mathlib.Core.Path.{_≡_, refl, sym, ap, subst, _∙_}
+use mathlib.Core.Bool.{Bool, true, false, cond}
+use mathlib.Core.List.{List}
 use mathlib.Core.Option.{Option, none, some, Option·none-ne-some, Option·some-injective}
 use Prim.Native.Nat.{ℕ, _≤_}
 use native.Mathlib.Omega.{arith}
 use lib.ListN.{length, length-map}
 use borrow.Author.Tests.{eqb-true}
-use Rattle.model.specs.declared.Step.{Step}
-use Rattle.model.specs.Lists.{flatten, present}
+use Rattle.model.specs.Lists.{present}
 use Rattle.model.specs.Image.{sizeOf}
 use Rattle.model.specs.Rows.{rules}
 use Rattle.model.specs.World.{isOne}
@@ -24,7 +23,7 @@ use Rattle.flat.specs.Load.{stepLists}
 use Rattle.flat.proofs.FlatPart.{rules-length}
 use Rattle.flat.proofs.Counts.{few-stored}
 use Rattle.store.specs.Set.{loadedIn}
-use Rattle.store.specs.FlatPart.{FlatPart, Kept}
+use Rattle.store.specs.FlatPart.{Kept}
 use Rattle.store.proofs.Parts.{lists-at, steps-at}
 use Rattle.store.proofs.Stored.{ReadsAs}
 use Rattle.store.proofs.LoadWords.{Loads, loads}
@@ -34,33 +33,24 @@ marked : (o : Option RuleSet) → isOne (loadedOf o .loaded) ≡ present o
 marked none = refl
 marked (some set) = refl
 
--- the lists of the flat form
-flat-is : (img : List ℕ) → setOf img (flattenRules img) .flat ≡ stepLists (flattenRules img)
-unfolding setOf
-flat-is img = refl
-
-image-is : (img : List ℕ) (fs : List Flattened) → setOf img fs .image ≡ img
-unfolding setOf
-image-is img fs = refl
-
 -- words that hold the flat form of an accepted image keep its set
-pub kept-form : (w : List ℕ) (set : RuleSet) → length w ≡ 16384 → loadedIn w ≡ loadedOf (some set) → set ≡ setOf (set .image) (flattenRules (set .image)) → imageRefusal (set .image) ≡ 0 → Kept w (set .image) set
-kept-form w set long e f r =
-    let img = set .image in
+pub kept-form : (w img : List ℕ) → length w ≡ 16384 → imageRefusal img ≡ 0
+    → loadedIn w .lists ≡ loadedOf (some (setOf img (flattenRules img))) .lists → loadedIn w .steps ≡ loadedOf (some (setOf img (flattenRules img))) .steps
+    → Kept w img (setOf img (flattenRules img))
+unfolding setOf
+kept-form w img long r lists steps =
+    let fs = flattenRules img in
     let k = loads img r in
-    let l : set .flat ≡ stepLists (flattenRules img) = ap (λ (x : RuleSet). x .flat) f ∙ flat-is img in
-    let n : length (set .flat) ≡ sizeOf img rules = ap length l ∙ length-map (flattenRules img) (λ (g : Flattened). g .steps) ∙ rules-length img in
-    let m = few-stored (flattenRules img) (k .few) in
-    let q = ap (λ (xss : List (List Step)). length (flatten xss)) l in
+    let n : length (stepLists fs) ≡ sizeOf img rules = length-map fs (λ (g : Flattened). g .steps) ∙ rules-length img in
     let u = k .rulesFew in
     record {
       image = refl;
       flat =
           record {
             long = long;
-            lists = sym (lists-at w) ∙ ap (λ (x : Loaded). x .lists) e;
-            steps = sym (steps-at w) ∙ ap (λ (x : Loaded). x .steps) e;
-            few = omega arith;
+            lists = sym (lists-at w) ∙ lists;
+            steps = sym (steps-at w) ∙ steps;
+            few = few-stored fs (k .few);
             fewRules = omega arith;
           };
       rules = n;
@@ -100,4 +90,7 @@ module _ (w : List ℕ) (s : Store) (r : ReadsAs w s) where
         sym (set-of (loadedIn w) set o) ∙ ap (λ (l : List ℕ). setOf l (flattenRules l)) image-read
 
     pub kept-read : Kept w (set .image) set
-    kept-read = kept-form w set (r .readable .long) (set-read ∙ ap loadedOf e) form-read accepted-read
+    kept-read =
+        let p : loadedIn w ≡ loadedOf (some (setOf (set .image) (flattenRules (set .image)))) = set-read ∙ ap loadedOf (e ∙ ap some form-read) in
+        subst (λ (x : RuleSet). Kept w (set .image) x) (sym form-read)
+        (kept-form w (set .image) (r .readable .long) accepted-read (ap (λ (l : Loaded). l .lists) p) (ap (λ (l : Loaded). l .steps) p))

@@ -214,14 +214,17 @@ pub record Counted (w : List ℕ) : Type 0 where
   pub slots : rowAt any w 12919 ≤ 64
   pub pending : rowAt any w 13240 ≤ 32
 
-pub counted : (w : List ℕ) → Readable w → Counted w
-counted w r =
-    let f = few (changingIn w) (good-changing w (r .fit)) in
+pub counts : (w : List ℕ) → partsFit (layout .parts) w ≡ true → Counted w
+counts w fit =
+    let f = few (changingIn w) (good-changing w fit) in
     let v = ap length (variables-at w) ∙ table-long variableRow variable-laws (rowAt any w 12805) w 12806 in
     let t = ap length (timers-at w) ∙ table-long timerRow timer-laws (rowAt any w 12870) w 12871 in
     let s = ap length (slots-at w) ∙ table-long slotRow slot-laws (rowAt any w 12919) w 12920 in
     let p = ap length (pending-at w) ∙ table-long pendingRow pending-laws (rowAt any w 13240) w 13241 in
     record { variables = omega arith; timers = omega arith; slots = omega arith; pending = omega arith }
+
+pub counted : (w : List ℕ) → Readable w → Counted w
+counted w r = counts w (r .fit)
 
 pub record CountedSet (w : List ℕ) : Type 0 where
   pub mark : rowAt any w 2 ≤ 1

@@ -1,5 +1,6 @@
 // The words of a loaded set: the image, and its flat form.
 use crate::put;
+use crate::table;
 use flat::Loaded;
 ghost use mathlib.Core.Path.{_≡_};
 ghost use mathlib.Core.List.{_++_};
@@ -13,13 +14,7 @@ ghost use Rattle.model.specs.Store.{loadedOf};
 ghost use Rattle.store.specs.Places.{laid};
 ghost use Rattle.store.specs.Set.{flatWords, imageWords};
 
-const IMAGE: usize = 3;
-
 const MAX_IMAGE: usize = 4096;
-
-const LISTS: usize = 4100;
-
-const STEPS: usize = 4228;
 
 // Words written at k.
 fn put_words(s: &mut [u32], k: usize, words: &[u32])
@@ -39,9 +34,9 @@ fn put_image(s: &mut [u32], image: &[u32])
     ensures { λ _. ⌜ now (s .exit) ≡ laid (now (s .entry)) 3 (imageWords (now (image .entry))) ⌝ }
 {
     let n = image.len();
-    put::put_word(s, IMAGE, n as u32);
-    put_words(s, IMAGE + 1, image);
-    put::clear(s, IMAGE + 1 + n, MAX_IMAGE - n);
+    put::put_word(s, table::IMAGE, n as u32);
+    put_words(s, table::IMAGE + 1, image);
+    put::clear(s, table::IMAGE + 1 + n, MAX_IMAGE - n);
 }
 
 // The flat form of an image that load accepts: the rows of its lists, and its steps with their count.
@@ -54,8 +49,8 @@ fn put_flat(s: &mut [u32], image: &[u32])
     let Loaded::Steps(n) = flat::rules::flatten_rules(image, &mut none, &mut lists) else {
         return;
     };
-    put_words(s, LISTS, &lists);
-    put::put_word(s, STEPS, n as u32);
+    put_words(s, table::LISTS, &lists);
+    put::put_word(s, table::STEPS, n as u32);
     flat::rules::flatten_rules(image, &mut s[4229..12421], &mut none);
 }
 

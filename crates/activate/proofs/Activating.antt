@@ -1,0 +1,121 @@
+-- An activation and a resumption whole. Assumes nothing.
+use Prim.Native.Nat.{ℕ}
+use mathlib.Core.Path.{_≡_, refl, ap, subst, _∙_}
+use mathlib.Core.Bool.{Bool, true, false, false≢true, true≢false}
+use mathlib.Core.List.{List, [], _∷_}
+use mathlib.Core.Option.{some}
+use Rattle.model.specs.Activate as model
+use Rattle.model.specs.Actions as actions
+use Rattle.model.specs.Dry.{runStepsDry}
+use Rattle.model.specs.Exec.{runSteps}
+use Rattle.model.specs.Image.{budget}
+use Rattle.model.specs.Outcome.{started, resumed}
+use Rattle.model.specs.Rules.{nameOf, holdHclOf, ruleNamed}
+use Rattle.model.specs.State as model-state
+use Rattle.model.specs.State.{Env, Rest, withRest, activationsDry, continuationsFired}
+use Rattle.model.specs.Steps.{start}
+use Rattle.model.specs.declared.Pending.{Pending}
+use Rattle.model.specs.declared.Step.{Step}
+use Rattle.state.specs.Meaning.{meaning}
+use Rattle.eval.specs.Answers.{envOf}
+use Rattle.exec.specs.Results.{jobOf}
+use Rattle.exec.specs.declared.Job.{Job}
+use Rattle.activate.specs.Handled.{Handles, Activates, Resumes, modeOf}
+use Rattle.activate.specs.Outcomes.{Refuses}
+use Rattle.activate.specs.Decisions.{isDry, decisionOf, Decides}
+use Rattle.activate.specs.Executes.{Changes, Counts, NotesPartial, Starts, RunsWet, RunsDry, Executes, dryOutcome}
+use Rattle.activate.specs.declared.Handled.{Handled}
+use Rattle.activate.specs.declared.Mode.{Mode}
+use Rattle.activate.specs.declared.decide.Decision.{Decision}
+use Rattle.activate.specs.declared.decide.Decision.the-variants.{Begins, InCooldown, Rejected, TooDeep, Unevaluable}
+use Rattle.activate.proofs.Running.{changed, after-change, same-handles, refuses}
+
+-- ---- `execute`
+dry-case : (e : Env) (j : actions.Job) (v : model-state.Volatile) (t : Bool) → t ≡ true → model.executeDry e j v ≡ model.execute e j t v
+dry-case e j v true h = refl
+dry-case e j v false h = absurd (false≢true h)
+
+wet-case : (e : Env) (j : actions.Job) (v : model-state.Volatile) (t : Bool) → t ≡ false → model.executeWet e j v ≡ model.execute e j t v
+wet-case e j v false h = refl
+wet-case e j v true h = absurd (true≢false h)
+
+module _ (snapshot image steps : List ℕ) (j : Job) (x y : Handled) (ow ew : List ℕ) (r : Handled) (ow′ ew′ : List ℕ) where
+  pub executes-dry : j .dry ≡ true → Counts activationsDry x y → RunsDry snapshot image steps j y ow ew r ow′ ew′ → Executes snapshot image steps j x ow ew r ow′ ew′
+  unfolding model.executeDry
+  executes-dry t a h =
+      let k : List (List Step) → model-state.Volatile → model.Handled =
+      λ flat m. dryOutcome (jobOf j) (runStepsDry (budget image) (envOf snapshot image flat) (jobOf j) start [] (m .rest)) m in
+      same-handles steps (j .index) _ _ x ow ew r ow′ ew′ (λ flat. dry-case (envOf snapshot image flat) (jobOf j) (meaning (x .vol)) (j .dry) t) (after-change x y _ a steps (j .index) k ow ew r ow′ ew′ h)
+
+  pub executes-wet : (b : ℕ) → j .dry ≡ false → b ≡ budget image → Starts snapshot j x y → RunsWet snapshot image steps j start b y ow ew r ow′ ew′ → Executes snapshot image steps j x ow ew r ow′ ew′
+  unfolding model.executeWet
+  executes-wet b f e a h =
+      let k : List (List Step) → model-state.Volatile → model.Handled =
+      λ flat m. model.finished (jobOf j) (started (j .rule)) (runSteps (budget image) (envOf snapshot image flat) (jobOf j) start m) in
+      same-handles steps (j .index) _ _ x ow ew r ow′ ew′ (λ flat. wet-case (envOf snapshot image flat) (jobOf j) (meaning (x .vol)) (j .dry) f)
+      (after-change x y _ a steps (j .index) k ow ew r ow′ ew′ (subst (λ (n : ℕ). RunsWet snapshot image steps j start n y ow ew r ow′ ew′) e h (started (j .rule))))
+
+-- ---- `activate`
+module _ (snapshot image steps : List ℕ) (i kind depth : ℕ) (mode : Mode) (x : Handled) (ow ew : List ℕ) (r : Handled) where
+  abbrev rest : Rest
+  rest = meaning (x .vol) .rest
+
+  abbrev pub jobWith : ℕ → Bool → Job
+  jobWith name dry = record { rule = name; index = i; hold = holdHclOf image i; trigger = kind; dry = dry }
+
+  abbrev job : Job
+  job = jobWith (nameOf image i) (isDry mode)
+
+  activated : (a d : Decision) → Decides snapshot image i depth mode rest a → a ≡ d → (flat : List (List Step))
+      → model.decided (decisionOf d (isDry mode) rest) (envOf snapshot image flat) (jobOf job) (meaning (x .vol)) ≡ model.activate (envOf snapshot image flat) i kind depth (modeOf mode) (meaning (x .vol))
+  unfolding model.activate model.jobOf
+  activated a d h e flat = rw (h flat, e)
+
+  module _ (j : Job) (name : ℕ) (dry : Bool) (e : j ≡ jobWith name dry) (n : name ≡ nameOf image i) (w : dry ≡ isDry mode) (a : Decision) (d : Decides snapshot image i depth mode rest a) where
+    is-job : j ≡ job
+    is-job = e ∙ ap (λ (k : ℕ). jobWith k dry) n ∙ ap (jobWith (nameOf image i)) w
+
+    pub begins : (ow′ ew′ : List ℕ) → a ≡ Begins → Executes snapshot image steps j x ow ew r ow′ ew′ → Activates snapshot image steps i kind depth mode x ow ew r ow′ ew′
+    begins ow′ ew′ t h = same-handles steps i _ _ x ow ew r ow′ ew′ (activated a Begins d t) (subst (λ (k : Job). Executes snapshot image steps k x ow ew r ow′ ew′) is-job h)
+
+    abbrev refusedWith : Rest → ℕ → model.Handled
+    refusedWith s reason = record { vol = withRest s (meaning (x .vol)); outcomes = model.outcome (jobOf job) [] reason ∷ []; trace = [] }
+
+    refusing : (ow′ : List ℕ) (y : Handled) (s : Rest) (reason : ℕ) → Changes x s y → Refuses y ow j reason r ow′ → Handles steps i (λ flat. refusedWith s reason) x ow ew r ow′ ew
+    refusing ow′ y s reason b h =
+        let k : List (List Step) → model-state.Volatile → model.Handled = λ flat m. record { vol = m; outcomes = model.outcome (jobOf job) [] reason ∷ []; trace = [] } in
+        after-change x y s b steps i k ow ew r ow′ ew (refuses steps i y ow ew job reason r ow′ (subst (λ (k : Job). Refuses y ow k reason r ow′) is-job h))
+
+    pub too-deep : (ow′ : List ℕ) (y : Handled) → a ≡ TooDeep → Counts model-state.chainDepthExceeded x y → Refuses y ow j model.chainDepth r ow′
+        → Activates snapshot image steps i kind depth mode x ow ew r ow′ ew
+    too-deep ow′ y t b h = same-handles steps i _ _ x ow ew r ow′ ew (activated a TooDeep d t) (refusing ow′ y _ model.chainDepth b h)
+
+    pub unevaluable : (ow′ : List ℕ) (y : Handled) → a ≡ Unevaluable → NotesPartial dry x y → Refuses y ow j actions.conditionUnevaluable r ow′
+        → Activates snapshot image steps i kind depth mode x ow ew r ow′ ew
+    unevaluable ow′ y t b h = same-handles steps i _ _ x ow ew r ow′ ew (activated a Unevaluable d t) (refusing ow′ y _ actions.conditionUnevaluable (subst (λ (z : Bool). NotesPartial z x y) w b) h)
+
+  module _ (a : Decision) (d : Decides snapshot image i depth mode rest a) where
+    pub in-cooldown : a ≡ InCooldown → Counts model-state.suppressedCooldown x r → Activates snapshot image steps i kind depth mode x ow ew r ow ew
+    in-cooldown t b = same-handles steps i _ _ x ow ew r ow ew (activated a InCooldown d t) (changed x r _ b steps i ow ew)
+
+    pub rejected : a ≡ Rejected → Counts model-state.conditionsRejected x r → Activates snapshot image steps i kind depth mode x ow ew r ow ew
+    rejected t b = same-handles steps i _ _ x ow ew r ow ew (activated a Rejected d t) (changed x r _ b steps i ow ew)
+
+-- ---- `resume`
+module _ (snapshot image steps : List ℕ) (i : ℕ) (c : Pending) (x y : Handled) (ow ew : List ℕ) (r : Handled) (ow′ ew′ : List ℕ) where
+  abbrev resumedJob : Job
+  resumedJob = record { rule = c .rule; index = i; hold = holdHclOf image i; trigger = c .trigger; dry = false }
+
+  abbrev resumedRun : List (List Step) → model-state.Volatile → model.Handled
+  resumedRun flat m = model.finished (jobOf resumedJob) (resumed (c .rule)) (runSteps (c .budget) (envOf snapshot image flat) (jobOf resumedJob) (c .point) m)
+
+  is-resumed : ruleNamed image (c .rule) ≡ some i → (flat : List (List Step))
+      → resumedRun flat (withRest (model-state.bump continuationsFired (meaning (x .vol) .rest)) (meaning (x .vol))) ≡ model.resume (envOf snapshot image flat) c (meaning (x .vol))
+  unfolding model.resume model.jobOf
+  is-resumed h flat = rw h
+
+  pub resumes : (j : Job) → j ≡ resumedJob → ruleNamed image (c .rule) ≡ some i → Counts continuationsFired x y → RunsWet snapshot image steps j (c .point) (c .budget) y ow ew r ow′ ew′
+      → Resumes snapshot image steps i c x ow ew r ow′ ew′
+  resumes j e named a h =
+      same-handles steps i _ _ x ow ew r ow′ ew′ (is-resumed named)
+      (after-change x y _ a steps i resumedRun ow ew r ow′ ew′ (subst (λ (k : Job). RunsWet snapshot image steps k (c .point) (c .budget) y ow ew r ow′ ew′) e h (resumed (c .rule))))

@@ -1,0 +1,154 @@
+-- Outcomes written into lent words. Assumes nothing.
+use Prim.Native.Nat.{ℕ, zero, suc, _+_, _*_, _-_, _≤_, _<_}
+use native.Mathlib.Omega.{arith}
+use mathlib.Core.Path.{_≡_, refl, sym, ap, _∙_}
+use mathlib.Core.Bool.{Bool, true, false, cond}
+use mathlib.Core.List.{List, [], _∷_, _++_, append-assoc, append-nil}
+use lib.Dec.{leb}
+use lib.ListN.{length, take, drop, set, replicate, length-append, length-set, take-append-drop}
+use lib.Seq.{sets-eq, take-at, drop-at, length-take-le, drop-drop}
+use borrow.Author.Tests.{le-leb, lt-leb}
+use Rattle.model.specs.Activate as model
+use Rattle.model.specs.Answers as answers
+use Rattle.model.specs.Answers.{outcomeWords, lent}
+use Rattle.model.specs.Calls.{effectsOf}
+use Rattle.model.specs.Outcome.{Outcome}
+use Rattle.model.specs.declared.Effect.{Effect}
+use Rattle.exec.specs.PutEffects as exec
+use Rattle.exec.specs.PutEffects.{putEffects}
+use Rattle.exec.specs.Results.{jobOf}
+use Rattle.exec.specs.declared.Job.{Job}
+use Rattle.exec.proofs.Written as exec-written
+use Rattle.activate.specs.Handled.{putOutcome, putOutcomes, allEffects}
+use Rattle.activate.specs.Outcomes.{Puts}
+
+-- one outcome, where there is room and where there is none
+module _ (w : List ℕ) (n first : ℕ) (o : Outcome) where
+  abbrev pub six : List ℕ
+  six = o .rule ∷ o .dry ∷ o .trigger ∷ o .reason ∷ first ∷ length (o .effects) ∷ []
+
+  abbrev pub written : List ℕ
+  written = set (set (set (set (set (set w (n * 6) (o .rule)) (n * 6 + 1) (o .dry)) (n * 6 + 2) (o .trigger)) (n * 6 + 3) (o .reason)) (n * 6 + 4) first) (n * 6 + 5) (length (o .effects))
+
+  pub put-room : n * 6 + 6 ≤ length w → written ≡ putOutcome w n first o
+  unfolding putOutcome
+  put-room h = rw (le-leb _ _ h)
+
+  pub put-none : length w < n * 6 + 6 → w ≡ putOutcome w n first o
+  unfolding putOutcome
+  put-none h = rw (lt-leb _ _ h)
+
+  pub put-words : n * 6 + 6 ≤ length w → putOutcome w n first o ≡ (take (n * 6) w ++ six) ++ drop (n * 6 + 6) w
+  put-words h =
+      let e1 : n * 6 + 1 ≡ suc (n * 6) = omega arith in
+      let e2 : n * 6 + 2 ≡ suc (suc (n * 6)) = omega arith in
+      let e3 : n * 6 + 3 ≡ suc (suc (suc (n * 6))) = omega arith in
+      let e4 : n * 6 + 4 ≡ suc (suc (suc (suc (n * 6)))) = omega arith in
+      let e5 : n * 6 + 5 ≡ suc (suc (suc (suc (suc (n * 6))))) = omega arith in
+      sym (put-room h) ∙ rw (e1, e2, e3, e4, e5) (sets-eq (o .rule ∷ o .dry ∷ o .trigger ∷ o .reason ∷ first ∷ length (o .effects) ∷ []) w (n * 6) h)
+
+  pub put-length : length (putOutcome w n first o) ≡ length w
+  unfolding putOutcome
+  put-length = go (leb (n * 6 + 6) (length w))
+    where
+      go : (t : Bool) → length (cond t written w) ≡ length w
+      go true = simp length-set
+      go false = refl
+
+-- what the code writes of a job
+module _ (w : List ℕ) (n : ℕ) (j : Job) (reason first count : ℕ) where
+  pub job-room : (dry : ℕ) → n * 6 + 6 ≤ length w → dry ≡ cond (j .dry) 1 0
+      → Puts w n j reason first count (set (set (set (set (set (set w (n * 6) (j .rule)) (n * 6 + 1) dry) (n * 6 + 2) (j .trigger)) (n * 6 + 3) reason) (n * 6 + 4) first) (n * 6 + 5) count)
+  unfolding model.outcome
+  job-room dry h d es e = rw (d, e) (put-room w n first (model.outcome (jobOf j) es reason) h)
+
+  pub job-none : length w < n * 6 + 6 → Puts w n j reason first count w
+  job-none h es e = put-none w n first (model.outcome (jobOf j) es reason) h
+
+-- one after another
+pub put-append : (w : List ℕ) (n first : ℕ) (os ps : List Outcome)
+    → putOutcomes w n first (os ++ ps) ≡ putOutcomes (putOutcomes w n first os) (n + length os) (first + effectsOf os) ps
+unfolding putOutcomes
+put-append w n first [] ps =
+    let a : n + 0 ≡ n = omega arith in
+    let b : first + 0 ≡ first = omega arith in
+    rw (a, b) refl
+put-append w n first (o ∷ os) ps =
+    let a : suc n + length os ≡ n + suc (length os) = omega arith in
+    let b : (first + length (o .effects)) + effectsOf os ≡ first + (length (o .effects) + effectsOf os) = omega arith in
+    let v = putOutcomes (putOutcome w n first o) (suc n) (first + length (o .effects)) os in
+    put-append (putOutcome w n first o) (suc n) (first + length (o .effects)) os ps ∙ ap (λ (k : ℕ). putOutcomes v k ((first + length (o .effects)) + effectsOf os) ps) a ∙ ap (λ (k : ℕ). putOutcomes v (n + suc (length os)) k ps) b
+
+pub puts-length : (w : List ℕ) (n first : ℕ) (os : List Outcome) → length (putOutcomes w n first os) ≡ length w
+unfolding putOutcomes
+puts-length w n first [] = refl
+puts-length w n first (o ∷ os) = puts-length (putOutcome w n first o) (suc n) (first + length (o .effects)) os ∙ put-length w n first o
+
+-- where all fit: the old words, then the outcomes' words, then the old rest
+pub put-all :
+    (w : List ℕ) (n first : ℕ) (os : List Outcome) → (n + length os) * 6 ≤ length w
+    → putOutcomes w n first os ≡ (take (n * 6) w ++ outcomeWords first os) ++ drop ((n + length os) * 6) w
+unfolding putOutcomes outcomeWords
+put-all w n first [] h =
+    let e : (n + 0) * 6 ≡ n * 6 = omega arith in
+    rw e (sym (ap (λ (l : List ℕ). l ++ drop (n * 6) w) (append-nil (take (n * 6) w)) ∙ take-append-drop (n * 6) w))
+put-all w n first (o ∷ os) h =
+    let room : n * 6 + 6 ≤ length w = omega arith in
+    let v = putOutcome w n first o in
+    let next = first + length (o .effects) in
+    let s = put-words w n first o room in
+    let k : length (take (n * 6) w ++ six w n first o) ≡ suc n * 6 = simp (length-append, length-take-le (n * 6) w (omega arith)) (omega arith) in
+    let more : (suc n + length os) * 6 ≤ length v = omega (arith, put-length w n first o) in
+    let front : take (suc n * 6) v ≡ take (n * 6) w ++ six w n first o = ap (take (suc n * 6)) s ∙ take-at (take (n * 6) w ++ six w n first o) (drop (n * 6 + 6) w) (suc n * 6) k in
+    let back : drop (suc n * 6) v ≡ drop (n * 6 + 6) w = ap (drop (suc n * 6)) s ∙ drop-at (take (n * 6) w ++ six w n first o) (drop (n * 6 + 6) w) (suc n * 6) k in
+    let a : suc n * 6 + length os * 6 ≡ (suc n + length os) * 6 = omega arith in
+    let b : (n * 6 + 6) + length os * 6 ≡ (n + suc (length os)) * 6 = omega arith in
+    let far : drop ((suc n + length os) * 6) v ≡ drop ((n + suc (length os)) * 6) w =
+    sym (ap (λ (i : ℕ). drop i v) a) ∙ sym (drop-drop (length os * 6) (suc n * 6) v) ∙ ap (drop (length os * 6)) back ∙ drop-drop (length os * 6) (n * 6 + 6) w ∙ ap (λ (i : ℕ). drop i w) b in
+    put-all v (suc n) next os more ∙ ap (λ (l : List ℕ). (l ++ outcomeWords next os) ++ drop ((suc n + length os) * 6) v) front ∙ ap (λ (l : List ℕ). ((take (n * 6) w ++ six w n first o) ++ outcomeWords next os) ++ l) far ∙ ap (λ (l : List ℕ). l ++ drop ((n + suc (length os)) * 6) w) (append-assoc (take (n * 6) w) (six w n first o) (outcomeWords next os))
+
+-- ---- words that were all 0
+drop-zeros : (k n : ℕ) → drop {A = ℕ} k (replicate n 0) ≡ replicate (n - k) 0
+drop-zeros zero n = let e : n ≡ n - 0 = omega arith in ap (λ (k : ℕ). replicate k 0) e
+drop-zeros (suc k) zero = let e : 0 ≡ 0 - suc k = omega arith in ap (λ (m : ℕ). replicate m 0) e
+drop-zeros (suc k) (suc n) = let e : n - k ≡ suc n - suc k = omega arith in drop-zeros k n ∙ ap (λ (m : ℕ). replicate m 0) e
+
+outcome-words-length : (first : ℕ) (os : List Outcome) → length (outcomeWords first os) ≡ length os * 6
+unfolding outcomeWords
+outcome-words-length first [] = refl
+outcome-words-length first (o ∷ os) = let e = outcome-words-length (first + length (o .effects)) os in omega (arith, e)
+
+pub lent-outcomes : (w : List ℕ) (os : List Outcome) → w ≡ replicate (length w) 0 → length os * 6 ≤ length w → putOutcomes w 0 0 os ≡ lent (length w) (outcomeWords 0 os)
+lent-outcomes w os z h =
+    let e : 0 + length os ≡ length os = omega arith in
+    rw e at (put-all w 0 0 os) h ∙ ap (λ (l : List ℕ). outcomeWords 0 os ++ drop (length os * 6) l) z ∙ ap (λ (l : List ℕ). outcomeWords 0 os ++ l) (drop-zeros (length os * 6) (length w)) ∙ ap (λ (k : ℕ). outcomeWords 0 os ++ replicate (length w - k) 0) (sym (outcome-words-length 0 os))
+
+effect-words-append : (xs ys : List Effect) → exec.effectWords (xs ++ ys) ≡ exec.effectWords xs ++ exec.effectWords ys
+effect-words-append [] ys = refl
+effect-words-append (x ∷ xs) ys = ap (λ (l : List ℕ). x .kind ∷ x .a ∷ x .b ∷ x .c ∷ x .d ∷ l) (effect-words-append xs ys)
+
+words-of-effects : (xs : List Effect) → exec.effectWords xs ≡ answers.wordsOfEffects xs
+unfolding answers.wordsOfEffects
+words-of-effects [] = refl
+words-of-effects (x ∷ xs) = ap (λ (l : List ℕ). x .kind ∷ x .a ∷ x .b ∷ x .c ∷ x .d ∷ l) (words-of-effects xs)
+
+all-effect-words : (os : List Outcome) → exec.effectWords (allEffects os) ≡ answers.effectWords os
+unfolding answers.effectWords
+all-effect-words [] = refl
+all-effect-words (o ∷ os) =
+    effect-words-append (o .effects) (allEffects os) ∙ ap (λ (l : List ℕ). l ++ exec.effectWords (allEffects os)) (words-of-effects (o .effects)) ∙ ap (λ (l : List ℕ). answers.wordsOfEffects (o .effects) ++ l) (all-effect-words os)
+
+pub all-effects-length : (os : List Outcome) → length (allEffects os) ≡ effectsOf os
+all-effects-length [] = refl
+all-effects-length (o ∷ os) = length-append (o .effects) (allEffects os) ∙ ap (λ (k : ℕ). length (o .effects) + k) (all-effects-length os)
+
+effect-words-length : (xs : List Effect) → length (exec.effectWords xs) ≡ length xs * 5
+effect-words-length [] = refl
+effect-words-length (x ∷ xs) = let e = effect-words-length xs in omega (arith, e)
+
+pub lent-effects : (w : List ℕ) (os : List Outcome) → w ≡ replicate (length w) 0 → effectsOf os * 5 ≤ length w → putEffects w 0 (allEffects os) ≡ lent (length w) (answers.effectWords os)
+lent-effects w os z h =
+    let xs = allEffects os in
+    let k : length xs * 5 ≤ length w = rw (all-effects-length os) h in
+    let e : 0 + length xs ≡ length xs = omega arith in
+    rw e at (exec-written.put-all w 0 xs) k ∙ ap (λ (l : List ℕ). exec.effectWords xs ++ drop (length xs * 5) l) z ∙ ap (λ (l : List ℕ). exec.effectWords xs ++ l) (drop-zeros (length xs * 5) (length w)) ∙ ap (λ (m : ℕ). exec.effectWords xs ++ replicate (length w - m) 0) (sym (effect-words-length xs)) ∙ ap (λ (l : List ℕ). l ++ replicate (length w - length l) 0) (all-effect-words os)

@@ -1,0 +1,30 @@
+-- `activate::resume` meets its contract. Assumes nothing.
+use denote.Ref.{now}
+use Rattle.activate.proofs.Running.{changed-room}
+use Rattle.activate.proofs.Activating.{resumes}
+use borrow.Author.Needs.{needs}
+use Rattle.activate.proofs.resume.Statement.{statement}
+use Rattle.activate.proofs.resume.Tie as tie
+
+run-wet-requires : tie.Need-run-wet-requires
+run-wet-requires c κs =
+    let s = c .before .before .before .before .before .before .before .before .before .before in
+    ((s .pre .0 .0 .least, s .pre .0 .0 .most), s .pre .0 .1, s .pre .1 .0, changed-room (s .args .x) (c .before .before .count .result) _ (c .before .before .count .ensures) 1 (s .pre .1 .1))
+
+returns : tie.Need-returns
+returns c =
+    let s = c .before .before .before .before .before .before .before .before .before .before .before .before .before .before .before in
+    let k = c .before .before .before .before in
+    let y = k .before .before .before in
+    resumes (now (s .args .snapshot)) (now (s .args .image)) (now (s .args .steps)) (s .args .i) (s .args .c) (s .args .x) (y .count .result) _ _ _ _ _ (y .before .job-of .result) (y .before .job-of .ensures) (s .pre .0 .2) (y .count .ensures) (k .run-wet .ensures)
+
+pub resume-spec : {M : Type 1} → statement M
+resume-spec =
+    tie.close
+    (tie.spec
+    (λ c κs. search needs)
+    (λ c κs. search needs)
+    run-wet-requires
+    (λ c. search needs)
+    (λ c. search needs)
+    returns)

@@ -1,0 +1,77 @@
+-- What activations and resumptions did, in the specification's terms: the state after them, and the outcomes and effects in words.
+use Prim.Native.Nat.{ℕ, suc, _+_, _*_, _≤_}
+use mathlib.Core.Path.{_≡_}
+use mathlib.Core.Bool.{cond}
+use mathlib.Core.List.{List, [], _∷_, _++_}
+use lib.Dec.{leb}
+use lib.ListN.{length, set, getD}
+use Rattle.words.specs.Saturating.{max32}
+use Rattle.model.specs.Activate as model
+use Rattle.model.specs.Calls.{effectsOf}
+use Rattle.model.specs.Outcome.{Outcome}
+use Rattle.model.specs.declared.Effect.{Effect}
+use Rattle.model.specs.declared.Pending.{Pending}
+use Rattle.model.specs.declared.Step.{Step}
+use Rattle.flat.specs.Words.{layout}
+use Rattle.state.specs.Meaning.{Sound, Means, meaning}
+use Rattle.eval.specs.Answers.{envOf}
+use Rattle.exec.specs.PutEffects.{putEffects}
+use Rattle.activate.specs.declared.Handled.{Handled}
+use Rattle.activate.specs.declared.Mode.{Mode}
+use Rattle.activate.specs.declared.Mode.the-variants.{Auto, Manual, Dry}
+
+abbrev pub modeOf : Mode → model.Mode
+modeOf Auto = model.Auto
+modeOf Manual = model.Manual
+modeOf Dry = model.Dry
+
+-- outcome n, whose effects begin at effect `first`, where there is room for it
+unfoldable pub putOutcome : List ℕ → ℕ → ℕ → Outcome → List ℕ
+putOutcome w n first o =
+    cond (leb (n * 6 + 6) (length w))
+    (set (set (set (set (set (set w (n * 6) (o .rule)) (n * 6 + 1) (o .dry)) (n * 6 + 2) (o .trigger)) (n * 6 + 3) (o .reason)) (n * 6 + 4) first) (n * 6 + 5) (length (o .effects)))
+    w
+
+-- outcomes n, n + 1, ..
+unfoldable pub putOutcomes : List ℕ → ℕ → ℕ → List Outcome → List ℕ
+putOutcomes w n first [] = w
+putOutcomes w n first (o ∷ os) = putOutcomes (putOutcome w n first o) (suc n) (first + length (o .effects)) os
+
+-- the effects of outcomes, in order
+abbrev pub allEffects : List Outcome → List Effect
+allEffects [] = []
+allEffects (o ∷ os) = o .effects ++ allEffects os
+
+-- from x, over these words, the code came to r and the specification to h
+pub record Continues (x : Handled) (ow ew : List ℕ) (h : model.Handled) (r : Handled) (ow′ ew′ : List ℕ) : Type 0 where
+  pub state : Means (r .vol) (x .vol .«next_seq») (h .vol)
+  pub outcomes : r .outcomes ≡ x .outcomes + length (h .outcomes)
+  pub effects : r .effects ≡ x .effects + effectsOf (h .outcomes)
+  pub outcomeWords : ow′ ≡ putOutcomes ow (x .outcomes) (x .effects) (h .outcomes)
+  pub effectWords : ew′ ≡ putEffects ew (x .effects) (allEffects (h .outcomes))
+
+-- a sound state, and no more than n activations or resumptions add: each has one outcome and a budget of 256 steps at most
+pub record Within (n : ℕ) (x r : Handled) : Type 0 where
+  pub sound : Sound (r .vol)
+  pub accepted : r .vol .accepted ≤ x .vol .accepted + n * 256
+  pub outcomes : r .outcomes ≤ x .outcomes + n
+  pub effects : r .effects ≤ x .effects + n * 256
+
+-- a sound state, and numbers that have room for n activations or resumptions
+pub record Room (n : ℕ) (x : Handled) : Type 0 where
+  pub sound : Sound (x .vol)
+  pub accepted : x .vol .accepted + n * 256 ≤ max32
+  pub outcomes : x .outcomes + n ≤ max32
+  pub effects : x .effects + n * 256 ≤ max32
+
+-- one activation or resumption came to r: in every set where these are the steps of rule i, it is what the specification gives for the set
+pub record Handles (steps : List ℕ) (i : ℕ) (h : List (List Step) → model.Handled) (x : Handled) (ow ew : List ℕ) (r : Handled) (ow′ ew′ : List ℕ) : Type 0 where
+  pub says : (flat : List (List Step)) → steps ≡ layout (getD flat i []) → Continues x ow ew (h flat) r ow′ ew′
+  pub within : Within 1 x r
+
+module _ (snapshot image steps : List ℕ) (i : ℕ) where
+  abbrev pub Activates : ℕ → ℕ → Mode → Handled → List ℕ → List ℕ → Handled → List ℕ → List ℕ → Type 0
+  Activates kind depth mode x = Handles steps i (λ flat. model.activate (envOf snapshot image flat) i kind depth (modeOf mode) (meaning (x .vol))) x
+
+  abbrev pub Resumes : Pending → Handled → List ℕ → List ℕ → Handled → List ℕ → List ℕ → Type 0
+  Resumes c x = Handles steps i (λ flat. model.resume (envOf snapshot image flat) c (meaning (x .vol))) x

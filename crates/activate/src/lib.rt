@@ -1,0 +1,121 @@
+// One activation and one resumption: activate.rs, and `resume` of wheel.rs. Outcomes and effects go into words that the caller
+// lends; where there is no room they are counted, and no word is written.
+mod decide;
+mod execute;
+mod outcomes;
+
+use crate::decide::Decision;
+use crate::execute::count;
+use crate::outcomes::refusal;
+use exec::Job;
+use model::Pending;
+use state::Volatile;
+ghost use mathlib.Core.Path.{_≡_};
+ghost use mathlib.Core.Option.{some};
+ghost use Prim.Native.Nat.{_≤_, _<_};
+ghost use Rattle.model.specs.Image.{sizeOf};
+ghost use Rattle.model.specs.Rows.{rules};
+ghost use Rattle.model.specs.Rules.{ruleNamed, holdHclOf};
+ghost use Rattle.image.specs.Accepted.{Accepted};
+ghost use Rattle.image.specs.Sized.{Sized};
+ghost use Rattle.exec.specs.Lists.{FlatWords};
+ghost use Rattle.activate.specs.Handled.{Room, Activates, Resumes};
+
+// What activations and resumptions did so far: the state, and how many outcomes and effects are written, or would be.
+pub struct Handled {
+    pub vol: Volatile,
+    pub outcomes: u32,
+    pub effects: u32,
+}
+
+pub enum Mode {
+    Auto,
+    Manual,
+    Dry,
+}
+
+// The reasons of an outcome.
+const CONDITION_UNEVALUABLE: u32 = 1;
+
+const CHAIN_DEPTH: u32 = 3;
+
+// Rule `name`, at place i of the image.
+fn job_of(image: &[u32], name: u32, i: u32, kind: u32, dry: bool) -> Job
+    requires { ⌜ Sized (now image) ⌝ }
+    ensures { λ r. ⌜ r ≡ record { rule = name; index = i; hold = holdHclOf (now (image .entry)) i; trigger = kind; dry = dry } ⌝ }
+{
+    let hold = image::rule::hold_hcl_of(image, i);
+    Job {
+        rule: name,
+        index: i,
+        hold,
+        trigger: kind,
+        dry,
+    }
+}
+
+// Rule i, by a trigger kind of an outcome, at a depth. `steps` are its flat steps.
+pub fn activate(
+    snapshot: &[u32],
+    image: &[u32],
+    steps: &[u32],
+    outcomes: &mut [u32],
+    effects: &mut [u32],
+    x: Handled,
+    i: u32,
+    kind: u32,
+    depth: u32,
+    mode: Mode,
+) -> Handled
+    requires { ⌜ Accepted (now image) × FlatWords (now steps) × (i < sizeOf (now image) rules) ⌝ }
+    requires { ⌜ Room 1 x ⌝ }
+    ensures { λ r. ⌜ Activates (now (snapshot .entry)) (now (image .entry)) (now (steps .entry)) i kind depth mode x (now (outcomes .entry)) (now (effects .entry)) r (now (outcomes .exit)) (now (effects .exit)) ⌝ }
+{
+    let v = x.vol;
+    let dry = decide::is_dry(mode);
+    let job = job_of(image, image::rule::name_of(image, i), i, kind, dry);
+    match decide::decide(snapshot, image, v, i, depth, mode) {
+        Decision::Begins => execute::execute(snapshot, image, steps, outcomes, effects, x, job),
+        Decision::InCooldown => count(x, counters::SUPPRESSED_COOLDOWN),
+        Decision::Rejected => count(x, counters::CONDITIONS_REJECTED),
+        Decision::TooDeep => {
+            let y = count(x, counters::CHAIN_DEPTH_EXCEEDED);
+            refusal(outcomes, y, job, CHAIN_DEPTH)
+        }
+        Decision::Unevaluable => {
+            let y = execute::note_wet_partial(x, dry);
+            refusal(outcomes, y, job, CONDITION_UNEVALUABLE)
+        }
+    }
+}
+
+// A continuation of rule i goes on where it stood. `steps` are the rule's flat steps.
+pub fn resume(
+    snapshot: &[u32],
+    image: &[u32],
+    steps: &[u32],
+    outcomes: &mut [u32],
+    effects: &mut [u32],
+    x: Handled,
+    i: u32,
+    c: Pending,
+) -> Handled
+    requires { ⌜ Accepted (now image) × FlatWords (now steps) × (ruleNamed (now image) (c .rule) ≡ some i) ⌝ }
+    requires { ⌜ (c .budget ≤ 256) × Room 1 x ⌝ }
+    ensures { λ r. ⌜ Resumes (now (snapshot .entry)) (now (image .entry)) (now (steps .entry)) i c x (now (outcomes .entry)) (now (effects .entry)) r (now (outcomes .exit)) (now (effects .exit)) ⌝ }
+{
+    let from = c.point;
+    let job = job_of(image, c.rule, i, c.trigger, false);
+    let y = count(x, counters::CONTINUATIONS_FIRED);
+    execute::run_wet(
+        snapshot,
+        image,
+        steps,
+        outcomes,
+        effects,
+        y,
+        job,
+        from,
+        c.budget,
+    )
+}

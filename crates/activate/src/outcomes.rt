@@ -1,0 +1,69 @@
+// Outcomes go into words that the caller lends, six words each, in order. Where there is no room for one it is counted, and no
+// word is written.
+use crate::Handled;
+use exec::Job;
+use state::Volatile;
+ghost use mathlib.Core.Path.{_≡_};
+ghost use mathlib.Core.Bool.{cond};
+ghost use Prim.Native.Nat.{_≤_, _<_};
+ghost use Rattle.words.specs.Saturating.{max32};
+ghost use Rattle.state.specs.Meaning.{Sound};
+ghost use Rattle.activate.specs.Outcomes.{Puts, Pushes, Refuses};
+
+fn dry_word(dry: bool) -> u32
+    ensures { λ r. ⌜ r ≡ cond dry 1 0 ⌝ }
+{
+    if dry { 1 } else { 0 }
+}
+
+// Outcome n, of a job, with `count` effects from effect `first` on.
+fn put_outcome(words: &mut [u32], n: u32, job: Job, reason: u32, first: u32, count: u32)
+    ensures { λ r. ⌜ Puts (now (words .entry)) n job reason first count (now (words .exit)) ⌝ }
+{
+    let k = n as usize * 6;
+    let dry = dry_word(job.dry);
+    if k + 6 <= words.len() {
+        words[k] = job.rule;
+        words[k + 1] = dry;
+        words[k + 2] = job.trigger;
+        words[k + 3] = reason;
+        words[k + 4] = first;
+        words[k + 5] = count;
+    }
+}
+
+// The next outcome: with it there are `effects` effects, and the state is v.
+pub fn push_outcome(
+    words: &mut [u32],
+    x: Handled,
+    v: Volatile,
+    job: Job,
+    reason: u32,
+    effects: u32,
+) -> Handled
+    requires { ⌜ (x .outcomes < max32) × (x .effects ≤ effects) ⌝ }
+    ensures { λ r. ⌜ Pushes x (now (words .entry)) v job reason effects r (now (words .exit)) ⌝ }
+{
+    put_outcome(
+        words,
+        x.outcomes,
+        job,
+        reason,
+        x.effects,
+        effects - x.effects,
+    );
+    Handled {
+        vol: v,
+        outcomes: x.outcomes + 1,
+        effects,
+    }
+}
+
+// An outcome with no effects.
+pub fn refusal(words: &mut [u32], x: Handled, job: Job, reason: u32) -> Handled
+    requires { ⌜ Sound (x .vol) × (x .outcomes < max32) ⌝ }
+    ensures { λ r. ⌜ Refuses x (now (words .entry)) job reason r (now (words .exit)) ⌝ }
+{
+    let v = x.vol;
+    push_outcome(words, x, v, job, reason, x.effects)
+}
