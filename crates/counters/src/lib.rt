@@ -1,9 +1,10 @@
-// The 13 counters of a store, the Rust's `EngineCounters`, as one value. A counter is named by its place.
+// The 13 counters of a store, the Rust's `EngineCounters`, as one record. A counter is named by its place. Document 01: the
+// counters are one record, lent and changed in place (`bump`); its proof is a walk by hand, docs/WALKS.md. A caller that has
+// the record by value counts by `with_bump`, and needs no walk.
 use words::saturating_add_u32 as add;
 ghost use mathlib.Core.Path.{_≡_};
-ghost use lib.ListN.{getD, set, replicate};
-ghost use Rattle.words.specs.Saturating.{saturatingAdd, max32};
-ghost use Rattle.counters.specs.Counters.{countersOf};
+ghost use lib.ListN.{replicate};
+ghost use Rattle.counters.specs.Counters.{countersOf, raisedAt};
 
 pub const ACTIVATIONS_TOTAL: u32 = 0;
 
@@ -70,7 +71,7 @@ pub fn none_counted() -> Counters
 
 // The counter at place `which` goes up by `by`, and stops at 2^32 - 1. A place past the last changes nothing.
 pub fn count(c: Counters, which: u32, by: u32) -> Counters
-    ensures { λ r. ⌜ countersOf r ≡ set (countersOf c) which (saturatingAdd max32 (getD (countersOf c) which 0) by) ⌝ }
+    ensures { λ r. ⌜ countersOf r ≡ raisedAt which by (countersOf c) ⌝ }
 {
     let mut d = c;
     match which {
@@ -89,5 +90,21 @@ pub fn count(c: Counters, which: u32, by: u32) -> Counters
         TICKS_TIME_UNSYNCED => d.ticks_time_unsynced = add(c.ticks_time_unsynced, by),
         _ => (),
     }
+    d
+}
+
+// The same on a record that is lent.
+pub fn bump(c: &mut Counters, which: u32, by: u32)
+    ensures { λ _. ⌜ countersOf (now (c .exit)) ≡ raisedAt which by (countersOf (now (c .entry))) ⌝ }
+{
+    *c = count(*c, which, by);
+}
+
+// The record by value, counted through `bump`.
+pub fn with_bump(c: Counters, which: u32, by: u32) -> Counters
+    ensures { λ r. ⌜ countersOf r ≡ raisedAt which by (countersOf c) ⌝ }
+{
+    let mut d = c;
+    bump(&mut d, which, by);
     d
 }

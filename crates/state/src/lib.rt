@@ -79,7 +79,7 @@ pub fn bump(v: Volatile, which: u32, by: u32) -> Volatile
 {
     let mut w = v;
     let k = w.counters;
-    let c = counters::count(k, which, by);
+    let c = counters::with_bump(k, which, by);
     w.counters = c;
     w
 }

@@ -8,7 +8,7 @@ use Rattle.state.proofs.bump.Tie as tie
 
 returns : tie.Need-returns
 unfolding meaning bumpBy
-returns c = record { says = rw (c .count .ensures); sound = c .before .before .pre; based = refl }
+returns c = record { says = rw (c .with-bump .ensures); sound = c .before .before .pre; based = refl }
 
 pub bump-spec : {M : Type 1} → statement M
 bump-spec = tie.close (tie.spec (λ c κs. search needs) returns)
