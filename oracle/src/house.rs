@@ -2,6 +2,7 @@
 
 use dali2rust_rules_model::limits::{self, Limits};
 use dali2rust_rules_model::{InputRef, LightTarget, TriggerKind};
+use dali2rust_rules_runtime::runtime::engine::access::Kept;
 use dali2rust_rules_runtime::runtime::engine::{
     ActivationOutcome, Effect, Engine, EngineCountersSnapshot, EngineInput, LightVerb,
     PartialReason,
@@ -89,6 +90,14 @@ impl House {
             outcome_words: OUTCOME_WORDS * 4_096,
             effect_words: EFFECT_WORDS * 65_536,
         }
+    }
+
+    /// What a store would keep, but for the set's image and the counters; and the next sequence
+    /// number.
+    #[must_use]
+    pub fn kept(&self) -> (Kept, u64) {
+        limits::set(self.limits);
+        (self.engine.kept(), self.next)
     }
 
     pub fn call(&mut self, call: &Call) -> Answer {
@@ -237,7 +246,7 @@ fn outcome_words(outcome: &ActivationOutcome) -> Outcome {
 }
 
 /// Other kinds reach no outcome by a tick or a run.
-fn trigger_code(kind: &str) -> u32 {
+pub fn trigger_code(kind: &str) -> u32 {
     const CODES: [TriggerKind; 5] = [
         TriggerKind::HttpTrigger,
         TriggerKind::TimerFires,

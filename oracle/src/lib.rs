@@ -11,3 +11,6 @@ pub mod random;
 pub mod script;
 pub mod shrink;
 pub mod vectors;
+
+pub use dali2rust_rules_model as model;
+pub use dali2rust_rules_runtime::runtime::engine::access;

@@ -85,7 +85,7 @@ fn play() -> io::Result<()> {
     let mut player = Player::default();
     let mut line = Vec::new();
     while input.read_until(b'\n', &mut line)? > 0 {
-        output.write_all(player.feed(&String::from_utf8_lossy(&line)).as_bytes())?;
+        output.write_all(player.feed_bytes(&line).as_bytes())?;
         line.clear();
         if input.buffer().is_empty() {
             output.flush()?;

@@ -6,12 +6,24 @@
 //! lend OUTCOME_WORDS EFFECT_WORDS | size WORDS | poke PLACE WORD | peek PLACE
 //! ```
 //!
-//! A `#` starts a comment. Bad text gets one line that names the line number, and play goes on.
+//! A `#` starts a comment. Bad text gets one line that names the line number and what is wrong, and
+//! play goes on. The proved player prints the same texts.
 
 use std::fmt::Write;
-use std::str::{FromStr, SplitAsciiWhitespace};
+use std::str::SplitAsciiWhitespace;
 
 use crate::house::{Answer, Call, House, Outcome};
+
+/// The longest line in bytes, its end not counted, and the longest image or snapshot in words.
+const LINE_BYTES: usize = 262_144;
+const LIST_WORDS: usize = 8_192;
+/// The largest number of each kind of parameter.
+const TIME: u64 = u64::MAX;
+const WORD: u64 = u32::MAX as u64;
+const MARK: u64 = 1;
+const PLACE: u64 = 16_383;
+const OUTCOMES: u64 = 24_576;
+const EFFECTS: u64 = 327_680;
 
 /// The words of one line that are not read yet.
 struct Words<'a> {
@@ -19,52 +31,66 @@ struct Words<'a> {
     rest: SplitAsciiWhitespace<'a>,
 }
 
-impl<'a> Words<'a> {
-    fn number<T: FromStr>(&mut self, what: &str) -> Result<T, String> {
+impl Words<'_> {
+    fn wrong<T>(&self, what: &str) -> Result<T, String> {
+        Err(format!("{}: {what}", self.call))
+    }
+
+    /// The next parameter: a number of at most `most`.
+    fn number(&mut self, what: &str, most: u64) -> Result<u64, String> {
         match self.rest.next() {
-            Some(text) => number(text),
-            None => Err(format!("{} needs {what}", self.call)),
+            Some(text) => number(text, most).or_else(|why| self.wrong(&format!("{what} {why}"))),
+            None => self.wrong(&format!("{what} is missing")),
         }
+    }
+
+    fn word(&mut self, what: &str) -> Result<u32, String> {
+        self.number(what, WORD).map(|number| number as u32)
     }
 
     fn flag(&mut self, what: &str) -> Result<bool, String> {
-        match self.number::<u32>(what)? {
-            0 => Ok(false),
-            1 => Ok(true),
-            other => Err(format!("{} needs {what} as 0 or 1, not {other}", self.call)),
-        }
+        self.number(what, MARK).map(|number| number == 1)
     }
 
-    /// All words that are left: an image or a snapshot, which may be empty (and is then refused).
+    /// All words that are left, numbered from 0: an image or a snapshot, which may be empty (and
+    /// is then refused).
     fn list(&mut self) -> Result<Vec<u32>, String> {
-        self.rest.by_ref().map(number).collect()
+        let mut words = Vec::new();
+        while let Some(text) = self.rest.next() {
+            let i = words.len();
+            if i == LIST_WORDS {
+                return self.wrong(&format!("more than {LIST_WORDS} words"));
+            }
+            match number(text, WORD) {
+                Ok(number) => words.push(number as u32),
+                Err(why) => return self.wrong(&format!("word {i} {why}")),
+            }
+        }
+        Ok(words)
     }
 
     fn end(mut self, call: Call) -> Result<Option<Call>, String> {
         match self.rest.next() {
-            Some(extra) => Err(format!("{} has an extra word {}", self.call, shown(extra))),
+            Some(_) => self.wrong("a word too many"),
             None => Ok(Some(call)),
         }
     }
 }
 
-/// Decimal digits and nothing else; 32 bits for a word, 64 for a time.
-fn number<T: FromStr>(text: &str) -> Result<T, String> {
+/// Decimal digits and nothing else, or what is wrong with them.
+fn number(text: &str, most: u64) -> Result<u64, String> {
     if !text.bytes().all(|byte| byte.is_ascii_digit()) {
-        return Err(format!("{} is no decimal number", shown(text)));
+        return Err("is no decimal number".to_owned());
     }
-    let bits = 8 * std::mem::size_of::<T>();
-    text.parse().map_err(|_| format!("{} does not fit into {bits} bits", shown(text)))
-}
-
-/// A word of the script for a message: one line, not too long.
-fn shown(text: &str) -> String {
-    const LONGEST: usize = 40;
-    let mut short: String = text.chars().take(LONGEST).flat_map(char::escape_debug).collect();
-    if text.chars().nth(LONGEST).is_some() {
-        short.push_str("...");
+    match text.parse() {
+        Ok(number) if number <= most => Ok(number),
+        _ => Err(match most {
+            TIME => "does not fit into 64 bits".to_owned(),
+            WORD => "does not fit into 32 bits".to_owned(),
+            MARK => "is neither 0 nor 1".to_owned(),
+            _ => format!("is over {most}"),
+        }),
     }
-    format!("\"{short}\"")
 }
 
 /// A line as a call; None for a blank line or a comment.
@@ -76,26 +102,28 @@ pub fn parse(line: &str) -> Result<Option<Call>, String> {
     };
     let mut words = Words { call, rest };
     let parsed = match call {
-        "new" => Call::New { time: words.number("a time")? },
-        "load" => Call::Load { time: words.number("a time")?, image: words.list()? },
-        "unload" => Call::Unload { time: words.number("a time")? },
-        "enable" => Call::Enable { rule: words.number("a rule")?, on: words.flag("a mark")? },
+        "new" => Call::New { time: words.number("time", TIME)? },
+        "load" => Call::Load { time: words.number("time", TIME)?, image: words.list()? },
+        "unload" => Call::Unload { time: words.number("time", TIME)? },
+        "enable" => Call::Enable { rule: words.word("rule")?, on: words.flag("mark")? },
         "tick" => Call::Tick { snapshot: words.list()? },
         "run" => Call::Run {
-            rule: words.number("a rule")?,
-            dry: words.flag("a dry mark")?,
+            rule: words.word("rule")?,
+            dry: words.flag("dry mark")?,
             snapshot: words.list()?,
         },
         "deadline" => Call::Deadline,
         "counters" => Call::Counters,
         "lend" => Call::Lend {
-            outcomes: words.number("a number of outcome words")?,
-            effects: words.number("a number of effect words")?,
+            outcomes: words.number("number of outcome words", OUTCOMES)? as u32,
+            effects: words.number("number of effect words", EFFECTS)? as u32,
         },
-        "size" => Call::Size { words: words.number("a number of words")? },
-        "poke" => Call::Poke { place: words.number("a place")?, word: words.number("a word")? },
-        "peek" => Call::Peek { place: words.number("a place")? },
-        other => return Err(format!("{} is no call", shown(other))),
+        "size" => Call::Size { words: words.word("number of words")? },
+        "poke" => {
+            Call::Poke { place: words.number("place", PLACE)? as u32, word: words.word("word")? }
+        }
+        "peek" => Call::Peek { place: words.number("place", PLACE)? as u32 },
+        _ => return Err("no such call".to_owned()),
     };
     words.end(parsed)
 }
@@ -209,10 +237,21 @@ pub struct Player {
 }
 
 impl Player {
-    /// What the next line of the script prints.
+    /// What the next line of the script prints. The line comes with its end or without.
     pub fn feed(&mut self, line: &str) -> String {
+        self.feed_bytes(line.as_bytes())
+    }
+
+    /// The same of a line that may be no UTF-8.
+    pub fn feed_bytes(&mut self, line: &[u8]) -> String {
         self.line += 1;
-        match parse(line) {
+        let text = line.strip_suffix(b"\n").unwrap_or(line);
+        let parsed = if text.len() > LINE_BYTES {
+            Err("line too long".to_owned())
+        } else {
+            parse(&String::from_utf8_lossy(text))
+        };
+        match parsed {
             Ok(None) => String::new(),
             Ok(Some(call)) => write(&call, &self.house.call(&call)),
             Err(wrong) => format!("line {}: {wrong}\n", self.line),
@@ -224,7 +263,7 @@ impl Player {
 #[must_use]
 pub fn play(text: &str) -> String {
     let mut player = Player::default();
-    text.lines().map(|line| player.feed(line)).collect()
+    text.split_inclusive('\n').map(|line| player.feed(line)).collect()
 }
 
 #[cfg(test)]

@@ -10,7 +10,7 @@ ghost use Rattle.model.specs.Rows.{rules};
 ghost use Rattle.image.specs.Accepted.{Accepted};
 ghost use Rattle.image.specs.Sized.{Sized};
 ghost use Rattle.state.specs.Meaning.{Sound, meaning};
-ghost use Rattle.activate.specs.Decisions.{isAuto, isDry, InCooldownIs, CooldownHolds, Decides};
+ghost use Rattle.activate.specs.Decisions.{isAuto, InCooldownIs, CooldownHolds, Decides};
 
 pub enum Decision {
     Begins,
@@ -29,16 +29,6 @@ fn is_auto(mode: Mode) -> bool
         Mode::Auto => true,
         Mode::Manual => false,
         Mode::Dry => false,
-    }
-}
-
-pub fn is_dry(mode: Mode) -> bool
-    ensures { λ r. ⌜ r ≡ isDry mode ⌝ }
-{
-    match mode {
-        Mode::Auto => false,
-        Mode::Manual => false,
-        Mode::Dry => true,
     }
 }
 

@@ -19,6 +19,7 @@ ghost use Rattle.model.specs.Rules.{ruleNamed, holdHclOf};
 ghost use Rattle.image.specs.Accepted.{Accepted};
 ghost use Rattle.image.specs.Sized.{Sized};
 ghost use Rattle.exec.specs.Lists.{FlatWords};
+ghost use Rattle.activate.specs.Decisions.{isDry};
 ghost use Rattle.activate.specs.Handled.{Room, Activates, Resumes};
 
 // What activations and resumptions did so far: the state, and how many outcomes and effects are written, or would be.
@@ -38,6 +39,16 @@ pub enum Mode {
 const CONDITION_UNEVALUABLE: u32 = 1;
 
 const CHAIN_DEPTH: u32 = 3;
+
+fn is_dry(mode: Mode) -> bool
+    ensures { λ r. ⌜ r ≡ isDry mode ⌝ }
+{
+    match mode {
+        Mode::Auto => false,
+        Mode::Manual => false,
+        Mode::Dry => true,
+    }
+}
 
 // Rule `name`, at place i of the image.
 fn job_of(image: &[u32], name: u32, i: u32, kind: u32, dry: bool) -> Job
@@ -72,7 +83,7 @@ pub fn activate(
     ensures { λ r. ⌜ Activates (now (snapshot .entry)) (now (image .entry)) (now (steps .entry)) i kind depth mode x (now (outcomes .entry)) (now (effects .entry)) r (now (outcomes .exit)) (now (effects .exit)) ⌝ }
 {
     let v = x.vol;
-    let dry = decide::is_dry(mode);
+    let dry = is_dry(mode);
     let job = job_of(image, image::rule::name_of(image, i), i, kind, dry);
     match decide::decide(snapshot, image, v, i, depth, mode) {
         Decision::Begins => execute::execute(snapshot, image, steps, outcomes, effects, x, job),

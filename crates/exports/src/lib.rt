@@ -7,6 +7,8 @@ ghost use Rattle.model.specs.Load.{imageRefusal};
 ghost use Rattle.model.specs.Flat.{flattenRules, stepsIn};
 ghost use Rattle.model.specs.Snapshot.{snapshotRefusal};
 
+pub mod evaluation;
+
 // 10 to 17, 0 for none.
 #[no_mangle]
 pub extern "C" fn cerambiu_image_refusal(img: &[u32]) -> u32

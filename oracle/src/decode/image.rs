@@ -97,12 +97,22 @@ pub(super) fn part<T: Clone>(table: &[T], first: u32, count: u32) -> List<T> {
     List::from(table.get(start..end).unwrap_or(&[]).to_vec())
 }
 
+fn trailer(image: &[u32]) -> [u32; TRAILER_WORDS] {
+    let from = image.len().saturating_sub(TRAILER_WORDS);
+    std::array::from_fn(|at| image.get(from + at).copied().unwrap_or(0))
+}
+
+/// The conditions and the values of an image, record by record.
+#[must_use]
+pub fn conditions_and_values(image: &[u32]) -> (Vec<Condition>, Vec<ValueExpr>) {
+    let parts = Parts::new(&Tables::new(image, &trailer(image)));
+    (parts.conditions, parts.values)
+}
+
 /// The loaded set and its five limits.
 #[must_use]
 pub fn rule_set(image: &[u32]) -> (RuleSet, Limits) {
-    let from = image.len().saturating_sub(TRAILER_WORDS);
-    let trailer: [u32; TRAILER_WORDS] =
-        std::array::from_fn(|at| image.get(from + at).copied().unwrap_or(0));
+    let trailer = trailer(image);
     let tables = Tables::new(image, &trailer);
     let parts = Parts::new(&tables);
     let records: Vec<[u32; 16]> = tables.records(ACTIONS).collect();

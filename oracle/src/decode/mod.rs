@@ -8,7 +8,7 @@ mod snapshot;
 #[cfg(test)]
 mod tests;
 
-pub use image::rule_set;
+pub use image::{conditions_and_values, rule_set};
 pub use snapshot::world;
 
 /// A name keeps its number's order as text: ten digits, leading zeros.

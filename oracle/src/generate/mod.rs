@@ -1,6 +1,7 @@
 //! Seeded histories of calls: valid and hostile images and snapshots, clocks
 //! that jump, loads while continuations wait, lent stores near what is needed.
 
+pub mod evaluation;
 mod hostile;
 mod parts;
 pub mod probe;

@@ -21,32 +21,56 @@ fn the_play_example_prints_the_lines_of_document_01() {
 fn each_error_names_its_line_and_play_goes_on() {
     let text = "fly 1\n\n# comment\nnew 18446744073709551616\nrun 4294967296 0\nload\nrun 5\n\
                 deadline 1\nnew 0 0\nenable 5 2\ntick 1 x\npoke 1\ntick -1\npeek +1\nsize\n\
-                lend 1\ntick \u{2028}\ndeadline # comment\n";
-    let expected = "line 1: \"fly\" is no call\n\
-        line 4: \"18446744073709551616\" does not fit into 64 bits\n\
-        line 5: \"4294967296\" does not fit into 32 bits\n\
-        line 6: load needs a time\n\
-        line 7: run needs a dry mark\n\
-        line 8: deadline has an extra word \"1\"\n\
-        line 9: new has an extra word \"0\"\n\
-        line 10: enable needs a mark as 0 or 1, not 2\n\
-        line 11: \"x\" is no decimal number\n\
-        line 12: poke needs a word\n\
-        line 13: \"-1\" is no decimal number\n\
-        line 14: \"+1\" is no decimal number\n\
-        line 15: size needs a number of words\n\
-        line 16: lend needs a number of effect words\n\
-        line 17: \"\\u{2028}\" is no decimal number\n\
+                lend 1\ntick \u{2028}\nload 0 1 2 4294967296 x\nrun 5 9999999999\nrun 5 x\n\
+                new x\nunload 1 x\npoke 16384 0\npeek 16384\nlend 24577 0\nlend 0 327681\n\
+                NEW 0\nnew\u{b}0\ndeadline # comment\n";
+    let expected = "line 1: no such call\n\
+        line 4: new: time does not fit into 64 bits\n\
+        line 5: run: rule does not fit into 32 bits\n\
+        line 6: load: time is missing\n\
+        line 7: run: dry mark is missing\n\
+        line 8: deadline: a word too many\n\
+        line 9: new: a word too many\n\
+        line 10: enable: mark is neither 0 nor 1\n\
+        line 11: tick: word 1 is no decimal number\n\
+        line 12: poke: word is missing\n\
+        line 13: tick: word 0 is no decimal number\n\
+        line 14: peek: place is no decimal number\n\
+        line 15: size: number of words is missing\n\
+        line 16: lend: number of effect words is missing\n\
+        line 17: tick: word 0 is no decimal number\n\
+        line 18: load: word 2 does not fit into 32 bits\n\
+        line 19: run: dry mark is neither 0 nor 1\n\
+        line 20: run: dry mark is no decimal number\n\
+        line 21: new: time is no decimal number\n\
+        line 22: unload: a word too many\n\
+        line 23: poke: place is over 16383\n\
+        line 24: peek: place is over 16383\n\
+        line 25: lend: number of outcome words is over 24576\n\
+        line 26: lend: number of effect words is over 327680\n\
+        line 27: no such call\n\
+        line 28: no such call\n\
         deadline none\n";
     assert_eq!(play(text), expected);
 }
 
 #[test]
-fn a_long_word_is_cut_in_its_message() {
+fn numbers_have_any_length() {
     let nines = "9".repeat(100);
-    let expected = format!("line 1: \"{}...\" does not fit into 64 bits\n", "9".repeat(40));
-    assert_eq!(play(&format!("new {nines}")), expected);
+    assert_eq!(play(&format!("new {nines}")), "line 1: new: time does not fit into 64 bits\n");
     assert_eq!(play("new 18446744073709551615\nnew 000000000000000000000000001"), "");
+}
+
+#[test]
+fn lists_and_lines_that_are_too_long() {
+    let list = " 1".repeat(LIST_WORDS);
+    assert_eq!(play(&format!("tick{list}")), "tick refused 20\n");
+    assert_eq!(play(&format!("tick{list} x")), "line 1: tick: more than 8192 words\n");
+    let line = "#".repeat(LINE_BYTES);
+    assert_eq!(play(&format!("{line}\n{line}#\ndeadline")), "line 2: line too long\ndeadline none\n");
+    let mut player = Player::default();
+    let line = vec![b'\xff'; LINE_BYTES];
+    assert_eq!(player.feed_bytes(&line), "line 1: no such call\n");
 }
 
 #[test]

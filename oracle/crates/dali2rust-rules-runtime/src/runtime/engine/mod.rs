@@ -262,3 +262,5 @@ fn mqtt_value(payload: &[u8], truncated: bool) -> Option<i64> {
     let number: i32 = core::str::from_utf8(payload).ok()?.parse().ok()?;
     Some(i64::from(number))
 }
+
+pub mod access;

@@ -1,0 +1,137 @@
+//! A store from what the oracle keeps, and what the oracle evaluates from a store.
+
+use std::collections::BTreeMap;
+
+use oracle::access::{Kept, KeptPending, KeptPlace};
+use oracle::decode::{name, number};
+use oracle::house::{self, Answer, Call, House};
+use oracle::model::{Text, VarValue};
+
+use crate::flat_form::{self, Step, AFTER};
+use crate::store::{Pending, Slot, Store, Timer, Value, Variable};
+use crate::tables::Tables;
+
+/// A house with the image of its loaded set, which it does not keep itself.
+#[derive(Default)]
+pub struct Player {
+    house: House,
+    image: Option<Vec<u32>>,
+}
+
+impl Player {
+    pub fn call(&mut self, call: &Call) -> Answer {
+        let answer = self.house.call(call);
+        if answer == Answer::Silent {
+            match call {
+                Call::Load { image, .. } => self.image = Some(image.clone()),
+                Call::New { .. } | Call::Unload { .. } => self.image = None,
+                _ => {}
+            }
+        }
+        answer
+    }
+
+    /// The store that the house would have; None where its size is not a store's, or a place is not found.
+    pub fn store(&mut self) -> Option<Store> {
+        let Answer::Counters(counters) = self.house.call(&Call::Counters) else {
+            return None;
+        };
+        let (kept, next) = self.house.kept();
+        let names = self.image.as_deref().map_or_else(Vec::new, |image| Tables::of(image).rule_names());
+        let lists = self.image.as_deref().map_or_else(Vec::new, flat_form::lists);
+        let of_rules = || names.iter().map(|rule| name(*rule));
+        Some(Store {
+            last: kept.now_ms,
+            image: self.image.clone(),
+            activations: of_rules().map(|rule| kept.last_activation_ms.get(&rule).copied()).collect(),
+            positions: of_rules().map(|rule| kept.cycle_pos.get(&rule).map(|at| *at as u32)).collect(),
+            variables: kept.vars.iter().map(|(name, value)| variable(name, value)).collect(),
+            timers: kept.timers.iter().map(|(name, due)| Timer { name: number(name), due: *due }).collect(),
+            slots: slots(&kept),
+            pending: kept.pending.iter().map(|held| pending(held, &names, &lists)).collect::<Option<_>>()?,
+            bits: kept.enabled,
+            week_minute: kept.prev_week_min,
+            next,
+            counters: std::array::from_fn(|place| counters[place]),
+        })
+    }
+}
+
+fn variable(name: &str, value: &VarValue) -> Variable {
+    let value = match value {
+        VarValue::Int(integer) => Value::Integer(*integer),
+        VarValue::Text(text) => Value::Text(text.number),
+    };
+    Variable { name: number(name), value }
+}
+
+fn slots(kept: &Kept) -> Vec<Slot> {
+    let slot = |slot: &oracle::access::KeptSlot| Slot {
+        rule: number(&slot.rule),
+        place: slot.trigger_idx as u32,
+        period: slot.period_ms,
+        due: slot.due_ms,
+    };
+    kept.every.iter().map(slot).collect()
+}
+
+fn pending(held: &KeptPending, names: &[u32], lists: &[Vec<Step>]) -> Option<Pending> {
+    let rule = number(&held.rule);
+    let own = lists.get(names.iter().position(|name| *name == rule)?)?;
+    let (list, place, jump) = stored_place(held.place?, own)?;
+    Some(Pending {
+        seq: held.seq,
+        due: held.due_ms,
+        rule,
+        list,
+        place,
+        jump,
+        budget: held.budget_left,
+        trigger: house::trigger_code(held.trigger_kind),
+    })
+}
+
+/// List, place and jump in the words, where a body stands behind its after.
+fn stored_place(at: KeptPlace, own: &[Step]) -> Option<(u32, u32, Option<(u32, u32)>)> {
+    let (number, list) = match at.after {
+        None => (0, own),
+        Some(after) => {
+            let place = stored(own, after);
+            (place + 1, own.get(place + 1..place + 1 + own.get(place)?[2] as usize)?)
+        }
+    };
+    let jump = at.branch.and_then(|branch| {
+        let place = stored(list, branch);
+        let end = place as u32 + 1 + list.get(place)?[2];
+        Some((end, end + list[place][3]))
+    });
+    Some((number as u32, stored(list, at.step) as u32, jump))
+}
+
+/// The stored place of a step that is counted without bodies.
+fn stored(list: &[Step], step: usize) -> usize {
+    (0..step).fold(0, |place, _| match list.get(place) {
+        Some([AFTER, _, body, _]) => place + 1 + *body as usize,
+        _ => place + 1,
+    })
+}
+
+/// What evaluation reads of a store.
+pub fn evaluated(store: &Store) -> Kept {
+    let names = store.image.as_deref().map_or_else(Vec::new, |image| Tables::of(image).rule_names());
+    let activations = names.iter().zip(&store.activations);
+    Kept {
+        enabled: store.bits.clone(),
+        last_activation_ms: activations.filter_map(|(rule, time)| Some((name(*rule), (*time)?))).collect(),
+        vars: store.variables.iter().map(|variable| (name(variable.name), held(variable.value))).collect::<BTreeMap<_, _>>(),
+        timers: store.timers.iter().map(|timer| (name(timer.name), timer.due)).collect(),
+        ..Kept::default()
+    }
+}
+
+fn held(value: Value) -> VarValue {
+    match value {
+        Value::Integer(integer) => VarValue::Int(integer),
+        Value::Text(number) => VarValue::Text(Text { number, bytes: 0 }),
+    }
+}

@@ -1,0 +1,5 @@
+pub mod Text
+pub mod Words
+pub mod Script
+pub mod Scan
+pub mod Starts

@@ -1,0 +1,50 @@
+-- A line of a script: its comment, its words, and the numbers that they stand for.
+use Prim.Native.Nat.{ℕ, _+_, _*_, _-_}
+use mathlib.Core.Bool.{Bool, true, false, cond, not, _&&_, _||_}
+use mathlib.Core.List.{List, [], _∷_}
+use lib.Dec.{leb, eqb}
+use Rattle.model.specs.Lists.{all}
+pub use Rattle.script.specs.declared.Argument.{Argument}
+pub use Rattle.script.specs.declared.Argument.the-variants.{NoNumber, TooLarge, Number}
+
+-- "a `#` starts a comment"
+unfoldable pub uncommented : List ℕ → List ℕ
+uncommented [] = []
+uncommented (b ∷ bs) = cond (eqb b 35) [] (b ∷ uncommented bs)
+
+-- space, tab, line end, form feed, carriage return, but no vertical tab: Rust's `is_ascii_whitespace`
+unfoldable pub isSpace : ℕ → Bool
+isSpace b = eqb b 32 || (leb 9 b && (leb b 13 && not (eqb b 11)))
+
+-- a word ends here
+abbrev pub atSpace : List ℕ → Bool
+atSpace [] = true
+atSpace (b ∷ bs) = isSpace b
+
+-- the byte b before the words that follow it: white space; the last byte of a word; another byte of the first word
+abbrev pub before : Bool → Bool → ℕ → List (List ℕ) → List (List ℕ)
+before true ends b ws = ws
+before false true b ws = (b ∷ []) ∷ ws
+before false false b [] = (b ∷ []) ∷ []
+before false false b (w ∷ ws) = (b ∷ w) ∷ ws
+
+-- the words, split at white space
+unfoldable pub wordsOf : List ℕ → List (List ℕ)
+wordsOf [] = []
+wordsOf (b ∷ bs) = before (isSpace b) (atSpace bs) b (wordsOf bs)
+
+unfoldable pub isDigit : ℕ → Bool
+isDigit b = leb 48 b && leb b 57
+
+-- the number that decimal digits stand for, behind digits that stand for n
+unfoldable pub valueFrom : ℕ → List ℕ → ℕ
+valueFrom n [] = n
+valueFrom n (b ∷ bs) = valueFrom (10 * n + (b - 48)) bs
+
+abbrev pub pickArgument : Bool → Argument → Argument → Argument
+pickArgument true a b = a
+pickArgument false a b = b
+
+-- a word that is to be a number of at most `most`
+unfoldable pub argumentOf : ℕ → List ℕ → Argument
+argumentOf most w = pickArgument (all isDigit w) (pickArgument (leb (valueFrom 0 w) most) (Number (valueFrom 0 w)) TooLarge) NoNumber

@@ -1,0 +1,170 @@
+//! Ours, not one of the eleven files: what an engine keeps, and evaluation without a run.
+
+use std::collections::BTreeMap;
+
+use dali2rust_rules_model::{Condition, RuleSet, ValueExpr, VarValue};
+
+use super::eval::{eval_condition, eval_value, EvalEnv};
+use super::exec::{flatten_rule, FlatStep};
+use super::state::{Continuation, EventCtx, NamedTimer, Volatile};
+use super::world::WorldSnapshot;
+use super::Engine;
+
+/// What a store keeps of an engine, but for the set and the counters.
+#[derive(Clone, Debug, Default, PartialEq)]
+pub struct Kept {
+    pub now_ms: u64,
+    pub enabled: Vec<bool>,
+    pub last_activation_ms: BTreeMap<String, u64>,
+    pub cycle_pos: BTreeMap<String, usize>,
+    pub vars: BTreeMap<String, VarValue>,
+    /// Name and due time.
+    pub timers: Vec<(String, u64)>,
+    pub every: Vec<KeptSlot>,
+    pub pending: Vec<KeptPending>,
+    pub prev_week_min: Option<u32>,
+}
+
+#[derive(Clone, Debug, PartialEq)]
+pub struct KeptSlot {
+    pub rule: String,
+    pub trigger_idx: usize,
+    pub period_ms: u32,
+    pub due_ms: u64,
+}
+
+#[derive(Clone, Debug, PartialEq)]
+pub struct KeptPending {
+    pub seq: u64,
+    pub due_ms: u64,
+    pub rule: String,
+    pub trigger_kind: &'static str,
+    pub budget_left: u32,
+    /// A place of the rule's lists from which the same steps are left.
+    pub place: Option<KeptPlace>,
+}
+
+/// A place of a rule's list as `flatten_rule` makes it.
+#[derive(Clone, Copy, Debug, PartialEq, Eq)]
+pub struct KeptPlace {
+    /// The step whose body the list is; None for the rule's own list.
+    pub after: Option<usize>,
+    pub step: usize,
+    /// The branch whose then-region holds the step.
+    pub branch: Option<usize>,
+}
+
+impl Engine {
+    #[must_use]
+    pub fn kept(&self) -> Kept {
+        let vol = &self.vol;
+        Kept {
+            now_ms: self.now_ms,
+            enabled: self.enabled.clone(),
+            last_activation_ms: vol.last_activation_ms.clone(),
+            cycle_pos: vol.cycle_pos.clone(),
+            vars: vol.vars.clone(),
+            timers: vol.timers.iter().map(|t| (t.name.clone(), t.due_ms)).collect(),
+            every: vol.every.iter().map(slot).collect(),
+            pending: vol.continuations.iter().map(|c| pending(c, self.rules.as_ref())).collect(),
+            prev_week_min: vol.prev_week_min,
+        }
+    }
+}
+
+fn slot(slot: &super::state::EverySlot) -> KeptSlot {
+    KeptSlot {
+        rule: slot.rule.clone(),
+        trigger_idx: slot.trigger_idx,
+        period_ms: slot.period_ms,
+        due_ms: slot.due_ms,
+    }
+}
+
+fn pending(held: &Continuation, rules: Option<&RuleSet>) -> KeptPending {
+    let rule = rules.and_then(|set| set.rule(&held.rule).map(|rule| (set, rule)));
+    let place = rule.and_then(|(set, rule)| {
+        let own: Vec<FlatStep> = flatten_rule(&rule.actions, &set.blocks).into();
+        place_in_lists(&own, &held.steps)
+    });
+    KeptPending {
+        seq: held.seq,
+        due_ms: held.due_ms,
+        rule: held.rule.clone(),
+        trigger_kind: held.trigger_kind,
+        budget_left: held.budget_left,
+        place,
+    }
+}
+
+/// The first place of the rule's own list, or of a body in it, from which these steps are left.
+fn place_in_lists(own: &[FlatStep], left: &[FlatStep]) -> Option<KeptPlace> {
+    let bodies = own.iter().enumerate().filter_map(|(at, step)| match step {
+        FlatStep::AfterSched { body, .. } => Some((Some(at), body.as_slice())),
+        _ => None,
+    });
+    std::iter::once((None, own))
+        .chain(bodies)
+        .find_map(|(after, list)| place_in(list, left).map(|(step, branch)| KeptPlace { after, step, branch }))
+}
+
+fn place_in(list: &[FlatStep], left: &[FlatStep]) -> Option<(usize, Option<usize>)> {
+    (0..=list.len()).find_map(|step| {
+        let region = region_around(list, step);
+        let rest = match region {
+            Some((_, end, past)) => [&list[step..end], &list[past..]],
+            None => [&list[step..], &[]],
+        };
+        let same = rest[0].len() + rest[1].len() == left.len()
+            && rest[0].iter().chain(rest[1]).eq(left.iter());
+        same.then_some((step, region.map(|(branch, ..)| branch)))
+    })
+}
+
+/// The branch whose then-region holds a place, the region's end, and the end of the else-region.
+fn region_around(list: &[FlatStep], place: usize) -> Option<(usize, usize, usize)> {
+    list.iter().enumerate().take(place).find_map(|(at, step)| match step {
+        FlatStep::Branch { then_len, else_len, .. } if place <= at + then_len => {
+            Some((at, at + 1 + then_len, at + 1 + then_len + else_len))
+        }
+        _ => None,
+    })
+}
+
+/// Evaluates over a set and what is kept for it. No event is at hand, as in ticks and runs.
+pub struct Evaluator {
+    rules: RuleSet,
+    enabled: Vec<bool>,
+    vol: Volatile,
+    ctx: EventCtx,
+}
+
+impl Evaluator {
+    #[must_use]
+    pub fn new(rules: RuleSet, kept: Kept) -> Evaluator {
+        let timers = kept.timers.into_iter().map(|(name, due_ms)| NamedTimer { name, due_ms });
+        let vol = Volatile {
+            last_activation_ms: kept.last_activation_ms,
+            vars: kept.vars,
+            timers: timers.collect(),
+            ..Volatile::default()
+        };
+        Evaluator { rules, enabled: kept.enabled, vol, ctx: EventCtx::default() }
+    }
+
+    fn env<'a>(&'a self, world: &'a WorldSnapshot) -> EvalEnv<'a> {
+        EvalEnv { world, vol: &self.vol, rules: &self.rules, enabled: &self.enabled, ctx: &self.ctx }
+    }
+
+    /// None: unevaluable.
+    #[must_use]
+    pub fn condition(&self, world: &WorldSnapshot, condition: &Condition) -> Option<bool> {
+        eval_condition(&self.env(world), condition).ok()
+    }
+
+    /// None: unevaluable.
+    #[must_use]
+    pub fn value(&self, world: &WorldSnapshot, value: &ValueExpr) -> Option<i64> {
+        eval_value(&self.env(world), value).ok()
+    }
+}
