@@ -31,7 +31,8 @@ impl Player {
         answer
     }
 
-    /// The store that the house would have; None where its size is not a store's, or a place is not found.
+    /// The store that the house would have; None where its size is not a store's. A pending record whose place is not found
+    /// gets a list that no rule has.
     pub fn store(&mut self) -> Option<Store> {
         let Answer::Counters(counters) = self.house.call(&Call::Counters) else {
             return None;
@@ -48,7 +49,7 @@ impl Player {
             variables: kept.vars.iter().map(|(name, value)| variable(name, value)).collect(),
             timers: kept.timers.iter().map(|(name, due)| Timer { name: number(name), due: *due }).collect(),
             slots: slots(&kept),
-            pending: kept.pending.iter().map(|held| pending(held, &names, &lists)).collect::<Option<_>>()?,
+            pending: kept.pending.iter().map(|held| pending(held, &names, &lists)).collect(),
             bits: kept.enabled,
             week_minute: kept.prev_week_min,
             next,
@@ -75,11 +76,12 @@ fn slots(kept: &Kept) -> Vec<Slot> {
     kept.every.iter().map(slot).collect()
 }
 
-fn pending(held: &KeptPending, names: &[u32], lists: &[Vec<Step>]) -> Option<Pending> {
+fn pending(held: &KeptPending, names: &[u32], lists: &[Vec<Step>]) -> Pending {
     let rule = number(&held.rule);
-    let own = lists.get(names.iter().position(|name| *name == rule)?)?;
-    let (list, place, jump) = stored_place(held.place?, own)?;
-    Some(Pending {
+    let own = names.iter().position(|name| *name == rule).and_then(|rule| lists.get(rule));
+    let found = own.zip(held.place).and_then(|(own, place)| stored_place(place, own));
+    let (list, place, jump) = found.unwrap_or((u32::MAX, 0, None));
+    Pending {
         seq: held.seq,
         due: held.due_ms,
         rule,
@@ -88,7 +90,7 @@ fn pending(held: &KeptPending, names: &[u32], lists: &[Vec<Step>]) -> Option<Pen
         jump,
         budget: held.budget_left,
         trigger: house::trigger_code(held.trigger_kind),
-    })
+    }
 }
 
 /// List, place and jump in the words, where a body stands behind its after.

@@ -2,7 +2,8 @@
 //!
 //! - Refusals: their images and snapshots, valid and hostile, and so many of the accepted ones varied word by word and cut at every length.
 //! - Evaluation: every condition and value of an image, in random and in the histories' snapshots and stores, with the table of what was met.
-//! - Stores: every word of good stores changed, one at a time, with the table of the rules that are then broken.
+//! - Stores: the proved check beside a reader of the words, on the histories' stores and with every word of good stores changed, one at
+//!   a time, with the table of the rules that are then broken; and the time of a check of a full store beside a sum of its words.
 //!
 //! Prints the counts, the slowest images, and each difference; its status is 1 if there is one, or if a cell of the table is empty.
 
@@ -42,6 +43,7 @@ fn main() -> ExitCode {
     evaluated.scenes(histories, seed);
     evaluated.histories(histories, seed);
     let mut changes = Changes::default();
+    changes.histories(histories, seed);
     changes.sweep(seed);
     let parts = [tally.report(), evaluated.report(), changes.report()];
     println!("comparison: {} of 3 parts without a difference", parts.iter().filter(|fine| **fine).count());

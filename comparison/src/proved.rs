@@ -4,6 +4,7 @@ extern "C" {
     fn cerambiu_image_refusal(words: *const u32, count: usize) -> u32;
     fn cerambiu_flat_steps(words: *const u32, count: usize) -> usize;
     fn cerambiu_snapshot_refusal(words: *const u32, count: usize) -> u32;
+    fn cerambiu_store_check(words: *const u32, count: usize) -> bool;
     fn cerambiu_condition(
         snapshot: *const u32,
         snapshot_count: usize,
@@ -38,6 +39,11 @@ pub fn flat_steps(image: &[u32]) -> usize {
 pub fn snapshot_refusal(snapshot: &[u32]) -> u32 {
     // SAFETY: as above.
     unsafe { cerambiu_snapshot_refusal(snapshot.as_ptr(), snapshot.len()) }
+}
+
+pub fn store_check(store: &[u32]) -> bool {
+    // SAFETY: as above.
+    unsafe { cerambiu_store_check(store.as_ptr(), store.len()) }
 }
 
 /// What conditions and values are evaluated in.

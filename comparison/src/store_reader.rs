@@ -38,6 +38,32 @@ pub enum Broken {
 }
 
 impl Broken {
+    pub const ALL: [Broken; 23] = [
+        Broken::Size,
+        Broken::Loaded,
+        Broken::Count,
+        Broken::Mark,
+        Broken::Unused,
+        Broken::Position,
+        Broken::Trigger,
+        Broken::DepthOrEvent,
+        Broken::WeekMinute,
+        Broken::Image,
+        Broken::FlatForm,
+        Broken::RuleNotLoaded,
+        Broken::Text,
+        Broken::TimerNames,
+        Broken::VariableNames,
+        Broken::Slots,
+        Broken::PendingRule,
+        Broken::PendingList,
+        Broken::PendingPlace,
+        Broken::PendingJump,
+        Broken::PendingBudget,
+        Broken::SequenceTwice,
+        Broken::SequenceNotBelow,
+    ];
+
     /// Document 01's words.
     pub fn text(self) -> &'static str {
         match self {

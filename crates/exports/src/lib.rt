@@ -5,7 +5,9 @@ ghost use mathlib.Core.Bool.{cond};
 ghost use lib.Dec.{eqb};
 ghost use Rattle.model.specs.Load.{imageRefusal};
 ghost use Rattle.model.specs.Flat.{flattenRules, stepsIn};
+ghost use Rattle.model.specs.Lists.{present};
 ghost use Rattle.model.specs.Snapshot.{snapshotRefusal};
+ghost use Rattle.model.specs.Store.{read};
 
 pub mod evaluation;
 
@@ -39,4 +41,12 @@ pub extern "C" fn cerambiu_snapshot_refusal(snapshot: &[u32]) -> u32
     ensures { λ r. ⌜ r ≡ snapshotRefusal (now (snapshot .entry)) ⌝ }
 {
     world::refusal(snapshot)
+}
+
+// Whether the words are those of a store that keeps the rules.
+#[no_mangle]
+pub extern "C" fn cerambiu_store_check(store: &[u32]) -> bool
+    ensures { λ r. ⌜ r ≡ present (read (now (store .entry))) ⌝ }
+{
+    store::check(store)
 }
