@@ -1,13 +1,13 @@
 -- Where each part of a store stands, and what the layout says of its numbers. Assumes nothing.
 use mathlib.Core.Path.{_≡_, refl, sym, ap, _∙_}
-use mathlib.Core.Bool.{Bool, true, _&&_}
+use mathlib.Core.Bool.{true, _&&_}
 use mathlib.Core.List.{List, [], _∷_}
 use Prim.Native.Nat.{ℕ, zero, suc, _+_, _-_, _≤_, _<_, _^_}
 use native.Mathlib.Nat.{le-of-suc-le-suc, not-suc-le-zero}
 use native.Mathlib.Omega.{arith}
 use lib.Dec.{leb, ltb, eqb}
 use lib.ListN.{length, getD, take, drop, length-drop}
-use lib.Seq.{drop-drop, getD-drop}
+use lib.Seq.{drop-drop}
 use borrow.Author.Tests.{leb-true}
 use Rattle.model.specs.Layout.{sizes, partsFit}
 use Rattle.model.specs.Codec.{Row, word, wide, maybe, rowsAt, allGood}
@@ -203,7 +203,7 @@ good-changing w f =
     let p = layout .get w in
     both (changingPart .good (p .changing)) true (both (loadedPart .good (p .set)) _ (both (ltb (p .last) (2 ^ 64)) _ g .1) .1) .0
 
-table-long : {A : Type 0} (r : Row A) → RowLaws r → (n : ℕ) (w : List ℕ) (k : ℕ) → length (tableAt r n w k) ≡ n
+pub table-long : {A : Type 0} (r : Row A) → RowLaws r → (n : ℕ) (w : List ℕ) (k : ℕ) → length (tableAt r n w k) ≡ n
 unfolding tableAt
 table-long r p n w k = rows-count r p n (drop k w)
 

@@ -12,7 +12,7 @@ use Rattle.model.specs.Layout.{partsFit}
 use Rattle.model.specs.Image.{sizeOf, fewEnough}
 use Rattle.model.specs.Rows.{rules}
 use Rattle.model.specs.World.{isOne}
-use Rattle.model.specs.Parts.{any, slotRow, pendingRow, Loaded, layout}
+use Rattle.model.specs.Parts.{any, slotRow, pendingRow, layout}
 use Rattle.model.specs.Flat.{flattenRules, setOf}
 use Rattle.model.specs.Load.{imageRefusal}
 use Rattle.model.specs.State.{RuleSet}

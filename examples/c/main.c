@@ -1,0 +1,114 @@
+/*
+ * A house in C: a new store, the rule of document 01's example, a run, two ticks; then three refusals, one for each who can cause one.
+ *
+ *   rt staticlib cerambiu
+ *   cc -std=c99 -Iinclude examples/c/main.c target/staticlib/libcerambiu.a -o house && ./house
+ *
+ * It prints examples/c/expected.
+ */
+#include <inttypes.h>
+#include <stdio.h>
+
+#include "cerambiu.h"
+
+#define COUNT(words) (sizeof(words) / sizeof((words)[0]))
+#define OUTCOMES 4
+#define EFFECTS 16
+
+/* All memory of the house. */
+static uint32_t store[CERAMBIU_STORE_WORDS];
+static uint32_t outcomes[OUTCOMES * CERAMBIU_OUTCOME_WORDS];
+static uint32_t effects[EFFECTS * CERAMBIU_EFFECT_WORDS];
+
+/* Rule 5 logs text 7, waits a second, logs text 9. */
+static const uint32_t image[] = {
+    /* rule: name, enabled, hold, cooldown; triggers, conditions, actions, each first and count */
+    5, 1, 0, 0, 0, 0, 0, 0, 0, 3, 0, 0, 0, 0, 0, 0,
+    /* actions */
+    CERAMBIU_LOG, 7, 0, 0, 0, 0, 0, 0,
+    CERAMBIU_WAIT, 1000, 0, 0, 0, 0, 0, 0,
+    CERAMBIU_LOG, 9, 0, 0, 0, 0, 0, 0,
+    /* limits: budget, call depth, repeat, text, group; then the first word of each table */
+    8, 0, 1, 0, 0, 0, 16, 16, 16, 16, 40, 40, 40,
+};
+
+/* The time, no wall clock, no sun, controller active, no rows. */
+static void look(uint32_t snapshot[CERAMBIU_SNAPSHOT_HEAD_WORDS], uint64_t now)
+{
+    for (size_t i = 0; i < CERAMBIU_SNAPSHOT_HEAD_WORDS; i++) {
+        snapshot[i] = 0;
+    }
+    snapshot[0] = (uint32_t)now;
+    snapshot[1] = (uint32_t)(now >> 32);
+    snapshot[8] = 1;
+}
+
+static void print_outcome(const uint32_t *outcome)
+{
+    printf("rule %" PRIu32 " %" PRIu32 " %" PRIu32 " %" PRIu32 " %" PRIu32 "\n", outcome[0], outcome[1], outcome[2], outcome[3], outcome[5]);
+    for (uint32_t i = 0; i < outcome[5]; i++) {
+        const uint32_t *effect = effects + (outcome[4] + i) * CERAMBIU_EFFECT_WORDS;
+        printf("effect %" PRIu32 " %" PRIu32 " %" PRIu32 " %" PRIu32 " %" PRIu32 "\n", effect[0], effect[1], effect[2], effect[3], effect[4]);
+    }
+}
+
+/* What a tick or a run answered. */
+static void print_answer(const char *call, uint64_t now, uint32_t refusal, const uint32_t answer[CERAMBIU_TICK_VALUES])
+{
+    if (refusal != CERAMBIU_OK) {
+        printf("%s refused %" PRIu32 "\n", call, refusal);
+        return;
+    }
+    printf("%s %" PRIu64 " %" PRIu32 "\n", call, now, answer[0]);
+    for (uint32_t i = 0; i < answer[0]; i++) {
+        print_outcome(outcomes + i * CERAMBIU_OUTCOME_WORDS);
+    }
+}
+
+static void tick(uint64_t now)
+{
+    uint32_t snapshot[CERAMBIU_SNAPSHOT_HEAD_WORDS], answer[CERAMBIU_TICK_VALUES];
+    look(snapshot, now);
+    uint32_t refusal =
+        cerambiu_tick(store, COUNT(store), snapshot, COUNT(snapshot), outcomes, COUNT(outcomes), effects, COUNT(effects), answer, COUNT(answer));
+    print_answer("tick", now, refusal, answer);
+}
+
+/* A run by hand, with so many words for its outcomes. */
+static void run(uint64_t now, uint32_t rule, bool dry, size_t outcome_words)
+{
+    uint32_t snapshot[CERAMBIU_SNAPSHOT_HEAD_WORDS], answer[CERAMBIU_RUN_VALUES];
+    look(snapshot, now);
+    uint32_t refusal = cerambiu_run(store, COUNT(store), rule, dry, snapshot, COUNT(snapshot), outcomes, outcome_words, effects, COUNT(effects),
+                                    answer, COUNT(answer));
+    print_answer("run", now, refusal, answer);
+}
+
+int main(void)
+{
+    uint32_t refusal = cerambiu_new(store, COUNT(store), 0);
+    if (refusal == CERAMBIU_OK) {
+        refusal = cerambiu_load(store, COUNT(store), 0, image, COUNT(image));
+    }
+    if (refusal != CERAMBIU_OK) {
+        printf("refused %" PRIu32 "\n", refusal);
+        return 1;
+    }
+    run(0, 5, false, COUNT(outcomes));
+    tick(999);
+    tick(1000);
+
+    /* The rule author: an image without its last word, so that its limits stand elsewhere. The rules stay as they were. */
+    printf("load refused %" PRIu32 "\n", cerambiu_load(store, COUNT(store), 1000, image, COUNT(image) - 1));
+
+    /* The bus driver: a snapshot without its last word. */
+    uint32_t snapshot[CERAMBIU_SNAPSHOT_HEAD_WORDS];
+    look(snapshot, 1001);
+    refusal = cerambiu_tick(store, COUNT(store), snapshot, COUNT(snapshot) - 1, outcomes, COUNT(outcomes), effects, COUNT(effects), NULL, 0);
+    printf("tick refused %" PRIu32 "\n", refusal);
+
+    /* The host: no room for the outcome. Nothing has happened; with room the same run does it all. */
+    run(1001, 5, true, CERAMBIU_OUTCOME_WORDS - 1);
+    run(1001, 5, true, COUNT(outcomes));
+    return 0;
+}

@@ -1,0 +1,342 @@
+/*
+ * Cerambiu: a rules engine for the lighting of poultry houses, proved. This is its C interface: eight calls over words that the caller lends.
+ *
+ * Link target/staticlib/libcerambiu.a (`rt staticlib cerambiu`). The library keeps nothing between calls, allocates nothing, reads no clock, calls
+ * nobody, and every call returns. All that it remembers of a house is in one store of 16,384 words, which the caller keeps.
+ *
+ *   words     A word is a uint32_t in the machine's byte order. A 64-bit value in a table is two words, low first. A signed word is two's
+ *             complement. A mark is 0 or 1. A time is in milliseconds, from any start, 64 bits; a clock that goes back is no error.
+ *   slices    A lent store is a pointer and its number of words. The pointer is aligned for uint32_t; with 0 words it may be anything.
+ *             Stores of one call do not overlap. A store that is not const is written within its words only.
+ *   threads   Two calls may run at once if they share no store that either of them writes.
+ *   refusals  Each call returns 0, or the number of a refusal: the lowest that applies. A refused call has changed nothing: the store is as
+ *             it was, and every word of the outcomes, the effects and the answer is 0.
+ *   answers   Values go into the lent `answer`. Values past its end are not written; words behind the values are 0. Fewer words than a call has
+ *             values, or none, are fine.
+ *   names     Names, texts, topics, schedules and light targets are words, numbered by the caller for the life of a store. Rules and timers are
+ *             served in the order of their numbers, so that they are numbered in the byte order of their spelling.
+ *
+ * Each function's contract in crates/cerambiu/src/lib.rt is one equation with the definitions of crates/model/specs, proved for all arguments.
+ */
+#ifndef CERAMBIU_H
+#define CERAMBIU_H
+
+#include <stdbool.h>
+#include <stddef.h>
+#include <stdint.h>
+
+#ifdef __cplusplus
+extern "C" {
+#endif
+
+/* SIZES, in words ------------------------------------------------------------------------------------------------------------------ */
+
+#define CERAMBIU_STORE_WORDS 16384       /* a store, exactly */
+#define CERAMBIU_IMAGE_MIN_WORDS 13      /* a rule image: the trailer alone .. */
+#define CERAMBIU_IMAGE_MAX_WORDS 4096    /* .. to this */
+#define CERAMBIU_SNAPSHOT_HEAD_WORDS 14  /* a snapshot without rows .. */
+#define CERAMBIU_SNAPSHOT_MAX_WORDS 4430 /* .. and with all rows that its counts allow */
+#define CERAMBIU_OUTCOME_WORDS 6         /* one outcome; a lent store of n words holds n / 6 */
+#define CERAMBIU_EFFECT_WORDS 5          /* one effect; a lent store of n words holds n / 5 */
+
+/* A run has at most 1 outcome. A tick has at most 1,184: 32 continuations, 16 timers for 64 rules each, 64 Every slots, 64 rules by the wall
+ * clock. An outcome has at most as many effects as the image's budget (1 to 256). A call that needs more room than was lent is refused with 30
+ * and can be made again. */
+#define CERAMBIU_TICK_MAX_OUTCOMES 1184
+#define CERAMBIU_OUTCOME_MAX_EFFECTS 256
+
+/* Values of each call that has any. */
+#define CERAMBIU_ENABLE_VALUES 1    /* 1 yes, 0 no such rule */
+#define CERAMBIU_TICK_VALUES 2      /* number of outcomes, number of effects */
+#define CERAMBIU_RUN_VALUES 2       /* the same */
+#define CERAMBIU_DEADLINE_VALUES 3  /* mark, low word, high word; all 0 where there is no deadline */
+#define CERAMBIU_COUNTERS_VALUES 17 /* see enum cerambiu_counter */
+
+/* REFUSALS, and who can cause each ------------------------------------------------------------------------------------------------- */
+
+enum cerambiu_refusal {
+    CERAMBIU_OK = 0,
+
+    /* the host: the program that makes the calls */
+    CERAMBIU_STORE_SIZE = 1,     /* any call: the store is not 16,384 words */
+    CERAMBIU_STORE_RULE = 2,     /* any call but new: the store breaks a store rule (docs/STORE.md, document 01); make it new */
+
+    /* the rule author: load alone */
+    CERAMBIU_IMAGE_SIZE = 10,    /* under 13 or over 4,096 words */
+    CERAMBIU_IMAGE_LIMIT = 11,   /* a limit of the trailer out of range */
+    CERAMBIU_IMAGE_TABLE = 12,   /* a table out of place, or no whole number of records */
+    CERAMBIU_IMAGE_FIELD = 13,   /* unknown kind, field out of range, or unused word not 0; in any record, used or not */
+    CERAMBIU_IMAGE_INDEX = 14,   /* index or list outside its table, or a nested list that does not start after its holder */
+    CERAMBIU_IMAGE_NAMES = 15,   /* two rules of one name */
+    CERAMBIU_IMAGE_STEPS = 16,   /* over 2,048 flat steps, or over 65,536 actions taken to flatten all rules */
+    CERAMBIU_IMAGE_COUNT = 17,   /* over 64 rules, blocks or Every slots */
+
+    /* the bus driver: tick and run */
+    CERAMBIU_SNAPSHOT_SIZE = 20,  /* under 14 words, or not as counted */
+    CERAMBIU_SNAPSHOT_FIELD = 21, /* field or count out of range, or a missing field's value not 0 */
+    CERAMBIU_SNAPSHOT_ROWS = 22,  /* two rows of one table with equal address */
+
+    /* the host: tick and run */
+    CERAMBIU_NO_ROOM = 30,       /* more outcomes or effects than the lent stores hold */
+    CERAMBIU_NO_NUMBER = 31      /* the call's continuations would take the next sequence number past 2^64 - 1 */
+};
+
+/* STORE ------------------------------------------------------------------------------------------------------------------------------
+ *
+ * 16,384 words, made by cerambiu_new from whatever they held. A caller keeps them, copies them, saves them and brings them back; it need not look
+ * inside. A store that was changed from outside is refused with 2 unless it still keeps every store rule. What it holds: the last time, the
+ * loaded image and its flat steps, rule bits, last activations, cycle positions, at most 16 variables, 16 timers, 64 Every slots and 32 pending
+ * continuations, the previous week minute, the next sequence number, 13 counters. Places: docs/STORE.md.
+ *
+ * RULE IMAGE -------------------------------------------------------------------------------------------------------------------------
+ *
+ * Eight tables, then a trailer of the last 13 words:
+ *
+ *   0  budget, 1 to 256: steps that one activation may take, its continuations included
+ *   1  call depth, 0 to 8     2  repeat limit, 1 to 255     3  text limit, 0 to 255     4  group limit, 0 to 255
+ *   5 to 12  first word of each table: rules, blocks, triggers, conditions, actions, values, time bounds, pool
+ *
+ * The first table starts at word 0, each ends where the next begins, the last at the trailer. A list is its first record's index and its count;
+ * an empty one may start at the table's end. Words past a record's fields are 0.
+ *
+ *   rule (16 words)   name, enabled mark, hold mark, cooldown ms, list of triggers, list of conditions, list of actions, six 0
+ *   block (8 words)   name, list of actions, five 0. At most 64 rules, 64 blocks, 64 Every triggers over the rules' lists.
+ *   pool (1 word)     a scene, 0 to 255
+ *
+ * The other records are 8 words: a kind, then its fields. In the tables below: byte 0 to 255, id 0 to 65,535, ms a word, cmp one of enum
+ * cerambiu_comparison, value / condition / bound an index into that table, actions a list (two words) that starts after its holder.
+ */
+
+enum cerambiu_action {
+    CERAMBIU_LIGHT = 0,           /* target, hold (0, 1, 2 the rule's), answer (0 verb, 1 nothing, 2 unevaluable), verb (0 unless answer 0) */
+    CERAMBIU_RECALL = 1,          /* answer (0 number, 1 unevaluable), scene byte (0 unless answer 0), target mark, target (0 without mark) */
+    CERAMBIU_APPLY = 2,           /* answer (0 number, 1 unevaluable), scene byte (0 unless answer 0) */
+    CERAMBIU_CYCLE = 3,           /* first pool word, count 0 to 16 */
+    CERAMBIU_HCL_RESUME = 4,      /* target */
+    CERAMBIU_HCL_HOLD = 5,        /* target */
+    CERAMBIU_HCL_ENABLE = 6,      /* schedule */
+    CERAMBIU_HCL_DISABLE = 7,     /* schedule */
+    CERAMBIU_FEEDBACK_ON = 8,     /* adapter byte, address byte, instance byte */
+    CERAMBIU_FEEDBACK_OFF = 9,    /* the same */
+    CERAMBIU_PANEL_SELECT = 10,   /* adapter byte, group byte, value: 0 to the group limit */
+    CERAMBIU_CANCEL_HOLD = 11,    /* adapter byte, address byte, instance byte */
+    CERAMBIU_CATCH_MOVEMENT = 12, /* the same */
+    CERAMBIU_TIMER_START = 13,    /* timer, ms; does nothing while the timer runs */
+    CERAMBIU_TIMER_RESTART = 14,  /* timer, ms */
+    CERAMBIU_TIMER_CANCEL = 15,   /* timer */
+    CERAMBIU_VAR_SET = 16,        /* name, tag 0, low, high: an integer; or name, tag 1, text, its number of bytes (up to the text limit) */
+    CERAMBIU_VAR_ADD = 17,        /* name, value */
+    CERAMBIU_RULE_ENABLE = 18,    /* rule name */
+    CERAMBIU_RULE_DISABLE = 19,   /* rule name; its pending continuations go */
+    CERAMBIU_MQTT_PUBLISH = 20,   /* topic, payload, retain mark */
+    CERAMBIU_LOG = 21,            /* text */
+    CERAMBIU_STAT_COUNT = 22,     /* name; takes a step and gives nothing */
+    CERAMBIU_WAIT = 23,           /* ms; what follows it becomes a continuation */
+    CERAMBIU_AFTER = 24,          /* ms, actions: these become a continuation, the run goes on */
+    CERAMBIU_CALL = 25,           /* block name; unknown or too deep: a step that fails */
+    CERAMBIU_REPEAT = 26,         /* count byte, actions; 0 or over the repeat limit: a step that fails */
+    CERAMBIU_CONDITIONAL = 27     /* condition, actions of then, actions of else */
+};
+
+enum cerambiu_condition {
+    CERAMBIU_TIME_IN_RANGE = 0,          /* bound, bound: both ends are in */
+    CERAMBIU_DAY_IN = 1,                 /* days: bit d for weekday d, 0 to 127 */
+    CERAMBIU_SUN_IS = 2,                 /* up mark */
+    CERAMBIU_LAMP_IS = 3,                /* adapter byte, lamp id, on mark */
+    CERAMBIU_LAMP_LEVEL = 4,             /* adapter byte, lamp id, cmp, value */
+    CERAMBIU_LAMP_CCT = 5,               /* adapter byte, lamp id, cmp, value */
+    CERAMBIU_GROUP_STATE = 6,            /* adapter byte, group id, 0 any on, 1 all off */
+    CERAMBIU_INPUT_OCCUPANCY = 7,        /* adapter byte, address byte, instance byte, occupied mark */
+    CERAMBIU_INPUT_LIGHT = 8,            /* adapter byte, address byte, instance byte, above mark, value */
+    CERAMBIU_HCL_STATE = 9,              /* target, 0 enabled, 1 overridden */
+    CERAMBIU_DEVICE_ONLINE = 10,         /* adapter byte, address byte */
+    CERAMBIU_RULE_ENABLED = 11,          /* rule name */
+    CERAMBIU_LAST_FIRED_OLDER_THAN = 12, /* rule name, ms; true for a rule that never fired */
+    CERAMBIU_TIMER_RUNNING = 13,         /* timer */
+    CERAMBIU_CONTROLLER_ACTIVE = 14,     /* no field */
+    CERAMBIU_VAR_COMPARE = 15            /* name, cmp, tag 0, value; or name, cmp, tag 1, text */
+};
+
+enum cerambiu_comparison {
+    CERAMBIU_EQ = 0,
+    CERAMBIU_NE = 1,
+    CERAMBIU_GE = 2,
+    CERAMBIU_LE = 3,
+    CERAMBIU_GT = 4,
+    CERAMBIU_LT = 5
+};
+
+/* Values: 0 literal (low, high); 1 reading (code, three reference words); 2 offset (code, three reference words, signed delta). Unused reference
+ * words are 0. */
+enum cerambiu_value {
+    CERAMBIU_LITERAL = 0,
+    CERAMBIU_READING = 1,
+    CERAMBIU_OFFSET = 2
+};
+
+enum cerambiu_reading {
+    /* adapter byte, lamp id */
+    CERAMBIU_READ_LAMP_LEVEL = 0,
+    CERAMBIU_READ_LAMP_CCT = 1,
+    CERAMBIU_READ_LAMP_IS_ON = 2,
+    CERAMBIU_READ_LAMP_LAST_LEVEL = 3,
+    /* adapter byte, group id */
+    CERAMBIU_READ_GROUP_ANY_ON = 4,
+    CERAMBIU_READ_GROUP_ALL_OFF = 5,
+    CERAMBIU_READ_GROUP_MEMBER_COUNT = 6,
+    /* adapter byte, address byte, instance byte */
+    CERAMBIU_READ_INPUT_OCCUPIED = 7,
+    CERAMBIU_READ_INPUT_LIGHT = 8,
+    CERAMBIU_READ_INPUT_POSITION = 9,
+    CERAMBIU_READ_INPUT_LAST_EVENT_AGE = 10,
+    /* no reference; minutes of the day, but for hour, minute and weekday */
+    CERAMBIU_READ_TIME_NOW = 11,
+    CERAMBIU_READ_TIME_HOUR = 12,
+    CERAMBIU_READ_TIME_MINUTE = 13,
+    CERAMBIU_READ_TIME_WEEKDAY = 14,
+    CERAMBIU_READ_SUN_RISE = 15,
+    CERAMBIU_READ_SUN_SET = 16,
+    CERAMBIU_READ_SUN_IS_UP = 17,
+    CERAMBIU_READ_VAR = 18, /* name */
+    /* no reference; always unevaluable, since ticks and runs carry no event */
+    CERAMBIU_READ_EVENT_VALUE = 19,
+    CERAMBIU_READ_EVENT_DEVICE = 20,
+    CERAMBIU_READ_EVENT_INSTANCE = 21,
+    CERAMBIU_READ_EVENT_OPTION = 22
+};
+
+enum cerambiu_bound {
+    CERAMBIU_CLOCK = 0, /* hour 0 to 23, minute 0 to 59 */
+    CERAMBIU_SOLAR = 1  /* 0 sunrise, 1 sunset; signed offset in ms */
+};
+
+enum cerambiu_trigger {
+    CERAMBIU_TIMER_FIRES = 0, /* timer */
+    CERAMBIU_EVERY = 1,       /* period in ms */
+    CERAMBIU_AT_TIME = 2,     /* hour, minute, days */
+    CERAMBIU_AT_SOLAR = 3,    /* 0 sunrise, 1 sunset; signed offset in ms */
+    CERAMBIU_OTHER = 4        /* no field; never due here */
+};
+
+/* SNAPSHOT ---------------------------------------------------------------------------------------------------------------------------
+ *
+ * What the bus driver knows at the time of a tick or a run: 14 words, then the rows of five tables, one behind the other.
+ *
+ *   0, 1   now, low and high word: the time of the call
+ *   2      wall clock mark     3  weekday, 0 to 6     4  minute of the day, 0 to 1,439     (both 0 without a wall clock)
+ *   5      sun mark            6  sunrise minute      7  sunset minute, 0 to 1,439         (both 0 without a sun)
+ *   8      controller active mark
+ *   9      lamps, at most 256  10 groups, 64          11 devices, 64          12 inputs, 128          13 hcl rows, 64
+ *
+ *   lamp (9 words)     adapter, id; level mark, level; cct mark, kelvin; on; last level mark, last level
+ *   group (5 words)    adapter, id; any on, all off; member count
+ *   device (3 words)   adapter, address; online
+ *   input (11 words)   adapter, address, instance; occupied mark, occupied; light mark, light; position mark, position; age mark, age in ms
+ *   hcl row (3 words)  target; enabled, overridden
+ *
+ * Adapters, addresses, instances, levels and member counts are 0 to 255; ids and kelvin 0 to 65,535; light and position 0 to 1,023; on, online, any
+ * on, all off, occupied, enabled, overridden 0 or 1. A value whose mark is 0 is 0. No two rows of a table have one address (the words before the
+ * first semicolon).
+ *
+ * OUTCOMES AND EFFECTS ---------------------------------------------------------------------------------------------------------------
+ *
+ * An outcome is one activation or one resumption of a rule, in the order in which they ran:
+ *
+ *   rule name, dry mark, trigger (enum cerambiu_outcome_trigger), reason (enum cerambiu_reason), first effect, number of effects
+ *
+ * The effects of all outcomes stand one behind the other in the effect store; "first effect" counts effects, not words. An effect is its kind and
+ * four words, unused ones 0.
+ */
+
+/* Why a rule was activated; a resumption has the trigger of its activation. */
+enum cerambiu_outcome_trigger {
+    CERAMBIU_OUTCOME_HTTP_TRIGGER = 0, /* by cerambiu_run */
+    CERAMBIU_OUTCOME_TIMER_FIRES = 1,
+    CERAMBIU_OUTCOME_EVERY = 2,
+    CERAMBIU_OUTCOME_AT_TIME = 3,
+    CERAMBIU_OUTCOME_AT_SOLAR = 4
+};
+
+/* The first that was met. A run does not stop at a step that fails. */
+enum cerambiu_reason {
+    CERAMBIU_REASON_NONE = 0,                  /* all steps ran */
+    CERAMBIU_REASON_CONDITION_UNEVALUABLE = 1, /* a condition could not be decided, or a step failed: unevaluable, a 17th timer or variable, a
+                                                  text over the limit, an unknown rule, a call or repeat that cannot be flattened */
+    CERAMBIU_REASON_EFFECT_BUDGET = 2,         /* the budget was spent with a step left, or 32 were pending and a continuation was dropped */
+    CERAMBIU_REASON_CHAIN_DEPTH = 3            /* not given by ticks and runs, which start at depth 0 */
+};
+
+enum cerambiu_effect {
+    CERAMBIU_EFFECT_LIGHT = 0,          /* target, verb, hold mark */
+    CERAMBIU_EFFECT_SCENE_RECALL = 1,   /* scene, target mark, target, hold mark */
+    CERAMBIU_EFFECT_SCENE_APPLY = 2,    /* scene, hold mark */
+    CERAMBIU_EFFECT_HCL_RESUME = 3,     /* target */
+    CERAMBIU_EFFECT_HCL_HOLD = 4,       /* target */
+    CERAMBIU_EFFECT_HCL_SCHEDULE = 5,   /* schedule, enabled mark */
+    CERAMBIU_EFFECT_INPUT_FEEDBACK = 6, /* adapter, address, instance, on mark */
+    CERAMBIU_EFFECT_PANEL_SELECT = 7,   /* adapter, group, selected */
+    CERAMBIU_EFFECT_CANCEL_HOLD = 8,    /* adapter, address, instance */
+    CERAMBIU_EFFECT_CATCH_MOVEMENT = 9, /* adapter, address, instance */
+    CERAMBIU_EFFECT_MQTT_PUBLISH = 10,  /* topic, payload, retain mark */
+    CERAMBIU_EFFECT_LOG = 11            /* text */
+};
+
+/* COUNTERS: 13, each of which stops at 2^32 - 1, then four gauges ------------------------------------------------------------------ */
+
+enum cerambiu_counter {
+    CERAMBIU_ACTIVATIONS_TOTAL = 0,
+    CERAMBIU_ACTIVATIONS_DRY = 1,
+    CERAMBIU_SUPPRESSED_COOLDOWN = 2,
+    CERAMBIU_SUPPRESSED_DISABLED = 3,
+    CERAMBIU_CONDITIONS_REJECTED = 4,
+    CERAMBIU_PARTIAL_OUTCOMES = 5,
+    CERAMBIU_CHAIN_DEPTH_EXCEEDED = 6,
+    CERAMBIU_EFFECTS_EMITTED = 7,
+    CERAMBIU_ACTIONS_FAILED = 8,
+    CERAMBIU_CONTINUATIONS_SCHEDULED = 9,
+    CERAMBIU_CONTINUATIONS_FIRED = 10,
+    CERAMBIU_CONTINUATIONS_DROPPED = 11,
+    CERAMBIU_TICKS_TIME_UNSYNCED = 12,
+    CERAMBIU_PENDING_NOW = 13,
+    CERAMBIU_TIMERS_NOW = 14,
+    CERAMBIU_RULES_NOW = 15,
+    CERAMBIU_VARIABLES_NOW = 16
+};
+
+/* CALLS ------------------------------------------------------------------------------------------------------------------------------ */
+
+/* Makes a store new at this time, whatever its words were: no set, no memory. Refusal: 1. */
+uint32_t cerambiu_new(uint32_t *store, size_t store_words, uint64_t time);
+
+/* Loads the rules of an image. All continuations go; rule bits are those of the image; last activations, cycle positions and Every slots of rules that
+ * stay by name (slots: by place and period too) are kept, and so are variables, timers and counters. Refusals: 1, 2, 10 to 17. */
+uint32_t cerambiu_load(uint32_t *store, size_t store_words, uint64_t time, const uint32_t *image, size_t image_words);
+
+/* Takes the rules out. Variables, timers and counters stay. Refusals: 1, 2. */
+uint32_t cerambiu_unload(uint32_t *store, size_t store_words, uint64_t time);
+
+/* Switches a rule on or off; switched off, its continuations go. Answer: 1, or 0 where no loaded rule has this name. Refusals: 1, 2. */
+uint32_t cerambiu_enable(uint32_t *store, size_t store_words, uint32_t rule, bool on, uint32_t *answer, size_t answer_words);
+
+/* Lets the time of the snapshot come: continuations, timers, Every slots, wall schedules that are due by then, in this order. Without a set only the
+ * time is taken. Answer: number of outcomes, number of effects. Refusals: 1, 2, 20 to 22, 30, 31. */
+uint32_t cerambiu_tick(uint32_t *store, size_t store_words, const uint32_t *snapshot, size_t snapshot_words, uint32_t *outcomes,
+                       size_t outcome_words, uint32_t *effects, size_t effect_words, uint32_t *answer, size_t answer_words);
+
+/* Runs a rule by hand, past its cooldown; its conditions hold. A dry run says what would happen, with the bodies of afters at the end, asks no rule bit
+ * and changes nothing but counters and the last time. A rule that is not loaded, or is off, gives no outcome. Answer and refusals: as tick. */
+uint32_t cerambiu_run(uint32_t *store, size_t store_words, uint32_t rule, bool dry, const uint32_t *snapshot, size_t snapshot_words,
+                      uint32_t *outcomes, size_t outcome_words, uint32_t *effects, size_t effect_words, uint32_t *answer, size_t answer_words);
+
+/* The earliest time at which something is due: a continuation, a timer, an Every slot; with a wall trigger of a rule that is on, a second after the
+ * last time at the latest. It may lie in the past. Answer: mark, low word, high word. Refusals: 1, 2. */
+uint32_t cerambiu_next_deadline(const uint32_t *store, size_t store_words, uint32_t *answer, size_t answer_words);
+
+/* Answer: the 17 words of enum cerambiu_counter. Refusals: 1, 2. */
+uint32_t cerambiu_counters(const uint32_t *store, size_t store_words, uint32_t *answer, size_t answer_words);
+
+#ifdef __cplusplus
+}
+#endif
+
+#endif
