@@ -3,4 +3,6 @@ pub mod Splits
 pub mod Decimal
 pub mod Tables
 pub mod Reading
+pub mod Putting
+pub mod Lines
 pub mod Examples

@@ -1,17 +1,19 @@
 -- Tables of texts and numbers, by tests that antt computes over a whole table. Assumes nothing.
 use mathlib.Core.Path.{_≡_, refl, sym, ap, _∙_}
 use mathlib.Core.Bool.{Bool, true, false, _&&_}
-use mathlib.Core.List.{List, [], _∷_, _++_}
+use mathlib.Core.List.{List, [], _∷_, _++_, map}
 use mathlib.Core.Option.{none, some}
-use Prim.Native.Nat.{ℕ, zero, suc, _+_, _≤_, _<_}
+use Prim.Native.Nat.{ℕ, zero, suc, _+_, _≤_, _<_, zero-le}
 use native.Mathlib.Nat.{le-of-suc-le-suc, not-suc-le-zero, zero-add, add-zero}
 use native.Mathlib.Numerals.{add-one}
 use native.Mathlib.Omega.{arith}
-use borrow.Author.Tests.{eqb-true, eq-eqb, ne-eqb}
-use lib.Dec.{eqb}
+use borrow.Author.Tests.{eqb-true, leb-true, ltb-true, ltb-false, eq-eqb, ne-eqb}
+use lib.Dec.{eqb, leb, ltb}
 use lib.ListN.{length, getD, drop, length-append, drop-of-length-le}
 use lib.Seq.{drop-cons, getD-append-add}
-use lib.ListN.{List·getD-append}
+use lib.ListN.{List·getD-append, List·getD-eq-default, List·getD-map, length-map}
+use Rattle.fields.proofs.Padded.{getD-any}
+use Rattle.script.specs.Text.{callNames, otherTexts, texts, textOf}
 use Rattle.model.specs.Lists.{every, flatten, position, positionFrom}
 use Rattle.fields.proofs.Every.{at}
 use Rattle.script.specs.Script.{sameBytes}
@@ -48,6 +50,31 @@ text-at (l ∷ ls) zero i h = rw zero-add (List·getD-append l (flatten ls) 0 i 
 text-at (l ∷ ls) (suc k) i h =
     let e : length l + startIn ls k + i ≡ length l + (startIn ls k + i) = omega arith in
     rw (e, getD-append-add) (text-at ls k i h)
+
+-- a call's name is a text
+pub name-text : (k : ℕ) → k < 12 → textOf k ≡ getD callNames k []
+unfolding textOf
+name-text k h = List·getD-append callNames otherTexts [] k h
+
+-- no text is longer than 32 bytes
+short-texts : every 40 (λ k. leb (length (textOf k)) 32) ≡ true
+unfolding every textOf
+short-texts = refl
+
+pub text-short : (k : ℕ) → length (textOf k) ≤ 32
+unfolding textOf
+text-short k = go (ltb k 40) refl
+  where
+    go : (b : Bool) → ltb k 40 ≡ b → length (getD texts k []) ≤ 32
+    go true e = leb-true (length (textOf k)) 32 (at (λ i. leb (length (textOf i)) 32) 40 k short-texts (ltb-true k 40 e))
+    go false e = rw (List·getD-eq-default texts [] (ltb-false k 40 e)) zero-le
+
+-- a table of texts' numbers: text k of the table is entry i of list k
+pub texts-at : (ns : List ℕ) (ls : List (List (List ℕ))) (i : ℕ) → map textOf ns ≡ map (λ l. getD l i []) ls
+    → (k : ℕ) → k < length ns → textOf (getD ns k 0) ≡ getD (getD ls k []) i []
+texts-at ns ls i e k h =
+    sym (List·getD-map textOf ns k 0)
+    ∙ (getD-any (map textOf ns) k (textOf 0) [] (rw length-map h) ∙ (ap (λ (l : List (List ℕ)). getD l k []) e ∙ List·getD-map (λ l. getD l i []) ls k []))
 
 -- TWO TEXTS COMPARED ---------------------------------------------------------------------------------------------------------------
 pub other-length : (v w : List ℕ) → (length v ≡ length w → ⊥) → false ≡ sameBytes v w

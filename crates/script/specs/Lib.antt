@@ -3,3 +3,5 @@ pub mod Words
 pub mod Script
 pub mod Scan
 pub mod Starts
+pub mod Print
+pub mod Put

@@ -3,7 +3,7 @@ use Prim.Native.Nat.{ℕ}
 use Prim.Native.Char.{code}
 use Prim.Native.String as string
 use Prim.Native.String.{String}
-use mathlib.Core.List.{List, [], _∷_}
+use mathlib.Core.List.{List, [], _∷_, _++_}
 use lib.ListN.{getD}
 
 abbrev pub bytesOf : String → List ℕ
@@ -17,8 +17,17 @@ callNames =
     ∷ bytesOf "deadline" ∷ bytesOf "counters" ∷ bytesOf "lend" ∷ bytesOf "size" ∷ bytesOf "poke" ∷ bytesOf "peek" ∷ []
 
 -- every text, by its number: the calls' names first
+abbrev pub otherTexts : List (List ℕ)
+otherTexts =
+    bytesOf "time" ∷ bytesOf "rule" ∷ bytesOf "mark" ∷ bytesOf "dry mark" ∷ bytesOf "number of outcome words" ∷
+    bytesOf "number of effect words" ∷ bytesOf "number of words" ∷ bytesOf "place" ∷ bytesOf "word" ∷ bytesOf " is missing" ∷
+    bytesOf " is no decimal number" ∷ bytesOf " does not fit into 64 bits" ∷ bytesOf " does not fit into 32 bits" ∷
+    bytesOf " is neither 0 nor 1" ∷ bytesOf " is over" ∷ bytesOf "no such call" ∷ bytesOf "line too long" ∷
+    bytesOf "a word too many" ∷ bytesOf "more than" ∷ bytesOf " words" ∷ bytesOf "line" ∷ bytesOf ": " ∷ bytesOf " refused" ∷
+    bytesOf " yes" ∷ bytesOf " no" ∷ bytesOf " none" ∷ bytesOf "effect" ∷ bytesOf "\n" ∷ []
+
 abbrev pub texts : List (List ℕ)
-texts = callNames
+texts = callNames ++ otherTexts
 
 unfoldable pub textOf : ℕ → List ℕ
 textOf k = getD texts k []

@@ -58,7 +58,6 @@ pub fn has_param(call: u32, i: u32) -> bool
 
 // The largest number of parameter i.
 pub fn largest(call: u32, i: u32) -> u64
-    requires { ⌜ i < 2 ⌝ }
     ensures { λ r. ⌜ r ≡ getD (largestOf call) i 0 ⌝ }
 {
     if CALLS <= call {
@@ -67,7 +66,10 @@ pub fn largest(call: u32, i: u32) -> u64
     if i == 0 {
         return FIRST[call as usize];
     }
-    SECOND[call as usize]
+    if i == 1 {
+        return SECOND[call as usize];
+    }
+    0
 }
 
 // Whether a list of words stands behind the parameters.

@@ -7,18 +7,67 @@ ghost use Rattle.model.specs.Lists.{position};
 ghost use Rattle.script.specs.Text.{textOf, callNames};
 ghost use Rattle.script.specs.Script.{sameBytes};
 ghost use Rattle.script.specs.Scan.{namedBy};
+ghost use Rattle.script.specs.Print.{callName, paramName};
 ghost use Rattle.script.specs.Starts.{startOf};
 use crate::Named;
 
 // The texts, one behind the other, and where each starts.
-const BYTES: [u8; 58] = *b"newloadunloadenabletickrundeadlinecounterslendsizepokepeek";
+const BYTES: [u8; 346] =
+    *b"newloadunloadenabletickrundeadlinecounterslendsizepokepeektimerulemarkdry marknumber of outcome wordsnumber of effect wordsnumber of wordsplaceword is missing is no decimal number does not fit into 64 bits does not fit into 32 bits is neither 0 nor 1 is overno such callline too longa word too manymore than wordsline:  refused yes no noneeffect\n";
 
-const STARTS: [u32; 13] = [0, 3, 7, 13, 19, 23, 26, 34, 42, 46, 50, 54, 58];
+const STARTS: [u32; 41] = [
+    0,
+    3,
+    7,
+    13,
+    19,
+    23,
+    26,
+    34,
+    42,
+    46,
+    50,
+    54,
+    58,
+    62,
+    66,
+    70,
+    78,
+    101,
+    123,
+    138,
+    143,
+    147,
+    158,
+    179,
+    205,
+    231,
+    250,
+    258,
+    270,
+    283,
+    298,
+    307,
+    313,
+    317,
+    319,
+    327,
+    331,
+    334,
+    339,
+    345,
+    346,
+];
 
-const TEXTS: u32 = 12;
+pub const TEXTS: u32 = 40;
+
+// The texts that name the first and the second parameter of each call.
+const FIRST: [u32; 12] = [12, 12, 12, 13, 40, 13, 40, 40, 16, 18, 19, 19];
+
+const SECOND: [u32; 12] = [40, 40, 40, 14, 40, 15, 40, 40, 17, 40, 20, 40];
 
 fn start(k: u32) -> u32
-    requires { ⌜ k ≤ 12 ⌝ }
+    requires { ⌜ k ≤ 40 ⌝ }
     ensures { λ r. ⌜ r ≡ startOf k ⌝ }
 {
     STARTS[k as usize]
@@ -73,4 +122,26 @@ pub fn call_named(word: &[u8]) -> Named
         k += 1;
     }
     Named::Unknown
+}
+
+// The text that is a call's name, and the one that is the name of its parameter i; none past them.
+pub fn call_text(call: u32) -> u32
+    ensures { λ r. ⌜ textOf r ≡ callName call ⌝ }
+{
+    if call < 12 { call } else { TEXTS }
+}
+
+pub fn param_text(call: u32, i: u32) -> u32
+    ensures { λ r. ⌜ textOf r ≡ paramName call i ⌝ }
+{
+    if 12 <= call {
+        return TEXTS;
+    }
+    if i == 0 {
+        return FIRST[call as usize];
+    }
+    if i == 1 {
+        return SECOND[call as usize];
+    }
+    TEXTS
 }

@@ -1,6 +1,6 @@
 // A line's call is read from its words, one after the other.
 ghost use mathlib.Core.Path.{_≡_};
-ghost use Prim.Native.Nat.{_≤_, _<_};
+ghost use Prim.Native.Nat.{_≤_};
 ghost use lib.ListN.{length, getD, drop};
 ghost use Rattle.words.specs.Saturating.{max32};
 ghost use Rattle.script.specs.Words.{wordsOf, argumentOf};
@@ -21,7 +21,7 @@ use crate::scan;
 
 // A word that is to be parameter i of a call.
 fn number_at(text: &[u8], from: usize, to: usize, call: u32, i: u32) -> Taken
-    requires { ⌜ (from ≤ to) × ((to ≤ length (now text)) × (i < 2)) ⌝ }
+    requires { ⌜ (from ≤ to) × (to ≤ length (now text)) ⌝ }
     ensures { λ r. ⌜ r ≡ takenOf call i to (argumentOf (getD (largestOf call) i 0) (part (now (text .entry)) from to)) ⌝ }
 {
     let most = calls::largest(call, i);
@@ -34,7 +34,7 @@ fn number_at(text: &[u8], from: usize, to: usize, call: u32, i: u32) -> Taken
 
 // Parameter i of a call, from the next word; a call without it takes none.
 fn argument(text: &[u8], at: usize, call: u32, i: u32) -> Taken
-    requires { ⌜ (at ≤ length (now text)) × (i < 2) ⌝ }
+    requires { ⌜ at ≤ length (now text) ⌝ }
     ensures { λ r. ⌜ Takes (now (text .entry)) at call i r ⌝ }
 {
     if !calls::has_param(call, i) {

@@ -10,3 +10,6 @@ pub mod Order
 pub mod Mapped
 pub mod Follows
 pub mod Assigning
+pub mod Selecting
+pub mod Removing
+pub mod Front

@@ -3,3 +3,4 @@ pub mod Meaning
 pub mod Tables
 pub mod Pending
 pub mod Named
+pub mod Selection

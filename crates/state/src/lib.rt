@@ -20,6 +20,7 @@ ghost use Rattle.state.specs.Meaning.{Sound, Means, meaning, option32};
 pub mod fresh;
 pub mod pending;
 pub mod rules;
+pub mod selection;
 pub mod sequence;
 pub mod slots;
 pub mod timers;

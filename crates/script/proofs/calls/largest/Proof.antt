@@ -1,10 +1,11 @@
 -- `script::calls::largest` meets its contract. Assumes nothing.
 use mathlib.Core.Path.{_≡_, refl, sym}
 use mathlib.Core.List.{List, [], _∷_}
-use Prim.Native.Nat.{ℕ}
+use Prim.Native.Nat.{ℕ, _≤_}
 use native.Mathlib.Omega.{arith}
 use borrow.Author.Needs.{needs}
-use lib.ListN.{getD, List·getD-eq-default}
+use lib.ListN.{length, getD, List·getD-eq-default}
+use Rattle.fields.proofs.Padded.{short-at}
 use Rattle.model.specs.Lists.{every}
 use Rattle.words.specs.Saturating.{max32, max64}
 use Rattle.script.specs.Script as script
@@ -31,8 +32,15 @@ returns-2 c =
 returns-3 : tie.Need-returns-3
 unfolding largestOf every second
 returns-3 c =
-    let i : c .before .before .args .i ≡ 1 = omega (arith, c .if2 .left) in
-    rw i (agree-at 12 (λ k. getD second k 0) (λ k. getD (getD script.largest k []) 1 0) refl (c .before .before .args .call) (c .before .if1 .left))
+    rw (c .if3 .taken)
+    (agree-at 12 (λ k. getD second k 0) (λ k. getD (getD script.largest k []) 1 0) refl (c .before .before .before .args .call) (c .before .before .if1 .left))
+
+returns-4 : tie.Need-returns-4
+unfolding largestOf
+returns-4 c =
+    let s = c .before .before .before .args in
+    let h : length (getD script.largest (s .call) []) ≤ s .i = omega (arith, short-at 2 script.largest (s .call) tt, c .before .if2 .left, c .if3 .left) in
+    sym (List·getD-eq-default (getD script.largest (s .call) []) 0 h)
 
 pub largest-spec : {M : Type 1} → statement M
 largest-spec =
@@ -44,4 +52,5 @@ largest-spec =
     returns-2
     (λ c. search needs)
     (λ c. search needs)
-    returns-3)
+    returns-3
+    returns-4)

@@ -6,10 +6,10 @@ use native.Mathlib.Omega.{arith}
 use borrow.Author.Needs.{needs}
 use lib.ListN.{length, drop, getD}
 use Rattle.model.specs.Lists.{position, positionFrom}
-use Rattle.script.specs.Text.{callNames, textOf}
+use Rattle.script.specs.Text.{callNames}
 use Rattle.script.specs.Script.{sameBytes}
 use Rattle.script.specs.Scan.{namedBy}
-use Rattle.script.proofs.Tables.{name-goes, name-found, no-name}
+use Rattle.script.proofs.Tables.{name-text, name-goes, name-found, no-name}
 use Rattle.script.proofs.names.call_named.Statement.{statement}
 use Rattle.script.proofs.names.call_named.Tie as tie
 
@@ -20,19 +20,17 @@ abbrev μ-loop : tie.MeasureT-loop
 μ-loop word k₀ k = 12 - k
 
 returns : tie.Need-returns Inv-loop μ-loop
-unfolding textOf
 returns c =
     let l = c .before .before .before in
     let w = l .before .before .args .word .now in
-    sym (ap namedBy (name-found (sameBytes w) callNames (l .loop .k) (l .loop .inv .1) (c .before .before .loop-test .taken) (sym (c .before .is-text .ensures) ∙ c .if1 .taken)))
+    sym (ap namedBy (name-found (sameBytes w) callNames (l .loop .k) (l .loop .inv .1) (c .before .before .loop-test .taken) (ap (sameBytes w) (sym (name-text (l .loop .k) (c .before .before .loop-test .taken))) ∙ (sym (c .before .is-text .ensures) ∙ c .if1 .taken))))
 
 loop-again : tie.Need-loop-again Inv-loop μ-loop
-unfolding textOf
 loop-again c =
     let l = c .before .before .before in
     let w = l .before .before .args .word .now in (
       search needs,
-      name-goes (sameBytes w) callNames (l .loop .k) (l .loop .inv .1) (c .before .before .loop-test .taken) (sym (c .before .is-text .ensures) ∙ c .if1 .left),
+      name-goes (sameBytes w) callNames (l .loop .k) (l .loop .inv .1) (c .before .before .loop-test .taken) (ap (sameBytes w) (sym (name-text (l .loop .k) (c .before .before .loop-test .taken))) ∙ (sym (c .before .is-text .ensures) ∙ c .if1 .left)),
     )
 
 returns-2 : tie.Need-returns-2 Inv-loop μ-loop

@@ -11,13 +11,13 @@ use Rattle.script.proofs.read.argument.Tie as tie
 returns : tie.Need-returns
 returns c =
     let s = c .before .before .before in
-    not-taken (s .args .text .now) (s .args .at) (s .args .call) (s .args .i) (s .pre .0) (sym (c .before .has-param .ensures) ∙ not-true _ (c .if1 .taken))
+    not-taken (s .args .text .now) (s .args .at) (s .args .call) (s .args .i) (s .pre) (sym (c .before .has-param .ensures) ∙ not-true _ (c .if1 .taken))
 
 number-at-requires : tie.Need-number-at-requires
 number-at-requires c κs =
     let s = c .before .before .before .before .before .before .before in
     let w = word-at (s .args .text .now) (s .args .at) (c .before .before .before .next-word .ensures) (c .before .from .given .1) in
-    (le-of-lt (w .some), (w .within, s .pre .1))
+    (le-of-lt (w .some), w .within)
 
 returns-2 : tie.Need-returns-2
 returns-2 c =

@@ -1,0 +1,13 @@
+-- `script::print::deadline` meets its contract. Assumes nothing.
+use native.Mathlib.Omega.{arith}
+use borrow.Author.Needs.{needs}
+use Rattle.script.proofs.Putting.{then, printed}
+use Rattle.script.proofs.Lines.{deadline-line}
+use Rattle.script.proofs.print.deadline.Statement.{statement}
+use Rattle.script.proofs.print.deadline.Tie as tie
+
+returns : tie.Need-returns
+returns c = printed _ (then (then (c .before .before .before .before .before .before .before .before .before .before .text .ensures) (c .before .before .before .before .before .before .number .ensures)) (c .before .before .text2 .ensures)) (omega (arith, c .before .before .before .before .before .before .before .before .before .before .before .before .before .pre)) (deadline-line _)
+
+pub deadline-spec : {M : Type 1} → statement M
+deadline-spec = tie.close (tie.spec (λ c κs. search needs) (λ c κs. search needs) (λ c κs. search needs) (λ c. search needs) returns)
