@@ -2,18 +2,17 @@
 use mathlib.Core.Path.{_≡_, refl, sym, ap, _∙_}
 use mathlib.Core.Bool.{Bool, true, false}
 use mathlib.Core.List.{List, [], _∷_, _++_, map, append-assoc}
-use mathlib.Core.Option.{Option, none, some}
+use mathlib.Core.Option.{some}
 use Prim.Native.Nat.{ℕ, zero, suc, _+_, _-_, _≤_, _<_, min}
 use native.Mathlib.Omega.{arith}
 use lib.ListN.{length, take, drop, getD, length-take, drop-of-length-le}
 use lib.Seq.{drop-cons, getD-take, length-take-le}
 use Rattle.words.specs.Saturating.{saturatingAdd, max64}
-use Rattle.model.specs.State.{Store, Rest}
 use Rattle.model.specs.Wheel.{hasWallTriggers, least, leastOf, wallPoll, nextDeadline}
 use Rattle.model.specs.declared.Pending.{Pending}
 use Rattle.model.specs.declared.Step.{Step}
 use Rattle.image.specs.Accepted.{Accepted}
-use Rattle.state.specs.Meaning.{optional, option64, offsetFrom, numbered, meaning}
+use Rattle.state.specs.Meaning.{option64, offsetFrom, numbered, meaning}
 use Rattle.state.specs.declared.OptionU64.{OptionU64}
 use Rattle.state.specs.declared.Volatile.{Volatile}
 use Rattle.wheel.specs.Deadline.{pendingTimes, timerTimes, slotTimes, LeastWith, AcceptedIf, storeOf, Poll}

@@ -12,7 +12,6 @@ use Rattle.model.specs.Wheel.{inWindow, isWallTrigger, dueWallKind}
 use Rattle.model.specs.declared.Step.{Step}
 use Rattle.model.specs.declared.Trigger.{Trigger}
 use Rattle.state.specs.Meaning.{option32}
-use Rattle.state.specs.declared.OptionU32.{OptionU32}
 use Rattle.eval.specs.Answers.{envOf}
 use Rattle.wheel.specs.declared.wall.WallKind.{WallKind}
 

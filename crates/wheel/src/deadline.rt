@@ -12,7 +12,7 @@ ghost use Prim.Native.Nat.{_≤_};
 ghost use lib.ListN.{take};
 ghost use Rattle.model.specs.Wheel.{leastOf, nextDeadline};
 ghost use Rattle.model.specs.declared.Step.{Step};
-ghost use Rattle.state.specs.Meaning.{Sound, meaning, option64};
+ghost use Rattle.state.specs.Meaning.{Sound, option64};
 ghost use Rattle.wheel.specs.Deadline.{LeastWith, pendingTimes, timerTimes, slotTimes, AcceptedIf, storeOf, Poll};
 
 const WALL_POLL_MS: u64 = 1000;

@@ -1,5 +1,10 @@
 // The tick and the next deadline: wheel.rs.
+mod continuations;
 pub mod deadline;
 mod minutes;
+mod rules;
+mod schedules;
+mod slots;
+pub mod tick;
 mod timers;
 pub mod wall;

@@ -2,7 +2,6 @@
 use Prim.Native.Nat.{_≤_, _-_}
 use mathlib.Core.Path.{_≡_}
 use native.Mathlib.Omega.{arith}
-use borrow.Author.Needs.{needs}
 use Rattle.model.specs.Image.{sizeOf}
 use Rattle.model.specs.Rows.{rules}
 use Rattle.model.specs.Rules.{ruleIndices}

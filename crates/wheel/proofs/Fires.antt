@@ -1,0 +1,109 @@
+-- Parts of a tick, one behind another, and what comes of one activation or resumption. Assumes nothing.
+use Prim.Native.Nat.{ℕ, _+_, _≤_, _<_}
+use native.Mathlib.Omega.{arith}
+use mathlib.Core.Path.{_≡_, refl, sym, ap, subst, _∙_}
+use mathlib.Core.List.{List, []}
+use lib.ListN.{length, length-map, getD}
+use Rattle.model.specs.Activate as model
+use Rattle.model.specs.Activate.{noOutcome, andThen}
+use Rattle.model.specs.Flat.{Flattened, flattenRules, setOf}
+use Rattle.model.specs.Image.{sizeOf}
+use Rattle.model.specs.Rows.{rules}
+use Rattle.model.specs.State as model-state
+use Rattle.model.specs.declared.Pending.{Pending}
+use Rattle.model.specs.declared.Step.{Step}
+use Rattle.flat.specs.Words.{layout}
+use Rattle.flat.proofs.FlatPart.{rules-length}
+use Rattle.state.specs.Meaning.{Sound, meaning}
+use Rattle.state.proofs.Follows.{accepted-by-next}
+use Rattle.exec.specs.Lists.{FlatWords}
+use Rattle.exec.proofs.Written as exec-written
+use Rattle.store.specs.FlatPart.{FlatPart}
+use Rattle.activate.specs.Handled.{Continues, Room, Activates, Resumes, allEffects}
+use Rattle.activate.specs.declared.Handled.{Handled}
+use Rattle.activate.specs.declared.Mode.the-variants.{Auto}
+use Rattle.activate.proofs.Continues.{then-continues, no-outcome, nothing-done, within-none, within-then, within-more}
+use Rattle.activate.proofs.FlatRules.{rule-words}
+use Rattle.activate.proofs.Written.{puts-length}
+use Rattle.wheel.specs.Tick.{tickEnv, Holds, Fires, Changes}
+
+-- the words keep their number
+module _ {x : Handled} {ow ew : List ℕ} {h : model.Handled} {r : Handled} {ow′ ew′ : List ℕ} (c : Continues x ow ew h r ow′ ew′) where
+  pub same-outcomes : length ow′ ≡ length ow
+  same-outcomes = ap length (c .outcomeWords) ∙ puts-length ow (x .outcomes) (x .effects) (h .outcomes)
+
+  pub same-effects : length ew′ ≡ length ew
+  same-effects = ap length (c .effectWords) ∙ exec-written.puts-length ew (x .effects) (allEffects (h .outcomes))
+
+-- ONE RULE ----------------------------------------------------------------------------------------------------------------------------------
+module _ (store image : List ℕ) (holds : Holds store image) where
+  abbrev flat : List (List Step)
+  flat = setOf image (flattenRules image) .flat
+
+  flat-length : length flat ≡ sizeOf image rules
+  unfolding setOf
+  flat-length = length-map (flattenRules image) (λ (f : Flattened). f .steps) ∙ rules-length image
+
+  -- the steps that the store has for a rule
+  pub steps-are : (i : ℕ) (steps : List ℕ) → i < sizeOf image rules → ((xss : List (List Step)) → FlatPart store xss → i < length xss → steps ≡ layout (getD xss i [])) → steps ≡ layout (getD flat i [])
+  steps-are i steps h is = is flat (holds .flat) (omega (arith, flat-length))
+
+  pub steps-fit : (i : ℕ) (steps : List ℕ) → steps ≡ layout (getD flat i []) → FlatWords steps
+  steps-fit i steps e = subst FlatWords (sym e) (rule-words image (holds .accepted) i)
+
+module _ (snapshot image steps : List ℕ) (i : ℕ) (x : Handled) (ow ew : List ℕ) (r : Handled) (ow′ ew′ : List ℕ) (own : steps ≡ layout (getD (setOf image (flattenRules image) .flat) i [])) where
+  pub activated : (kind : ℕ) → Activates snapshot image steps i kind 0 Auto x ow ew r ow′ ew′ → Fires 1 (model.activate (tickEnv snapshot image) i kind 0 model.Auto) x ow ew r ow′ ew′
+  unfolding tickEnv setOf
+  activated kind a = record { says = a .says (setOf image (flattenRules image) .flat) own; within = a .within }
+
+  pub resumed : (c : Pending) → Resumes snapshot image steps i c x ow ew r ow′ ew′ → Fires 1 (model.resume (tickEnv snapshot image) c) x ow ew r ow′ ew′
+  unfolding tickEnv setOf
+  resumed c a = record { says = a .says (setOf image (flattenRules image) .flat) own; within = a .within }
+
+-- PARTS -------------------------------------------------------------------------------------------------------------------------------------
+-- the same, by what the definition gives at this state
+pub same-part : (n : ℕ) (h k : model-state.Volatile → model.Handled) {x : Handled} {ow ew : List ℕ} {r : Handled} {ow′ ew′ : List ℕ} → k (meaning (x .vol)) ≡ h (meaning (x .vol)) → Fires n h x ow ew r ow′ ew′ → Fires n k x ow ew r ow′ ew′
+same-part n h k {x} {ow} {ew} {r} {ow′} {ew′} e f = record { says = subst (λ (g : model.Handled). Continues x ow ew g r ow′ ew′) (sym e) (f .says); within = f .within }
+
+pub more-part : (n m : ℕ) {h : model-state.Volatile → model.Handled} {x : Handled} {ow ew : List ℕ} {r : Handled} {ow′ ew′ : List ℕ} → n ≤ m → Fires n h x ow ew r ow′ ew′ → Fires m h x ow ew r ow′ ew′
+more-part n m {x = x} {r = r} b f = record { says = f .says; within = within-more n m x r b (f .within) }
+
+-- nothing is done
+pub skips : (n : ℕ) (h : model-state.Volatile → model.Handled) (x : Handled) (ow ew : List ℕ) → Sound (x .vol) → h (meaning (x .vol)) ≡ noOutcome (meaning (x .vol)) → Fires n h x ow ew x ow ew
+skips n h x ow ew s e = record {
+  says = subst (λ (g : model.Handled). Continues x ow ew g x ow ew) (sym e) (nothing-done x ow ew s);
+  within = within-more 0 n x x (omega arith) (within-none x x s refl refl refl);
+}
+
+-- one behind another
+pub then-fires :
+    (n m : ℕ) (h k : model-state.Volatile → model.Handled) {x : Handled} {ow ew : List ℕ} {y : Handled} {ow′ ew′ : List ℕ} {r : Handled} {ow″ ew″ : List ℕ}
+    → Fires n h x ow ew y ow′ ew′ → Fires m k y ow′ ew′ r ow″ ew″ → Fires (n + m) (λ v. andThen (h v) k) x ow ew r ow″ ew″
+then-fires n m h k {x} {ow} {ew} {y} {ow′} {ew′} {r} {ow″} {ew″} f g = record {
+  says = then-continues x ow ew (h (meaning (x .vol))) y ow′ ew′ k r ow″ ew″ (f .says) (subst (λ (v : model-state.Volatile). Continues y ow′ ew′ (k v) r ow″ ew″) (f .says .state .says) (g .says));
+  within = within-then n m x y r (f .within) (g .within);
+}
+
+-- the state changes, and keeps the next number
+module _ (f : model-state.Volatile → model-state.Volatile) {x y : Handled} (c : Changes f x y) (next : f (meaning (x .vol)) .next ≡ meaning (x .vol) .next) where
+  same-accepted : y .vol .accepted ≡ x .vol .accepted
+  unfolding meaning
+  same-accepted = omega (arith, accepted-by-next (y .vol) (x .vol .«next_seq») (f (meaning (x .vol))) (c .state), next)
+
+  pub changed : (ow ew : List ℕ) → Fires 0 (λ v. noOutcome (f v)) x ow ew y ow ew
+  changed ow ew = record {
+    says = no-outcome x ow ew (f (meaning (x .vol))) y (c .state) (c .outcomes) (c .effects);
+    within = within-none x y (c .state .sound) same-accepted (c .outcomes) (c .effects);
+  }
+
+  -- and something is done behind it
+  pub after-change :
+      (n : ℕ) (k : model-state.Volatile → model.Handled) {ow ew : List ℕ} {r : Handled} {ow′ ew′ : List ℕ} → Fires n k y ow ew r ow′ ew′
+      → Fires n (λ v. k (f v)) x ow ew r ow′ ew′
+  after-change n k {ow} {ew} {r} {ow′} {ew′} g =
+      let t = then-fires 0 n (λ v. noOutcome (f v)) k (changed ow ew) g in
+      record { says = t .says; within = within-more (0 + n) n x r (omega arith) (t .within) }
+
+  pub room-after : (n : ℕ) → Room n x → Room n y
+  room-after n a =
+      record { sound = c .state .sound; accepted = omega (arith, same-accepted, a .accepted); outcomes = omega (arith, c .outcomes, a .outcomes); effects = omega (arith, c .effects, a .effects) }

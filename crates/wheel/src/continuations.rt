@@ -1,0 +1,100 @@
+// The continuations that are due: all of them leave before the first goes on, also where an earlier one disables its rule.
+use activate::Handled;
+use activate::resume;
+use image::rule::Found;
+use image::rule::rule_named;
+use model::Pending;
+use state::pending::due_now;
+use state::pending::without_due;
+use store::flat_part::rule_steps;
+ghost use mathlib.Core.Path.{_≡_};
+ghost use mathlib.Core.Bool.{true};
+ghost use Prim.Native.Nat.{_≤_};
+ghost use lib.ListN.{take};
+ghost use Rattle.model.specs.Activate as model;
+ghost use Rattle.model.specs.Lists.{all};
+ghost use Rattle.model.specs.Wheel.{resumeAll, fireContinuations};
+ghost use Rattle.state.specs.Meaning.{meaning};
+ghost use Rattle.activate.specs.Handled.{Room};
+ghost use Rattle.wheel.specs.Tick.{Holds, Fires, fitsSet, tickEnv};
+
+// One goes on. Its rule is loaded.
+fn resume_one(
+    snapshot: &[u32],
+    image: &[u32],
+    store: &[u32],
+    outcomes: &mut [u32],
+    effects: &mut [u32],
+    x: Handled,
+    c: Pending,
+) -> Handled
+    requires { ⌜ Holds (now store) (now image) × (fitsSet (now image) c ≡ true) ⌝ }
+    requires { ⌜ Room 1 x ⌝ }
+    ensures { λ r. ⌜ Fires 1 (model.resume (tickEnv (now (snapshot .entry)) (now (image .entry))) c) x (now (outcomes .entry)) (now (effects .entry)) r (now (outcomes .exit)) (now (effects .exit)) ⌝ }
+{
+    match rule_named(image, c.rule) {
+        Found::At(i) => {
+            let steps = rule_steps(store, i);
+            resume(snapshot, image, steps, outcomes, effects, x, i, c)
+        }
+        Found::Nothing => x,
+    }
+}
+
+fn resume_all(
+    snapshot: &[u32],
+    image: &[u32],
+    store: &[u32],
+    outcomes: &mut [u32],
+    effects: &mut [u32],
+    x: Handled,
+    due: [Pending; 32],
+    n: usize,
+) -> Handled
+    requires { ⌜ Holds (now store) (now image) × (n ≤ 32) × (all (fitsSet (now image)) (take n due) ≡ true) ⌝ }
+    requires { ⌜ Room 32 x ⌝ }
+    ensures { λ r. ⌜ Fires 32 (resumeAll (tickEnv (now (snapshot .entry)) (now (image .entry))) (take n due)) x (now (outcomes .entry)) (now (effects .entry)) r (now (outcomes .exit)) (now (effects .exit)) ⌝ }
+{
+    let mut h = x;
+    let mut j = 0;
+    while j < n {
+        let c = due[j];
+        h = resume_one(snapshot, image, store, outcomes, effects, h, c);
+        j += 1;
+    }
+    h
+}
+
+pub fn fire_continuations(
+    snapshot: &[u32],
+    image: &[u32],
+    store: &[u32],
+    outcomes: &mut [u32],
+    effects: &mut [u32],
+    x: Handled,
+) -> Handled
+    requires { ⌜ Holds (now store) (now image) × (all (fitsSet (now image)) (meaning (x .vol) .pending) ≡ true) ⌝ }
+    requires { ⌜ (x .vol .«stored_count» ≡ x .vol .«pending_count») × Room 32 x ⌝ }
+    ensures { λ r. ⌜ Fires 32 (fireContinuations (tickEnv (now (snapshot .entry)) (now (image .entry)))) x (now (outcomes .entry)) (now (effects .entry)) r (now (outcomes .exit)) (now (effects .exit)) ⌝ }
+{
+    let now = world::now_ms(snapshot);
+    let v = x.vol;
+    let list = due_now(v, now);
+    let vol = without_due(v, now);
+    let h = Handled {
+        vol,
+        outcomes: x.outcomes,
+        effects: x.effects,
+    };
+    let due = list.records;
+    resume_all(
+        snapshot,
+        image,
+        store,
+        outcomes,
+        effects,
+        h,
+        due,
+        list.count,
+    )
+}
