@@ -27,7 +27,7 @@ use Rattle.store.specs.FlatPart.{FlatPart}
 use Rattle.activate.specs.Handled.{Continues, Within}
 use Rattle.activate.specs.declared.Handled.{Handled}
 
--- the set of an image, and the environment that a tick is given
+-- the environment of a tick: what the snapshot says, and the set of the image
 unfoldable pub tickEnv : List ℕ → List ℕ → Env
 tickEnv snapshot image = record { world = worldOf snapshot; set = setOf image (flattenRules image) }
 
@@ -36,7 +36,7 @@ pub record Holds (store image : List ℕ) : Type 0 where
   pub accepted : imageRefusal image ≡ 0
   pub flat : FlatPart store (setOf image (flattenRules image) .flat)
 
--- a continuation of the set
+-- a continuation is one of the set's rules
 abbrev pub fitsSet : List ℕ → Pending → Bool
 fitsSet image c = pendingFits (some (setOf image (flattenRules image))) c
 
@@ -55,7 +55,7 @@ pub record Changes (f : model-state.Volatile → model-state.Volatile) (x r : Ha
   pub outcomes : r .outcomes ≡ x .outcomes
   pub effects : r .effects ≡ x .effects
 
--- a tick can begin
+-- what a tick asks for: an accepted snapshot, a loaded image with its flat steps, and a state as a store is read
 pub record Ready (snapshot image store : List ℕ) (v : Volatile) : Type 0 where
   pub world : snapshotRefusal snapshot ≡ 0
   pub holds : Holds store image
@@ -69,7 +69,7 @@ start v = record { vol = v; outcomes = 0; effects = 0 }
 unfoldable pub onTimer : List ℕ → ℕ → ℕ → Bool
 onTimer img timer i = any (firesOn timer) (triggersOf img i)
 
--- the rules that one of some timers or slots starts
+-- the rules that a timer starts, and those of some timers; the same of Every slots
 abbrev pub rulesOfTimer : List ℕ → NamedTimer → List ℕ
 rulesOfTimer img t = rulesOnTimer img (t .name)
 
@@ -98,6 +98,6 @@ countMissed missed v = model-state.withRest (cond missed (bump ticksTimeUnsynced
 abbrev pub remembering : ℕ → model-state.Volatile → model-state.Volatile
 remembering minute v = model-state.withRest (withPrevWeekMin (some minute) (v .rest)) v
 
--- without a wall clock
+-- without a wall clock the minute before is forgotten
 unfoldable pub withoutWall : List ℕ → model-state.Volatile → model-state.Volatile
 withoutWall img v = model-state.withRest (withPrevWeekMin none (cond (hasWallTriggers img (v .rest)) (bump ticksTimeUnsynced (v .rest)) (v .rest))) v

@@ -12,7 +12,7 @@ ghost use Rattle.model.specs.Wheel.{byEvery, activateEach, fireEvery};
 ghost use Rattle.activate.specs.Handled.{Room};
 ghost use Rattle.wheel.specs.Tick.{Holds, Fires, tickEnv, rulesOfSlot, rulesOfSlots};
 
-// The triggers of an outcome.
+// The trigger of an outcome.
 const BY_EVERY: u32 = 2;
 
 fn fire_slot(

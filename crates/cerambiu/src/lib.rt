@@ -1,0 +1,149 @@
+// The C interface: the eight calls of crate `engine` under C names, as include/cerambiu.h describes them. A slice is a pointer and a length
+// in C. A call returns document 01's number of its refusal, 0 for none, and writes its values into the lent words of the answer. A contract is one
+// equation with the specification's call on words (model's `callOn`), for all arguments.
+use engine::Answer;
+ghost use mathlib.Core.Path.{_≡_};
+ghost use mathlib.Core.Bool.{cond};
+ghost use mathlib.Core.List.{[]};
+ghost use lib.ListN.{length};
+ghost use Rattle.model.specs.Calls.{new, load, unload, enable, tick, run, deadline, counters};
+ghost use Rattle.model.specs.OnWords.{callOn};
+ghost use Rattle.engine.specs.Answers.{numberOf, valuesOf};
+ghost use Rattle.cerambiu.specs.Called.{called, answered, lentAnswer};
+
+fn number_of(a: Answer) -> u32
+    ensures { λ r. ⌜ r ≡ numberOf a ⌝ }
+{
+    match a {
+        Answer::Done => 0,
+        Answer::Refused(number) => number,
+        Answer::Enabled(known) => 0,
+        Answer::Handled(outcomes, effects) => 0,
+        Answer::Due(time) => 0,
+        Answer::NoDeadline => 0,
+    }
+}
+
+fn mark(known: bool) -> u32
+    ensures { λ r. ⌜ r ≡ cond known 1 0 ⌝ }
+{
+    if known {
+        return 1;
+    }
+    0
+}
+
+// No answer but that of counters has more than three values.
+fn values_of(a: Answer) -> [u32; 3]
+    ensures { λ r. ⌜ r ≡ lentAnswer 3 (valuesOf a) ⌝ }
+{
+    match a {
+        Answer::Done => [0, 0, 0],
+        Answer::Refused(number) => [0, 0, 0],
+        Answer::Enabled(known) => [mark(known), 0, 0],
+        Answer::Handled(outcomes, effects) => [outcomes, effects, 0],
+        Answer::Due(time) => [1, words::low_word(time), words::high_word(time)],
+        Answer::NoDeadline => [0, 0, 0],
+    }
+}
+
+// Values past the end of the answer are not written; words behind the values are 0.
+fn put_values(answer: &mut [u32], values: &[u32])
+    ensures { λ _. ⌜ now (answer .exit) ≡ lentAnswer (length (now (answer .entry))) (now (values .entry)) ⌝ }
+{
+    let mut i = 0;
+    while i < answer.len() {
+        let value = fields::word(values, i);
+        answer[i] = value;
+        i += 1;
+    }
+}
+
+fn put_answer(answer: &mut [u32], a: Answer) -> u32
+    ensures { λ r. ⌜ (r ≡ numberOf a) × (now (answer .exit) ≡ lentAnswer (length (now (answer .entry))) (valuesOf a)) ⌝ }
+{
+    let values = values_of(a);
+    put_values(answer, &values);
+    number_of(a)
+}
+
+#[no_mangle]
+pub extern "C" fn cerambiu_new(store: &mut [u32], time: u64) -> u32
+    ensures { λ r. ⌜ called r [] (now (store .exit)) [] [] ≡ answered 0 (callOn (new time) (now (store .entry))) ⌝ }
+{
+    number_of(engine::new(store, time))
+}
+
+#[no_mangle]
+pub extern "C" fn cerambiu_load(store: &mut [u32], time: u64, image: &[u32]) -> u32
+    ensures { λ r. ⌜ called r [] (now (store .exit)) [] [] ≡ answered 0 (callOn (load time (now (image .entry))) (now (store .entry))) ⌝ }
+{
+    number_of(engine::load(store, time, image))
+}
+
+#[no_mangle]
+pub extern "C" fn cerambiu_unload(store: &mut [u32], time: u64) -> u32
+    ensures { λ r. ⌜ called r [] (now (store .exit)) [] [] ≡ answered 0 (callOn (unload time) (now (store .entry))) ⌝ }
+{
+    number_of(engine::unload(store, time))
+}
+
+#[no_mangle]
+pub extern "C" fn cerambiu_enable(store: &mut [u32], rule: u32, on: bool, answer: &mut [u32]) -> u32
+    ensures { λ r. ⌜ called r (now (answer .exit)) (now (store .exit)) [] [] ≡ answered (length (now (answer .entry))) (callOn (enable rule on) (now (store .entry))) ⌝ }
+{
+    put_answer(answer, engine::enable(store, rule, on))
+}
+
+#[no_mangle]
+pub extern "C" fn cerambiu_tick(
+    store: &mut [u32],
+    snapshot: &[u32],
+    outcomes: &mut [u32],
+    effects: &mut [u32],
+    answer: &mut [u32],
+) -> u32
+    ensures { λ r. ⌜ called r (now (answer .exit)) (now (store .exit)) (now (outcomes .exit)) (now (effects .exit)) ≡ answered (length (now (answer .entry))) (callOn (tick (now (snapshot .entry)) (length (now (outcomes .entry))) (length (now (effects .entry)))) (now (store .entry))) ⌝ }
+{
+    put_answer(answer, engine::tick(store, snapshot, outcomes, effects))
+}
+
+#[no_mangle]
+pub extern "C" fn cerambiu_run(
+    store: &mut [u32],
+    rule: u32,
+    dry: bool,
+    snapshot: &[u32],
+    outcomes: &mut [u32],
+    effects: &mut [u32],
+    answer: &mut [u32],
+) -> u32
+    ensures { λ r. ⌜ called r (now (answer .exit)) (now (store .exit)) (now (outcomes .exit)) (now (effects .exit)) ≡ answered (length (now (answer .entry))) (callOn (run rule dry (now (snapshot .entry)) (length (now (outcomes .entry))) (length (now (effects .entry)))) (now (store .entry))) ⌝ }
+{
+    put_answer(
+        answer,
+        engine::run(store, rule, dry, snapshot, outcomes, effects),
+    )
+}
+
+#[no_mangle]
+pub extern "C" fn cerambiu_next_deadline(store: &[u32], answer: &mut [u32]) -> u32
+    ensures { λ r. ⌜ called r (now (answer .exit)) (now (store .entry)) [] [] ≡ answered (length (now (answer .entry))) (callOn deadline (now (store .entry))) ⌝ }
+{
+    put_answer(answer, engine::next_deadline(store))
+}
+
+#[no_mangle]
+pub extern "C" fn cerambiu_counters(store: &[u32], answer: &mut [u32]) -> u32
+    ensures { λ r. ⌜ called r (now (answer .exit)) (now (store .entry)) [] [] ≡ answered (length (now (answer .entry))) (callOn counters (now (store .entry))) ⌝ }
+{
+    let c = engine::counters(store);
+    if c.refusal != 0 {
+        let none = [0u32; 1];
+        put_values(answer, &none[1..]);
+        return c.refusal;
+    }
+    let values = c.values;
+    put_values(answer, &values);
+    0
+}

@@ -1,0 +1,9 @@
+pub mod Seeing
+pub mod Filled
+pub mod SetLaws
+pub mod WordLaws
+pub mod LoadedLaws
+pub mod CallLaws
+pub mod HandlingLaws
+pub mod DeadlineLaws
+pub mod TickLaws

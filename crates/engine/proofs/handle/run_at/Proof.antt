@@ -1,0 +1,53 @@
+-- `engine::handle::run_at` meets its contract. Assumes nothing.
+use mathlib.Core.Path.{refl}
+use denote.Ref.{now}
+use borrow.Author.Needs.{needs}
+use borrow.Author.Tests.{not-true, not-false}
+use Rattle.engine.proofs.WordLaws.{said}
+use Rattle.engine.proofs.SetLaws.{loadable}
+use Rattle.engine.proofs.LoadedLaws.{image-of, set-of}
+use Rattle.engine.proofs.HandlingLaws.{not-started, started, rule-inside, steps-are, steps-flat}
+use Rattle.engine.proofs.handle.run_at.Statement.{statement}
+use Rattle.engine.proofs.handle.run_at.Tie as tie
+
+returns : tie.Need-returns
+returns c s set e l =
+    let a = c .before .before .before .before .before .before .before .before .args in
+    not-started _ (a .x) _ (a .i) _ _ _ (a .dry) (c .before .before .starts .ensures) (not-true _ (c .before .if1 .taken)) (c .bump .ensures) refl refl
+
+activate-requires : tie.Need-activate-requires
+activate-requires c κs =
+    let m = c .before .before .before in
+    let s = m .before .before .before .before .before .before .before .before .before in
+    let k = said _ (s .pre .0 .0) in
+    let q = s .pre .0 .1 (k .store) (k .is) in
+    let n = set-of (k .store .loaded) (s .args .rule) (s .args .i) q in
+    let l = image-of _ _ (k .store) (k .is) (m .image-in .ensures) (n .0) (n .1) in
+    ((loadable _ (l .passes) .accepted, steps-flat _ _ (k .store) l (s .args .rule) (s .args .i) q _ (c .before .before .rule-steps .ensures), rule-inside _ _ (k .store) l (s .args .rule) (s .args .i) q), s .pre .1)
+
+returns-2 : tie.Need-returns-2
+returns-2 c t set e l =
+    let d = c .before .before .before .before in
+    let n = d .before .before .before in
+    let m = n .before in
+    let b = m .before .before .before in
+    let s = b .before .before .before .before .before .before in
+    let a = s .args in
+    let i = image-of _ _ t e (m .image-in .ensures) set l in
+    started (now (a .snapshot)) _ set (a .x) _ (a .i) _ _ _ _ _ (a .dry) _ (i .image) (b .starts .ensures) (not-false _ (m .before .before .if1 .left)) (m .before .mode-of .ensures)
+    (d .activate .ensures .says (set .flat) (steps-are _ _ t i (a .rule) (a .i) (s .pre .0 .1 t e) _ (n .rule-steps .ensures)))
+
+pub run-at-spec : {M : Type 1} → statement M
+run-at-spec =
+    tie.close
+    (tie.spec
+    (λ c κs. search needs)
+    (λ c κs. search needs)
+    returns
+    (λ c κs. search needs)
+    (λ c κs. search needs)
+    (λ c κs. search needs)
+    activate-requires
+    (λ c. search needs)
+    (λ c. search needs)
+    returns-2)

@@ -1,0 +1,4 @@
+pub mod Seen
+pub mod Answers
+pub mod Sets
+pub mod Handling

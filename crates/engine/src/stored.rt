@@ -1,0 +1,133 @@
+// What a store that keeps the store rules holds.
+use crate::Answer;
+use crate::Counted;
+use image::rule::Found;
+use state::OptionU64;
+use state::Volatile;
+use store::set::image_in;
+use store::set::is_loaded;
+ghost use mathlib.Core.Path.{_≡_};
+ghost use mathlib.Core.Bool.{true};
+ghost use mathlib.Core.List.{[]};
+ghost use mathlib.Core.Option.{some};
+ghost use Prim.Native.Nat.{_≤_};
+ghost use Rattle.model.specs.Lists.{present};
+ghost use Rattle.model.specs.State.{Store};
+ghost use Rattle.model.specs.Store.{read, ruleCount};
+ghost use Rattle.model.specs.Calls.{enable, deadline, counters, ruleIn};
+ghost use Rattle.model.specs.OnWords.{callOn};
+ghost use Rattle.image.specs.Found.{found};
+ghost use Rattle.state.specs.Meaning.{AllNumbered, option64};
+ghost use Rattle.engine.specs.Seen.{seen, refusalOf};
+ghost use Rattle.engine.specs.Answers.{shown, shownCounters, deadlineIs};
+
+// 1 or 2 for words that are no store, 0 for a store.
+pub fn refusal(store: &[u32]) -> u32
+    ensures { λ r. ⌜ r ≡ refusalOf (read (now (store .entry))) (now (store .entry)) ⌝ }
+{
+    if store::check(store) {
+        return 0;
+    }
+    if store::sized(store) {
+        return 2;
+    }
+    1
+}
+
+// How many rules are loaded.
+fn rule_count(store: &[u32]) -> usize
+    requires { ⌜ present (read (now store)) ≡ true ⌝ }
+    ensures { λ r. ⌜ (r ≤ 64) × ((s : Store) → read (now (store .entry)) ≡ some s → r ≡ ruleCount (s .loaded)) ⌝ }
+{
+    if !is_loaded(store) {
+        return 0;
+    }
+    image::layout::size_of(image_in(store), 0) as usize
+}
+
+// The parts that calls change.
+pub fn volatile_in(store: &[u32]) -> Volatile
+    requires { ⌜ present (read (now store)) ≡ true ⌝ }
+    ensures { λ r. ⌜ ((s : Store) → read (now (store .entry)) ≡ some s → AllNumbered r (s .vol)) ⌝ }
+{
+    let rules = rule_count(store);
+    store::volatile::volatile_at(store, rules)
+}
+
+// The rule of a name in the loaded set.
+pub fn rule_in(store: &[u32], name: u32) -> Found
+    requires { ⌜ present (read (now store)) ≡ true ⌝ }
+    ensures { λ r. ⌜ ((s : Store) → read (now (store .entry)) ≡ some s → r ≡ found (ruleIn (s .loaded) name)) ⌝ }
+{
+    if !is_loaded(store) {
+        return Found::Nothing;
+    }
+    image::rule::rule_named(image_in(store), name)
+}
+
+fn deadline_answer(t: OptionU64) -> Answer
+    ensures { λ r. ⌜ r ≡ deadlineIs (option64 t) ⌝ }
+{
+    if t.present {
+        return Answer::Due(t.value);
+    }
+    Answer::NoDeadline
+}
+
+// The next deadline.
+pub fn next_deadline(store: &[u32]) -> Answer
+    requires { ⌜ present (read (now store)) ≡ true ⌝ }
+    ensures { λ r. ⌜ shown r (now (store .entry)) [] [] ≡ seen (callOn deadline (now (store .entry))) ⌝ }
+{
+    let v = volatile_in(store);
+    let last = store::set::last_at(store);
+    let loaded = is_loaded(store);
+    let image = image_in(store);
+    let next = wheel::deadline::next_deadline(image, loaded, v, last);
+    deadline_answer(next)
+}
+
+// The 13 counters and the four gauges.
+pub fn counters(store: &[u32]) -> Counted
+    requires { ⌜ present (read (now store)) ≡ true ⌝ }
+    ensures { λ r. ⌜ shownCounters r (now (store .entry)) ≡ seen (callOn counters (now (store .entry))) ⌝ }
+{
+    let v = volatile_in(store);
+    let c = v.counters;
+    let values = [
+        c.activations_total,
+        c.activations_dry,
+        c.suppressed_cooldown,
+        c.suppressed_disabled,
+        c.conditions_rejected,
+        c.partial_outcomes,
+        c.chain_depth_exceeded,
+        c.effects_emitted,
+        c.actions_failed,
+        c.continuations_scheduled,
+        c.continuations_fired,
+        c.continuations_dropped,
+        c.ticks_time_unsynced,
+        v.pending_count as u32,
+        v.timer_count as u32,
+        rule_count(store) as u32,
+        v.var_count as u32,
+    ];
+    Counted { refusal: 0, values }
+}
+
+// The bit of a rule; who disables also drops the rule's continuations.
+pub fn enable(store: &mut [u32], rule: u32, on: bool) -> Answer
+    requires { ⌜ present (read (now store)) ≡ true ⌝ }
+    ensures { λ r. ⌜ shown r (now (store .exit)) [] [] ≡ seen (callOn (enable rule on) (now (store .entry))) ⌝ }
+{
+    match rule_in(store, rule) {
+        Found::Nothing => Answer::Enabled(false),
+        Found::At(i) => {
+            let v = volatile_in(store);
+            let w = state::rules::set_enabled(v, rule, i as usize, on);
+            store::volatile::put_volatile(store, w);
+            Answer::Enabled(true)
+        }
+    }
+}
