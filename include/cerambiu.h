@@ -1,14 +1,19 @@
 /*
  * Cerambiu: a rules engine for the lighting of poultry houses, proved. This is its C interface: eight calls over words that the caller lends.
  *
- * Link target/staticlib/libcerambiu.a (`rt staticlib cerambiu`). The library keeps nothing between calls, allocates nothing, reads no clock, calls
- * nobody, and every call returns. All that it remembers of a house is in one store of 16,384 words, which the caller keeps.
+ * Link target/staticlib/libcerambiu.a (`rt staticlib cerambiu`; 90 KiB of code and constants). The library keeps nothing between calls, allocates
+ * nothing, reads no clock, calls nothing but memcpy, memmove and memset, and every call returns. All that it remembers of a house is in one store
+ * of 16,384 words, which the caller keeps.
  *
  *   words     A word is a uint32_t in the machine's byte order. A 64-bit value in a table is two words, low first. A signed word is two's
  *             complement. A mark is 0 or 1. A time is in milliseconds, from any start, 64 bits; a clock that goes back is no error.
  *   slices    A lent store is a pointer and its number of words. The pointer is aligned for uint32_t; with 0 words it may be anything.
  *             Stores of one call do not overlap. A store that is not const is written within its words only.
  *   threads   Two calls may run at once if they share no store that either of them writes.
+ *   stack     In bytes, measured on x86-64 by examples/c/stack.c with a rule of most kinds of action: tick 193,000, run 160,000, load 36,000,
+ *             enable 33,000, unload, next_deadline and counters 29,000, new 2,000. Flattening goes as deep as an image's lists and calls go, and
+ *             every call but new flattens the loaded image, to check the store: with the deepest image that was found (506 calls in a list, eight
+ *             levels down) each of them needs 2,700,000.
  *   refusals  Each call returns 0, or the number of a refusal: the lowest that applies. A refused call has changed nothing: the store is as
  *             it was, and every word of the outcomes, the effects and the answer is 0.
  *   answers   Values go into the lent `answer`. Values past its end are not written; words behind the values are 0. Fewer words than a call has
@@ -137,6 +142,9 @@ enum cerambiu_action {
     CERAMBIU_REPEAT = 26,         /* count byte, actions; 0 or over the repeat limit: a step that fails */
     CERAMBIU_CONDITIONAL = 27     /* condition, actions of then, actions of else */
 };
+
+/* An After in an After, a Repeat in a Repeat, a Conditional in a Conditional, through calls too, is a step that fails. A list that has 256 steps and
+ * an action left takes one more step, which fails, and ends. */
 
 enum cerambiu_condition {
     CERAMBIU_TIME_IN_RANGE = 0,          /* bound, bound: both ends are in */

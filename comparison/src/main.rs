@@ -6,7 +6,10 @@
 //!   a time, with the table of the rules that are then broken; and the time of a check of a full store beside a sum of its words.
 //!
 //! Prints the counts, the slowest images, and each difference; its status is 1 if there is one, or if a cell of the table is empty.
+//!
+//! `comparison calls ..` compares the eight calls (`calls`), `comparison speed ..` times them (`speed`).
 
+mod calls;
 mod cells;
 mod changes;
 mod evaluation;
@@ -15,6 +18,7 @@ mod good_stores;
 mod kept;
 mod proved;
 mod refusals;
+mod speed;
 mod store;
 mod store_reader;
 mod tables;
@@ -32,6 +36,9 @@ fn numbers() -> Option<[u64; 3]> {
 }
 
 fn main() -> ExitCode {
+    if let Some(status) = calls::command().or_else(speed::command) {
+        return status;
+    }
     let Some([histories, sweeps, seed]) = numbers() else {
         eprintln!("usage: comparison HISTORIES SWEEPS SEED");
         return ExitCode::from(2);

@@ -1,0 +1,134 @@
+//! The eight proved calls over word slices: `include/cerambiu.h`, which says what the words mean, in safe Rust.
+//!
+//! The functions of this module give Rust values. Those of [`words`] are the C functions as they are, with the lent words of the answer.
+
+pub mod words;
+
+pub const STORE_WORDS: usize = 16_384;
+pub const OUTCOME_WORDS: usize = 6;
+pub const EFFECT_WORDS: usize = 5;
+pub const COUNTERS: usize = 17;
+
+/// Document 01's number of a refusal. A refused call has changed nothing.
+#[derive(Clone, Copy, Debug, PartialEq, Eq)]
+pub struct Refused(pub u32);
+
+/// How many outcomes and effects a tick or a run has written.
+#[derive(Clone, Copy, Debug, PartialEq, Eq)]
+pub struct Handled {
+    pub outcomes: u32,
+    pub effects: u32,
+}
+
+fn accepted<T>(number: u32, value: T) -> Result<T, Refused> {
+    match number {
+        0 => Ok(value),
+        _ => Err(Refused(number)),
+    }
+}
+
+/// A new store, whatever its words were.
+pub fn new(store: &mut [u32], time: u64) -> Result<(), Refused> {
+    accepted(words::new(store, time), ())
+}
+
+pub fn load(store: &mut [u32], time: u64, image: &[u32]) -> Result<(), Refused> {
+    accepted(words::load(store, time, image), ())
+}
+
+pub fn unload(store: &mut [u32], time: u64) -> Result<(), Refused> {
+    accepted(words::unload(store, time), ())
+}
+
+/// Whether there is such a rule.
+pub fn enable(store: &mut [u32], rule: u32, on: bool) -> Result<bool, Refused> {
+    let mut answer = [0];
+    let number = words::enable(store, rule, on, &mut answer);
+    accepted(number, answer == [1])
+}
+
+pub fn tick(
+    store: &mut [u32],
+    snapshot: &[u32],
+    outcomes: &mut [u32],
+    effects: &mut [u32],
+) -> Result<Handled, Refused> {
+    let mut answer = [0; 2];
+    let number = words::tick(store, snapshot, outcomes, effects, &mut answer);
+    accepted(number, Handled { outcomes: answer[0], effects: answer[1] })
+}
+
+pub fn run(
+    store: &mut [u32],
+    rule: u32,
+    dry: bool,
+    snapshot: &[u32],
+    outcomes: &mut [u32],
+    effects: &mut [u32],
+) -> Result<Handled, Refused> {
+    let mut answer = [0; 2];
+    let number = words::run(store, rule, dry, snapshot, outcomes, effects, &mut answer);
+    accepted(number, Handled { outcomes: answer[0], effects: answer[1] })
+}
+
+pub fn next_deadline(store: &[u32]) -> Result<Option<u64>, Refused> {
+    let mut answer = [0; 3];
+    let number = words::next_deadline(store, &mut answer);
+    let [mark, low, high] = answer.map(u64::from);
+    accepted(number, (mark == 1).then_some(low | high << 32))
+}
+
+/// The 13 counters, then pending, timers, rules, variables.
+pub fn counters(store: &[u32]) -> Result<[u32; COUNTERS], Refused> {
+    let mut answer = [0; COUNTERS];
+    let number = words::counters(store, &mut answer);
+    accepted(number, answer)
+}
+
+#[cfg(test)]
+mod tests {
+    use super::*;
+
+    /// Rule 5: Log 7, Wait 1000, Log 9; budget 8.
+    const IMAGE: [u32; 53] = [
+        5, 1, 0, 0, 0, 0, 0, 0, 0, 3, 0, 0, 0, 0, 0, 0, 21, 7, 0, 0, 0, 0, 0, 0, 23, 1000, 0, 0, 0, 0, 0, 0, 21, 9, 0,
+        0, 0, 0, 0, 0, 8, 0, 1, 0, 0, 0, 16, 16, 16, 16, 40, 40, 40,
+    ];
+
+    fn snapshot(now: u32) -> [u32; 14] {
+        [now, 0, 0, 0, 0, 0, 0, 0, 1, 0, 0, 0, 0, 0]
+    }
+
+    #[test]
+    fn the_example_of_document_01() {
+        let (mut store, mut outcomes, mut effects) = ([u32::MAX; STORE_WORDS], [1; 12], [1; 10]);
+        assert_eq!(new(&mut store, 0), Ok(()));
+        assert_eq!(load(&mut store, 0, &IMAGE), Ok(()));
+        let ran = run(&mut store, 5, false, &snapshot(0), &mut outcomes, &mut effects);
+        assert_eq!(ran, Ok(Handled { outcomes: 1, effects: 1 }));
+        assert_eq!(outcomes, [5, 0, 0, 0, 0, 1, 0, 0, 0, 0, 0, 0]);
+        assert_eq!(effects, [11, 7, 0, 0, 0, 0, 0, 0, 0, 0]);
+        assert_eq!(next_deadline(&store), Ok(Some(1000)));
+        let early = tick(&mut store, &snapshot(999), &mut outcomes, &mut effects);
+        assert_eq!(early, Ok(Handled { outcomes: 0, effects: 0 }));
+        let due = tick(&mut store, &snapshot(1000), &mut outcomes, &mut effects);
+        assert_eq!(due, Ok(Handled { outcomes: 1, effects: 1 }));
+        assert_eq!(effects[..5], [11, 9, 0, 0, 0]);
+        assert_eq!(enable(&mut store, 5, false), Ok(true));
+        assert_eq!(enable(&mut store, 6, false), Ok(false));
+        assert_eq!(next_deadline(&store), Ok(None));
+        assert_eq!(unload(&mut store, 2000), Ok(()));
+        assert_eq!(counters(&store).map(|counts| (counts[0], counts[7], counts[15])), Ok((1, 2, 0)));
+    }
+
+    #[test]
+    fn refusals() {
+        let mut store = [0; STORE_WORDS];
+        assert_eq!(new(&mut store[1..], 0), Err(Refused(1)));
+        assert_eq!(new(&mut store, 7), Ok(()));
+        assert_eq!(load(&mut store, 7, &IMAGE[..12]), Err(Refused(10)));
+        assert_eq!(tick(&mut store, &[], &mut [], &mut []), Err(Refused(20)));
+        store[2] = 2;
+        assert_eq!(counters(&store), Err(Refused(2)));
+    }
+}

@@ -1,0 +1,236 @@
+//! One history through the Rust and through the proved calls, call by call.
+
+use oracle::house::{Answer, Call, Outcome};
+use oracle::random::Random;
+
+use super::house::{expected, House, Lent, Seen};
+use super::left;
+use super::tally::Tally;
+use crate::kept::Player;
+use crate::store::{Pending, Store, WORDS};
+
+/// What a fresh house of the oracle lends.
+const LARGE: Lent = Lent { answer: 0, outcomes: 24_576, effects: 327_680 };
+/// Places of the store's words: docs/STORE.md.
+const VARIABLES: usize = 12_805;
+const VARIABLE_WORDS: usize = 4;
+const PENDING: usize = 13_240;
+const PENDING_WORDS: usize = 14;
+const COUNTERS: std::ops::Range<usize> = 13_693..13_706;
+
+/// Why a history stops.
+pub type Difference = String;
+
+pub struct Both<'a> {
+    player: Player,
+    house: House,
+    lent: Lent,
+    /// From a sequence number of the Rust on, what the store's numbers are ahead: a script may write the next number.
+    ahead: Vec<(u64, u64)>,
+    /// What the store's counters are ahead, up to the greatest word: a history can start with counters that are nearly full.
+    counted: u32,
+    random: Random,
+    tally: &'a mut Tally,
+}
+
+impl<'a> Both<'a> {
+    pub fn new(seed: u64, tally: &'a mut Tally) -> Both<'a> {
+        let (player, house) = (Player::default(), House::default());
+        let mut random = Random::new(seed);
+        let counted = if random.once_in(8) { u32::MAX - random.below(8) } else { 0 };
+        let mut both = Both { player, house, lent: LARGE, ahead: vec![(0, 0)], counted, random, tally };
+        both.fill_counters();
+        both
+    }
+
+    /// The counters of a new store.
+    fn fill_counters(&mut self) {
+        self.house.store[COUNTERS].fill(self.counted);
+    }
+
+    /// The words of the store.
+    pub fn store(&self) -> &[u32] {
+        &self.house.store
+    }
+
+    /// A line of a script; behind each of the eight calls also the deadline and the counters.
+    pub fn line(&mut self, call: &Call) -> Result<(), Difference> {
+        match call {
+            Call::Lend { outcomes, effects } => {
+                self.lent = Lent { answer: 0, outcomes: *outcomes as usize, effects: *effects as usize };
+            }
+            Call::Size { words } => self.house.size = *words as usize,
+            Call::Poke { place, word } => return self.poke(*place, *word),
+            Call::Peek { place } => {
+                let found = Answer::Word(self.house.store[*place as usize]);
+                let wanted = self.player.call(call);
+                return ask(found == wanted, || format!("{call:?}: proved {found:?}, Rust {wanted:?}"));
+            }
+            _ => {
+                self.call(call)?;
+                self.call(&Call::Deadline)?;
+                return self.call(&Call::Counters);
+            }
+        }
+        self.player.call(call);
+        Ok(())
+    }
+
+    /// Writes a word of the next sequence number.
+    fn poke(&mut self, place: u32, word: u32) -> Result<(), Difference> {
+        let next = |player: &mut Player| player.store().map_or(0, |store| store.next);
+        let before = next(&mut self.player);
+        self.player.call(&Call::Poke { place, word });
+        let more = next(&mut self.player).wrapping_sub(before);
+        let (_, ahead) = self.ahead[self.ahead.len() - 1];
+        self.ahead.push((before.wrapping_sub(ahead), ahead.wrapping_add(more)));
+        self.house.store[place as usize] = word;
+        Ok(())
+    }
+
+    /// The store's sequence number for the Rust's.
+    fn number(&self, number: u64) -> u64 {
+        let ahead = self.ahead.iter().rev().find(|(from, _)| *from <= number);
+        ahead.map_or(number, |(_, ahead)| number.wrapping_add(*ahead))
+    }
+
+    /// One of the eight calls.
+    pub fn call(&mut self, call: &Call) -> Result<(), Difference> {
+        let mut answer = self.player.call(call);
+        if let Answer::Counters(counters) = &mut answer {
+            counters[..COUNTERS.len()].iter_mut().for_each(|counter| *counter = counter.saturating_add(self.counted));
+        }
+        if let Some(lent) = self.one_word_less(&answer) {
+            self.compare(call, &Answer::Refused(30), lent)?;
+        }
+        let lent = self.room(&answer);
+        self.compare(call, &answer, lent)?;
+        if answer == Answer::Silent && matches!(call, Call::New { .. }) {
+            self.fill_counters();
+        }
+        Ok(())
+    }
+
+    /// The proved call, and what it must give.
+    fn compare(&mut self, call: &Call, answer: &Answer, lent: Lent) -> Result<(), Difference> {
+        let before = self.house.store.clone();
+        let seen = self.house.call(call, lent);
+        let wanted = expected(call, answer, lent);
+        self.tally.add(call, answer);
+        ask(seen == wanted, || first_difference(call, &seen, &wanted))?;
+        if matches!(answer, Answer::Refused(_) | Answer::Deadline(_) | Answer::Counters(_)) {
+            return ask(self.house.store == before, || format!("{call:?}: the store is changed"));
+        }
+        self.compare_store(&before, call)
+    }
+
+    /// All words of the store are what the Rust keeps.
+    fn compare_store(&mut self, before: &[u32], call: &Call) -> Result<(), Difference> {
+        let Some(mut store) = self.player.store() else {
+            return Err(format!("{call:?}: the Rust's state has no words"));
+        };
+        if matches!(call, Call::New { .. }) {
+            self.ahead = vec![(0, 0)];
+        } else {
+            store.counters = store.counters.map(|counter| counter.saturating_add(self.counted));
+        }
+        for held in &mut store.pending {
+            held.seq = self.number(held.seq);
+        }
+        let words = &self.house.store;
+        self.tally.keep(&store);
+        if !matches!(call, Call::New { .. }) {
+            let (old, new) = (variable_names(before), variable_names(words));
+            ask(new.starts_with(&old), || format!("{call:?}: variables have moved: {old:?}, {new:?}"))?;
+        }
+        arrange(&mut store, words);
+        let wanted = store.words();
+        let place = (0..WORDS).find(|place| words[*place] != wanted[*place]);
+        ask(place.is_none(), || {
+            let place = place.unwrap_or(0);
+            format!("{call:?}: word {place} of the store is {}, of the Rust's {}", words[place], wanted[place])
+        })
+    }
+
+    /// Room for the answer: exactly what a script lends, else enough and little more.
+    fn room(&mut self, answer: &Answer) -> Lent {
+        let words = self.random.below(20) as usize;
+        if self.lent.outcomes < LARGE.outcomes || matches!(answer, Answer::Refused(30 | 31)) {
+            return Lent { answer: words, ..self.lent };
+        }
+        let (outcomes, effects) = match answer {
+            Answer::Outcomes { list, .. } => needed(list),
+            _ => (0, 0),
+        };
+        let more = |random: &mut Random| if random.once_in(64) { 1_000 } else { random.below(8) as usize };
+        Lent { answer: words, outcomes: outcomes + more(&mut self.random), effects: effects + more(&mut self.random) }
+    }
+
+    /// Now and then, one word less than the outcomes or the effects need.
+    fn one_word_less(&mut self, answer: &Answer) -> Option<Lent> {
+        let Answer::Outcomes { list, .. } = answer else {
+            return None;
+        };
+        let (outcomes, effects) = needed(list);
+        if outcomes == 0 || !self.random.once_in(4) {
+            return None;
+        }
+        let lent = Lent { answer: 2, outcomes: outcomes - 1, effects };
+        match effects {
+            0 => Some(lent),
+            _ if self.random.bit() == 0 => Some(lent),
+            _ => Some(Lent { answer: 2, outcomes, effects: effects - 1 }),
+        }
+    }
+}
+
+fn ask(holds: bool, text: impl FnOnce() -> Difference) -> Result<(), Difference> {
+    if holds {
+        Ok(())
+    } else {
+        Err(text())
+    }
+}
+
+fn first_difference(call: &Call, seen: &Seen, wanted: &Seen) -> Difference {
+    if seen.number != wanted.number {
+        return format!("{call:?}: proved {}, Rust {}", seen.number, wanted.number);
+    }
+    let parts = [
+        ("answer", &seen.answer, &wanted.answer),
+        ("outcomes", &seen.outcomes, &wanted.outcomes),
+        ("effects", &seen.effects, &wanted.effects),
+    ];
+    let part = parts.into_iter().find(|(_, seen, wanted)| seen != wanted);
+    let (name, seen, wanted) = part.unwrap_or(parts[0]);
+    format!("{call:?}: {name}: proved {seen:?}, Rust {wanted:?}")
+}
+
+/// Words that outcomes and their effects take.
+fn needed(list: &[Outcome]) -> (usize, usize) {
+    let effects: usize = list.iter().map(|outcome| outcome.effects.len()).sum();
+    (list.len() * cerambiu::OUTCOME_WORDS, effects * cerambiu::EFFECT_WORDS)
+}
+
+fn variable_names(words: &[u32]) -> Vec<u32> {
+    let rows = words[VARIABLES + 1..].chunks(VARIABLE_WORDS).take(words[VARIABLES] as usize);
+    rows.map(|row| row[0]).collect()
+}
+
+/// The Rust keeps variables by name, and the steps of a continuation in place of list, place and jump. A store has variables as they came, and
+/// of places with the same steps the one that was reached.
+fn arrange(store: &mut Store, words: &[u32]) {
+    let names = variable_names(words);
+    store.variables.sort_by_key(|variable| names.iter().position(|name| *name == variable.name));
+    let Some(image) = &store.image else {
+        return;
+    };
+    for (at, held) in store.pending.iter_mut().enumerate() {
+        let row = &words[PENDING + 1 + at * PENDING_WORDS..][..PENDING_WORDS];
+        let jump = (row[7] == 1).then_some((row[8], row[9]));
+        let found = Pending { list: row[5], place: row[6], jump, ..*held };
+        if found != *held && left::same(image, &found, held) {
+            *held = found;
+        }
+    }
+}

@@ -1,0 +1,146 @@
+//! `comparison calls HISTORIES LENGTH VALUES SEED EDGES`: the eight proved calls beside the Rust.
+//!
+//! - Edges: every script of the folder EDGES.
+//! - Histories: so many generated ones from SEED on, valid and hostile; behind each, its store with random words.
+//! - Lists: every list of up to LENGTH of the small actions, as a rule.
+//! - Stores: every word of good stores to VALUES other values; a store for each rule that is broken.
+//!
+//! Of each call: number, values, outcomes, effects, all words of the store, and that a refusal changed nothing and left zeros. Prints each
+//! difference, the counts, and what was met; its status is 1 if there is a difference or a cell that can be reached is empty.
+
+mod both;
+pub mod house;
+mod left;
+mod lists;
+mod stores;
+mod tally;
+
+use std::fs;
+use std::path::Path;
+use std::process::ExitCode;
+
+use oracle::generate;
+use oracle::house::Call;
+use oracle::script;
+
+use both::{Both, Difference};
+use crate::store_reader;
+use stores::Stores;
+use tally::Tally;
+
+const MOST_SHOWN: u64 = 10;
+const MOST_LETTERS: usize = 600;
+
+/// The status of the command; None for another command.
+pub fn command() -> Option<ExitCode> {
+    let args: Vec<String> = std::env::args().skip(1).collect();
+    let [first, numbers @ .., edges] = args.as_slice() else {
+        return None;
+    };
+    if first != "calls" {
+        return None;
+    }
+    let numbers: Vec<u64> = numbers.iter().map_while(|word| word.parse().ok()).collect();
+    let [histories, length, values, seed] = numbers[..] else {
+        eprintln!("usage: comparison calls HISTORIES LENGTH VALUES SEED EDGES");
+        return Some(ExitCode::from(2));
+    };
+    let mut calls = Calls::default();
+    calls.edges(Path::new(edges));
+    calls.histories(histories, seed);
+    calls.lists(length as u32);
+    calls.stores(values as usize, seed);
+    Some(ExitCode::from(u8::from(!calls.report())))
+}
+
+#[derive(Default)]
+struct Calls {
+    tally: Tally,
+    differences: u64,
+    empty: bool,
+}
+
+impl Calls {
+    fn differs(&mut self, name: &str, text: &Difference) {
+        self.differences += 1;
+        if self.differences <= MOST_SHOWN {
+            let shown: String = text.chars().take(MOST_LETTERS).collect();
+            println!("{name}: {shown}");
+        }
+    }
+
+    /// A history up to its end or its first difference, and its store at the end.
+    fn play(&mut self, name: &str, seed: u64, history: &[Call]) -> Option<Vec<u32>> {
+        let mut both = Both::new(seed, &mut self.tally);
+        let found = history.iter().enumerate().find_map(|(at, call)| Some((at, both.line(call).err()?)));
+        match found {
+            None => Some(both.store().to_vec()),
+            Some((at, text)) => {
+                self.differs(&format!("{name}, call {at}"), &text);
+                None
+            }
+        }
+    }
+
+    fn part(&self, what: &str, count: usize, before: u64) {
+        println!("{what}: {count}, {} calls, {} differences so far", self.tally.calls - before, self.differences);
+    }
+
+    fn edges(&mut self, folder: &Path) {
+        let before = self.tally.calls;
+        let mut count = 0;
+        let entries = fs::read_dir(folder).into_iter().flatten().flatten();
+        for path in entries.map(|entry| entry.path()).filter(|path| path.extension().is_some_and(|end| end == "script"))
+        {
+            let text = fs::read_to_string(&path).unwrap_or_default();
+            let history: Vec<Call> = text.lines().filter_map(|line| script::parse(line).ok().flatten()).collect();
+            self.play(&path.display().to_string(), count as u64, &history);
+            count += 1;
+        }
+        self.empty |= count == 0;
+        self.part("edges", count, before);
+    }
+
+    fn histories(&mut self, count: u64, seed: u64) {
+        let before = self.tally.calls;
+        for seed in seed..seed + count {
+            let name = format!("history {seed}");
+            let Some(store) = self.play(&name, seed, &generate::history(seed)) else {
+                continue;
+            };
+            if let Err(rule) = store_reader::read(&store) {
+                self.differs(&name, &format!("its store breaks a rule: {}", rule.text()));
+            }
+            let hostile = Stores::new(seed, &mut self.tally).hostile(&store);
+            if let Err(text) = hostile {
+                self.differs(&name, &text);
+            }
+        }
+        self.part("histories", count as usize, before);
+    }
+
+    fn lists(&mut self, length: u32) {
+        let before = self.tally.calls;
+        for (at, list) in lists::all(length).enumerate() {
+            self.play(&format!("list {list:?}"), at as u64, &lists::history(list));
+        }
+        self.part("lists of small actions", lists::count(length) as usize, before);
+    }
+
+    fn stores(&mut self, values: usize, seed: u64) {
+        let before = self.tally.calls;
+        let mut found = Vec::new();
+        let mut stores = Stores::new(seed, &mut self.tally);
+        stores.sweep(values, seed, |text| found.push(text));
+        stores.every_rule(|text| found.push(text));
+        self.empty |= !stores.report();
+        found.iter().for_each(|text| self.differs("changed store", text));
+        self.part("values for each word", values, before);
+    }
+
+    fn report(&self) -> bool {
+        let whole = self.tally.report() && !self.empty;
+        println!("calls: {} calls, {} differences", self.tally.calls, self.differences);
+        whole && self.differences == 0
+    }
+}

@@ -1,0 +1,150 @@
+//! What a comparison has met: answers by call, outcomes, effects, and full tables.
+
+use std::collections::BTreeMap;
+
+use oracle::house::{Answer, Call};
+
+use crate::store::{Store, MOST_PENDING, MOST_SLOTS, MOST_TIMERS, MOST_VARIABLES, RULES};
+
+const CALLS: [&str; 8] = ["new", "load", "unload", "enable", "tick", "run", "deadline", "counters"];
+const EFFECTS: [&str; 12] = [
+    "Light",
+    "SceneRecall",
+    "SceneApply",
+    "HclResume",
+    "HclHold",
+    "HclSchedule",
+    "InputFeedback",
+    "PanelSelect",
+    "CancelHold",
+    "CatchMovement",
+    "MqttPublish",
+    "Log",
+];
+const TRIGGERS: [&str; 5] = ["HttpTrigger", "TimerFires", "Every", "AtTime", "AtSolar"];
+const SAID: [&str; 4] = ["enable yes", "enable no", "deadline at a time", "deadline none"];
+/// Tables of a store, and how many each can hold.
+const TABLES: [&str; 5] = ["rules", "pending", "timers", "variables", "Every slots"];
+const FULL: [usize; 5] = [RULES, MOST_PENDING, MOST_TIMERS, MOST_VARIABLES, MOST_SLOTS];
+/// Reason 3, ChainDepth, is not given by ticks and runs.
+const REASONS: [&str; 3] = ["none", "ConditionUnevaluable", "EffectBudget"];
+
+/// The refusals that each call can have.
+fn refusals(call: usize) -> Vec<u32> {
+    let more: &[u32] = match CALLS[call] {
+        "new" => return vec![0, 1],
+        "load" => &[10, 11, 12, 13, 14, 15, 16, 17],
+        "tick" | "run" => &[20, 21, 22, 30, 31],
+        _ => &[],
+    };
+    [&[0, 1, 2], more].concat()
+}
+
+/// Which of the eight calls.
+pub fn place(call: &Call) -> usize {
+    match call {
+        Call::New { .. } => 0,
+        Call::Load { .. } => 1,
+        Call::Unload { .. } => 2,
+        Call::Enable { .. } => 3,
+        Call::Tick { .. } => 4,
+        Call::Run { .. } => 5,
+        Call::Deadline => 6,
+        _ => 7,
+    }
+}
+
+#[derive(Default)]
+pub struct Tally {
+    pub calls: u64,
+    answers: BTreeMap<(usize, u32), u64>,
+    /// Of what a call said yes, no, a time or none.
+    said: BTreeMap<&'static str, u64>,
+    effects: [u64; 12],
+    triggers: [u64; 5],
+    reasons: [u64; 3],
+    outcomes: u64,
+    dry: u64,
+    most: [usize; 5],
+}
+
+impl Tally {
+    pub fn add(&mut self, call: &Call, answer: &Answer) {
+        let number = match answer {
+            Answer::Refused(number) => *number,
+            _ => 0,
+        };
+        self.count(place(call), number);
+        match answer {
+            Answer::Outcomes { list, .. } => {
+                self.outcomes += list.len() as u64;
+                for outcome in list {
+                    self.dry += u64::from(outcome.dry);
+                    self.triggers[outcome.trigger as usize] += 1;
+                    self.reasons[outcome.reason as usize] += 1;
+                    outcome.effects.iter().for_each(|effect| self.effects[effect[0] as usize] += 1);
+                }
+            }
+            Answer::Enabled(yes) => self.say(SAID[usize::from(!*yes)]),
+            Answer::Deadline(time) => self.say(SAID[2 + usize::from(time.is_none())]),
+            _ => {}
+        }
+    }
+
+    /// An answer with no values: a refusal.
+    pub fn count(&mut self, call: usize, number: u32) {
+        self.calls += 1;
+        *self.answers.entry((call, number)).or_insert(0) += 1;
+    }
+
+    fn say(&mut self, what: &'static str) {
+        *self.said.entry(what).or_insert(0) += 1;
+    }
+
+    /// How full the tables of a store were.
+    pub fn keep(&mut self, store: &Store) {
+        let counts =
+            [store.bits.len(), store.pending.len(), store.timers.len(), store.variables.len(), store.slots.len()];
+        for (most, count) in self.most.iter_mut().zip(counts) {
+            *most = count.max(*most);
+        }
+    }
+
+    /// Prints the table; whether every cell that can be reached was.
+    pub fn report(&self) -> bool {
+        let mut empty = 0;
+        for (at, name) in CALLS.into_iter().enumerate() {
+            let count = |number: u32| self.answers.get(&(at, number)).copied().unwrap_or(0);
+            empty += row(name, refusals(at).into_iter().map(|number| (number.to_string(), count(number))));
+        }
+        empty += named_row("effects", &EFFECTS, &self.effects);
+        empty += named_row("triggers", &TRIGGERS, &self.triggers);
+        empty += named_row("reasons", &REASONS, &self.reasons);
+        let said = |what: &&str| (what.to_string(), self.said.get(what).copied().unwrap_or(0));
+        empty += row("said", SAID.iter().map(said));
+        empty += row("outcomes", [("all".to_owned(), self.outcomes), ("dry".to_owned(), self.dry)].into_iter());
+        let most: Vec<u64> = self.most.iter().map(|count| *count as u64).collect();
+        named_row("most", &TABLES, &most);
+        empty += self.most.iter().zip(FULL).filter(|(most, full)| *most != full).count();
+        if empty > 0 {
+            println!("{empty} cells that can be reached are empty, or tables never full");
+        }
+        empty == 0
+    }
+}
+
+/// Prints the cells; how many are empty.
+fn row(name: &str, cells: impl Iterator<Item = (String, u64)>) -> usize {
+    print!("{name:10}");
+    let mut empty = 0;
+    for (name, count) in cells {
+        empty += usize::from(count == 0);
+        print!(" {name}: {count} ");
+    }
+    println!();
+    empty
+}
+
+fn named_row(name: &str, names: &[&str], counts: &[u64]) -> usize {
+    row(name, names.iter().map(|name| name.to_string()).zip(counts.iter().copied()))
+}
