@@ -1,11 +1,14 @@
 //! The published engine alone, on values: no words, no checks, no transaction.
 
-use std::time::Duration;
+use std::hint::black_box;
+use std::time::{Duration, Instant};
 
-use dali2rust_rules_runtime::runtime::engine::{Engine, EngineInput};
+use dali2rust_rules_runtime::runtime::engine::{
+    ActivationOutcome, Engine, EngineCountersSnapshot, EngineInput, WorldSnapshot,
+};
 use oracle::decode;
 use oracle::house::Call;
-use oracle::model::limits;
+use oracle::model::{limits, RuleSet};
 
 use super::middle;
 
@@ -19,56 +22,85 @@ impl Default for Bare {
     }
 }
 
-impl Bare {
-    pub fn call(&mut self, call: &Call) {
-        self.time(call, 0);
-    }
+/// What a call is given, decoded.
+enum Given {
+    New(u64),
+    /// The set is handed over.
+    Load(u64, Option<RuleSet>),
+    Unload(u64),
+    Enable(String, bool),
+    Tick(WorldSnapshot),
+    Run(String, bool, WorldSnapshot),
+    Deadline,
+    Counters,
+}
 
-    /// The middle time of a call from the engine's state; with 0 times, the call itself.
-    pub fn time(&mut self, call: &Call, times: usize) -> Duration {
-        let engine = &mut self.engine;
-        match call {
-            Call::New { time } => timed(engine, times, || (), |engine, ()| *engine = Engine::new(*time)),
-            Call::Load { time, image } => {
-                let (set, bounds) = decode::rule_set(image);
-                limits::set(bounds);
-                timed(engine, times, || set.clone(), |engine, set| engine.set_rules(Some(set), *time))
-            }
-            Call::Unload { time } => timed(engine, times, || (), |engine, ()| engine.set_rules(None, *time)),
-            Call::Enable { rule, on } => {
-                let name = decode::name(*rule);
-                timed(engine, times, || (), |engine, ()| engine.set_rule_enabled(&name, *on))
-            }
-            Call::Tick { snapshot } => {
-                let world = decode::world(snapshot);
-                timed(engine, times, || (), |engine, ()| engine.handle(EngineInput::Tick, &world))
-            }
-            Call::Run { rule, dry, snapshot } => {
-                let (name, world) = (decode::name(*rule), decode::world(snapshot));
-                timed(
-                    engine,
-                    times,
-                    || (),
-                    |engine, ()| engine.handle(EngineInput::RunRule { name: &name, dry: *dry }, &world),
-                )
-            }
-            Call::Deadline => timed(engine, times, || (), |engine, ()| engine.next_deadline_ms()),
-            Call::Counters => timed(engine, times, || (), |engine, ()| engine.counters()),
-            Call::Lend { .. } | Call::Size { .. } | Call::Poke { .. } | Call::Peek { .. } => Duration::ZERO,
+/// What a call gives, so that it is not dropped while the time runs.
+#[allow(dead_code)]
+enum Gave {
+    Nothing,
+    Enabled(bool),
+    Outcomes(Vec<ActivationOutcome>),
+    Deadline(Option<u64>),
+    Counters(EngineCountersSnapshot),
+}
+
+fn given(call: &Call) -> Given {
+    match call {
+        Call::New { time } => Given::New(*time),
+        Call::Load { time, image } => {
+            let (set, bounds) = decode::rule_set(image);
+            limits::set(bounds);
+            Given::Load(*time, Some(set))
         }
+        Call::Unload { time } => Given::Unload(*time),
+        Call::Enable { rule, on } => Given::Enable(decode::name(*rule), *on),
+        Call::Tick { snapshot } => Given::Tick(decode::world(snapshot)),
+        Call::Run { rule, dry, snapshot } => Given::Run(decode::name(*rule), *dry, decode::world(snapshot)),
+        Call::Deadline => Given::Deadline,
+        _ => Given::Counters,
     }
 }
 
-fn timed<G, R>(
-    engine: &mut Engine,
-    times: usize,
-    given: impl Fn() -> G,
-    call: impl Fn(&mut Engine, G) -> R,
-) -> Duration {
-    if times == 0 {
-        call(engine, given());
-        return Duration::ZERO;
+fn make(engine: &mut Engine, given: &mut Given) -> Gave {
+    match given {
+        Given::New(time) => *engine = Engine::new(*time),
+        Given::Load(time, set) => engine.set_rules(set.take(), *time),
+        Given::Unload(time) => engine.set_rules(None, *time),
+        Given::Enable(name, on) => return Gave::Enabled(engine.set_rule_enabled(name, *on)),
+        Given::Tick(world) => return Gave::Outcomes(engine.handle(EngineInput::Tick, world)),
+        Given::Run(name, dry, world) => {
+            return Gave::Outcomes(engine.handle(EngineInput::RunRule { name, dry: *dry }, world));
+        }
+        Given::Deadline => return Gave::Deadline(engine.next_deadline_ms()),
+        Given::Counters => return Gave::Counters(engine.counters()),
     }
-    let prepare = || (engine.clone(), Some(given()));
-    middle(times, prepare, |(engine, given)| given.take().map(|given| call(engine, given)))
+    Gave::Nothing
+}
+
+impl Bare {
+    pub fn call(&mut self, call: &Call) {
+        make(&mut self.engine, &mut given(call));
+    }
+
+    /// The middle time of a call from the engine's state.
+    pub fn time(&self, call: &Call, times: usize) -> Duration {
+        middle(times, || (self.engine.clone(), given(call)), |(engine, given)| make(engine, given))
+    }
+
+    /// The calls one after the other, on a copy; the time of one of them, on the average.
+    pub fn average(&self, calls: &[Call]) -> Duration {
+        let mut engine = self.engine.clone();
+        let took: Duration = calls.iter().map(|call| once(&mut engine, call)).sum();
+        took / calls.len() as u32
+    }
+}
+
+fn once(engine: &mut Engine, call: &Call) -> Duration {
+    let mut given = given(call);
+    let start = Instant::now();
+    let gave = black_box(make(engine, &mut given));
+    let took = start.elapsed();
+    drop(gave);
+    took
 }

@@ -11,6 +11,8 @@ pub struct House {
     pub before: Vec<Call>,
     /// Timed calls, each on the same store.
     pub calls: Vec<(&'static str, Call)>,
+    /// Timed calls, one after the other.
+    pub history: Vec<Call>,
     /// Outcomes and effects that there is room for.
     pub room: [usize; 2],
 }
@@ -84,6 +86,15 @@ fn load(image: &[u32]) -> Call {
     Call::Load { time: START, image: image.to_vec() }
 }
 
+/// A quarter of an hour: a tick a second and what it asks for next; a run by hand a minute.
+fn quarter(world: &World, rule: u32) -> Vec<Call> {
+    let second = |at: u64| {
+        let by_hand = (at % 60 == 30).then(|| run(world, at * 1_000 + 2_000, rule, false));
+        [tick(world, at * 1_000 + 2_000, 719 + at as u32 / 60), Call::Deadline].into_iter().chain(by_hand)
+    };
+    (0..900).flat_map(second).collect()
+}
+
 /// The calls that every house has, with a rule that runs.
 fn usual(world: &World, image: &[u32], rule: u32) -> Vec<(&'static str, Call)> {
     vec![
@@ -109,8 +120,8 @@ pub fn typical() -> House {
     let world = world(60, 8, 16, 12, 4);
     let mut before = vec![load(&image), tick(&world, 0, 719)];
     before.extend([1, 2, 3].map(|rule| run(&world, 1_000, rule, false)));
-    let calls = usual(&world, &image, 4);
-    House { name: "typical house: 20 rules, 60 lamps", before, calls, room: [32, 256] }
+    let (calls, history) = (usual(&world, &image, 4), quarter(&world, 4));
+    House { name: "typical house: 20 rules, 60 lamps", before, calls, history, room: [32, 256] }
 }
 
 /// A rule of the full image: 31 flat steps or, with an after, 33.
@@ -133,9 +144,9 @@ pub fn large() -> House {
     let world = world(256, 64, 64, 128, 64);
     let mut before = vec![load(&image), tick(&world, 0, 719)];
     before.extend((0..16).map(|at| run(&world, 1_000, 1_000 - at, false)));
-    let calls = usual(&world, &image, 950);
+    let (calls, history) = (usual(&world, &image, 950), quarter(&world, 950));
     let name = "large house: 64 rules, 4,096 words of image, full snapshot, 32 continuations";
-    House { name, before, calls, room: [256, 4_096] }
+    House { name, before, calls, history, room: [256, 4_096] }
 }
 
 /// Pool words up to the size of a full image.
@@ -170,12 +181,13 @@ pub fn timers() -> House {
     let world = world(256, 64, 64, 128, 64);
     let before = vec![load(&image), tick(&world, 0, 719), run(&world, 0, 100, false)];
     let calls = vec![("tick, 1,008 activations, 31,248 effects", tick(&world, 1_000, 719))];
-    House { name: "worst case of a tick: 16 timers due for 63 rules each", before, calls, room: [1_184, 32_768] }
+    let name = "worst case of a tick: 16 timers due for 63 rules each";
+    House { name, before, calls, history: Vec::new(), room: [1_184, 32_768] }
 }
 
 /// An image that takes long to flatten, which every call does that checks the store.
 pub fn flattening(name: &'static str, image: Vec<u32>) -> House {
     let world = world(256, 64, 64, 128, 64);
     let calls = usual(&world, &image, 5);
-    House { name, before: vec![load(&image)], calls, room: [32, 256] }
+    House { name, before: vec![load(&image)], calls, history: Vec::new(), room: [32, 256] }
 }

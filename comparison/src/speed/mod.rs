@@ -11,6 +11,7 @@ use std::hint::black_box;
 use std::process::ExitCode;
 use std::time::{Duration, Instant};
 
+use cerambiu::{EFFECT_WORDS, OUTCOME_WORDS};
 use oracle::house::{Answer, Call};
 
 use crate::calls::house::{expected, made, number, Lent};
@@ -18,6 +19,9 @@ use crate::store::WORDS;
 use crate::worst;
 use engine::Bare;
 use houses::House;
+
+/// How often a history is played.
+const TURNS: u32 = 5;
 
 /// The status of the command; None for another command.
 pub fn command() -> Option<ExitCode> {
@@ -58,45 +62,110 @@ pub fn middle<T, R>(times: usize, mut prepare: impl FnMut() -> T, mut call: impl
     took[times / 2]
 }
 
+/// A house in its three forms, each in the same state.
+struct Three {
+    store: Vec<u32>,
+    oracle: oracle::house::House,
+    bare: Bare,
+    lent: Lent,
+}
+
+impl Three {
+    /// None where a call on the way is refused.
+    fn of(house: &House) -> Option<Three> {
+        let [outcomes, effects] = house.room;
+        let lent = Lent { answer: 17, outcomes: outcomes * OUTCOME_WORDS, effects: effects * EFFECT_WORDS };
+        let (oracle, bare) = (oracle::house::House::new(), Bare::default());
+        let mut three = Three { store: vec![0; WORDS], oracle, bare, lent };
+        made(&mut three.store, &Call::New { time: 0 }, lent);
+        for call in &house.before {
+            three.bare.call(call);
+            let number = made(&mut three.store, call, lent).number;
+            if number != 0 || matches!(three.oracle.call(call), Answer::Refused(_)) {
+                println!("{}: refused {number} on the way", house.name);
+                return None;
+            }
+        }
+        Some(three)
+    }
+
+    /// Whether the proved call and the Rust answer alike.
+    fn alike(&self, name: &str, call: &Call) -> bool {
+        let answer = self.oracle.clone().call(call);
+        let alike = made(&mut self.store.clone(), call, self.lent) == expected(call, &answer, self.lent);
+        if !alike {
+            println!("{name}: the answers differ");
+        }
+        alike
+    }
+
+    fn time(&mut self, name: &str, call: &Call, times: usize) {
+        let mut lent = Lending::of(self.lent);
+        let proved = middle(times, || self.store.clone(), |store| lent.call(store, call));
+        let rust = middle(times, || self.oracle.clone(), |oracle| oracle.call(call));
+        print_line(name, proved, rust, self.bare.time(call, times));
+    }
+
+    /// The calls one after the other: the time of one of them, on the average, in the quickest of some turns.
+    fn time_history(&mut self, calls: &[Call]) {
+        let mut lent = Lending::of(self.lent);
+        let turns = |turn: &mut dyn FnMut() -> Duration| (0..TURNS).map(|_| turn()).min().unwrap_or_default();
+        let proved = turns(&mut || {
+            let mut store = self.store.clone();
+            average(calls, |call| lent.call(&mut store, call))
+        });
+        let rust = turns(&mut || {
+            let mut oracle = self.oracle.clone();
+            average(calls, |call| oracle.call(call))
+        });
+        let engine = turns(&mut || self.bare.average(calls));
+        print_line("a call of a quarter of an hour", proved, rust, engine);
+    }
+}
+
+/// The words that are lent to one call after the other.
+struct Lending {
+    answer: Vec<u32>,
+    outcomes: Vec<u32>,
+    effects: Vec<u32>,
+}
+
+impl Lending {
+    fn of(lent: Lent) -> Lending {
+        Lending { answer: vec![0; lent.answer], outcomes: vec![0; lent.outcomes], effects: vec![0; lent.effects] }
+    }
+
+    fn call(&mut self, store: &mut [u32], call: &Call) -> u32 {
+        number(store, call, &mut self.answer, &mut self.outcomes, &mut self.effects)
+    }
+}
+
 /// Prints a line for each timed call; whether both answered alike.
 fn time_house(house: &House, times: usize) -> bool {
-    let [outcomes, effects] = house.room;
-    let lent =
-        Lent { answer: 17, outcomes: outcomes * cerambiu::OUTCOME_WORDS, effects: effects * cerambiu::EFFECT_WORDS };
-    let (mut oracle, mut bare, mut store) = (oracle::house::House::new(), Bare::default(), vec![0; WORDS]);
-    made(&mut store, &Call::New { time: 0 }, lent);
-    let mut alike = true;
-    for call in &house.before {
-        bare.call(call);
-        let number = made(&mut store, call, lent).number;
-        if number != 0 || matches!(oracle.call(call), Answer::Refused(_)) {
-            println!("refused {number} on the way");
-            alike = false;
-        }
-    }
-    let sum = middle(times, || (), |()| store.iter().fold(0u32, |sum, word| sum.wrapping_add(*word)));
+    let Some(mut three) = Three::of(house) else {
+        return false;
+    };
+    let sum = middle(times, || (), |()| three.store.iter().fold(0u32, |sum, word| sum.wrapping_add(*word)));
     println!("{}; a sum over the store's words takes {}", house.name, micros(sum));
-    println!(
-        "{:42} {:>10} {:>16} {:>7} {:>12} {:>7}",
-        "", "proved", "Rust from words", "ratio", "Rust engine", "ratio"
-    );
+    println!("{:42} {:>10} {:>16} {:>7} {:>12} {:>7}", "", "proved", "Rust from words", "ratio", "Rust engine", "ratio");
+    let mut alike = true;
     for (name, call) in &house.calls {
-        let answer = oracle.clone().call(call);
-        if made(&mut store.clone(), call, lent) != expected(call, &answer, lent) {
-            println!("{name}: the answers differ");
-            alike = false;
-        }
-        let proved = time_proved(&store, call, lent, times);
-        let rust = middle(times, || oracle.clone(), |oracle| oracle.call(call));
-        print_line(name, proved, rust, bare.time(call, times));
+        alike &= three.alike(name, call);
+        three.time(name, call, times);
+    }
+    if !house.history.is_empty() {
+        three.time_history(&house.history);
     }
     println!();
     alike
 }
 
-fn time_proved(store: &[u32], call: &Call, lent: Lent, times: usize) -> Duration {
-    let (mut answer, mut outcomes, mut effects) = (vec![0; lent.answer], vec![0; lent.outcomes], vec![0; lent.effects]);
-    middle(times, || store.to_vec(), |store| number(store, call, &mut answer, &mut outcomes, &mut effects))
+fn average<R>(calls: &[Call], mut make: impl FnMut(&Call) -> R) -> Duration {
+    let start = Instant::now();
+    for call in calls {
+        black_box(make(call));
+    }
+    start.elapsed() / calls.len() as u32
 }
 
 fn print_line(name: &str, proved: Duration, rust: Duration, engine: Duration) {
