@@ -1,0 +1,84 @@
+-- Lines gathered in a buffer. Assumes nothing.
+use mathlib.Core.Path.{_≡_, refl, sym, ap, _∙_, subst}
+use mathlib.Core.List.{List, [], _++_, append-nil, append-assoc}
+use Prim.Native.Nat.{ℕ, _+_, _≤_}
+use native.Mathlib.Numerals.{add-one}
+use native.Mathlib.Omega.{arith}
+use borrow.Author.Tests.{eq-eqb, ne-eqb}
+use mathlib.Core.Option.{none, some}
+use lib.ListN.{length, take, getD}
+use lib.Seq.{take-append-add, take-append-le, length-take-le}
+use Rattle.words.specs.Pairs.{joined}
+use Rattle.script.specs.Put.{Prints}
+use Rattle.play.specs.declared.Stream.{Stream}
+use Rattle.script.specs.Print.{refusedLine, deadlineLine}
+use Rattle.play.specs.Printed.{unlessRefused, deadlineOf, effectAt, effectLines, outcomeWith, outcomeLines}
+use Rattle.play.specs.Gathered.{Gathers}
+
+pub gathers-none : (b : List ℕ) (o : Stream) → Gathers b o [] b o
+gathers-none b o = record { gone = []; bytes-stand = sym (append-nil (take (o .at) b)) }
+
+pub gathers-out : (b : List ℕ) (o r : Stream) → r .at ≡ 0 → Gathers b o [] b r
+gathers-out b o r e = record { gone = take (o .at) b; bytes-stand = rw e refl }
+
+pub gathers-then : (b x c y d : List ℕ) (o t r : Stream) → Gathers b o x c t → Gathers c t y d r → Gathers b o (x ++ y) d r
+gathers-then b x c y d o t r f g =
+    record {
+      gone = f .gone ++ g .gone;
+      bytes-stand =
+          append-assoc (f .gone) (g .gone) (take (r .at) d) ∙ ap (λ z. f .gone ++ z) (g .bytes-stand)
+          ∙ sym (append-assoc (f .gone) (take (t .at) c) y) ∙ ap (λ z. z ++ y) (f .bytes-stand) ∙ append-assoc (take (o .at) b) x y;
+    }
+
+-- a line printed into the part of the buffer that is free
+pub gather : (b p after line : List ℕ) (n : ℕ) (o t r : Stream) → Gathers b o [] b t → t .at + 1024 ≤ length b → Prints line p n → r .at ≡ t .at + n
+    → Gathers b o line (take (t .at) b ++ (p ++ after)) r
+gather b p after line n o t r f h x e =
+    let l : length (take (t .at) b) ≡ t .at = length-take-le (t .at) b (omega arith) in
+    let g : take (length (take (t .at) b) + n) (take (t .at) b ++ (p ++ after)) ≡ take (t .at) b ++ take n (p ++ after) = take-append-add (take (t .at) b) (p ++ after) n in
+    gathers-then b [] b line (take (t .at) b ++ (p ++ after)) o t r f
+    (record { gone = []; bytes-stand = rw e (rw (l, take-append-le n p after (x .within), x .bytes-stand) at g) })
+
+-- AN ANSWER OR A REFUSAL -----------------------------------------------------------------------------------------------------------
+module _ (b after : List ℕ) (o r : Stream) (call number : ℕ) (lines : List ℕ) where
+  pub gathers-refusal : (number ≡ 0 → ⊥) → Gathers b o (refusedLine call number) after r → Gathers b o (unlessRefused call number lines) after r
+  gathers-refusal h g = rw (ne-eqb number 0 h) g
+
+  pub gathers-answer : number ≡ 0 → Gathers b o lines after r → Gathers b o (unlessRefused call number lines) after r
+  gathers-answer h g = rw (eq-eqb number 0 h) g
+
+-- the next deadline
+module _ (b after : List ℕ) (o r : Stream) (answer : List ℕ) where
+  pub gathers-no-deadline : getD answer 0 0 ≡ 0 → Gathers b o (deadlineLine none) after r → Gathers b o (deadlineOf answer) after r
+  unfolding deadlineOf
+  gathers-no-deadline h g = rw (eq-eqb (getD answer 0 0) 0 h) g
+
+  pub gathers-deadline : (time : ℕ) → (getD answer 0 0 ≡ 0 → ⊥) → time ≡ joined (getD answer 1 0) (getD answer 2 0)
+      → Gathers b o (deadlineLine (some time)) after r → Gathers b o (deadlineOf answer) after r
+  unfolding deadlineOf
+  gathers-deadline time h e g = rw (ne-eqb (getD answer 0 0) 0 h, ← e) g
+
+-- RECORDS, ONE BEHIND THE OTHER ----------------------------------------------------------------------------------------------------
+module _ (es : List ℕ) (first : ℕ) (b : List ℕ) (o : Stream) where
+  pub no-effects : Gathers b o (effectLines es first 0) b o
+  unfolding effectLines
+  no-effects = gathers-none b o
+
+  pub effects-more : (i : ℕ) (c d : List ℕ) (t r : Stream) → Gathers b o (effectLines es first i) c t → Gathers c t (effectAt es (first + i)) d r
+      → Gathers b o (effectLines es first (i + 1)) d r
+  unfolding effectLines
+  effects-more i c d t r f g = rw add-one (gathers-then b (effectLines es first i) c (effectAt es (first + i)) d o t r f g)
+
+module _ (os es : List ℕ) (b : List ℕ) (o : Stream) where
+  pub no-outcomes : Gathers b o (outcomeLines os es 0) b o
+  unfolding outcomeLines
+  no-outcomes = gathers-none b o
+
+  pub outcomes-more : (i : ℕ) (c d : List ℕ) (t r : Stream) → Gathers b o (outcomeLines os es i) c t → Gathers c t (outcomeWith os es i) d r
+      → Gathers b o (outcomeLines os es (i + 1)) d r
+  unfolding outcomeLines
+  outcomes-more i c d t r f g = rw add-one (gathers-then b (outcomeLines os es i) c (outcomeWith os es i) d o t r f g)
+
+-- a loop that counted up to n
+pub gathers-all : (lines : ℕ → List ℕ) (i n : ℕ) (b c : List ℕ) (o t : Stream) → i ≡ n → Gathers b o (lines i) c t → Gathers b o (lines n) c t
+gathers-all lines i n b c o t e g = subst (λ k. Gathers b o (lines k) c t) e g

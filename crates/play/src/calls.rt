@@ -1,0 +1,234 @@
+// A line's call is made on the store, and its answer printed.
+ghost use Prim.Native.Nat.{_≤_, min};
+ghost use mathlib.Core.Path.{_≡_};
+ghost use lib.ListN.{length, set};
+ghost use Rattle.model.specs.Calls as Calls;
+ghost use Rattle.play.specs.Playing.{calling, obeyed};
+ghost use Rattle.play.specs.Gathered.{Does};
+ghost use Rattle.play.specs.Played.{Lends, roomOf};
+use crate::Settings;
+use crate::Stream;
+use crate::answers;
+use crate::output;
+use script::Line;
+
+// The numbers of the calls' names.
+const NEW: u32 = 0;
+
+const LOAD: u32 = 1;
+
+const UNLOAD: u32 = 2;
+
+const ENABLE: u32 = 3;
+
+const TICK: u32 = 4;
+
+const RUN: u32 = 5;
+
+const DEADLINE: u32 = 6;
+
+const COUNTERS: u32 = 7;
+
+// How many of the words are lent where n are asked for.
+pub fn within(n: usize, words: &[u32]) -> usize
+    ensures { λ r. ⌜ Lends n (now (words .entry)) r ⌝ }
+{
+    if n < words.len() { n } else { words.len() }
+}
+
+// A store made new at time 0, which a script finds.
+pub fn begin(store: &mut [u32])
+    ensures { λ _. ⌜ now (store .exit) ≡ calling 16384 (Calls.new 0) (now (store .entry)) .store ⌝ }
+{
+    let n = within(16384, store);
+    let _refusal = cerambiu::cerambiu_new(&mut store[..n], 0);
+}
+
+fn poke(store: &mut [u32], place: u32, word: u32)
+    ensures { λ _. ⌜ now (store .exit) ≡ set (now (store .entry)) place word ⌝ }
+{
+    let i = place as usize;
+    if i < store.len() {
+        store[i] = word;
+    }
+}
+
+fn new(o: Stream, size: usize, time: u64, store: &mut [u32], out: &mut [u8]) -> Stream
+    requires { ⌜ 1024 ≤ length (now out) ⌝ }
+    ensures { λ r. ⌜ Does (calling size (Calls.new time) (now (store .entry))) (now (out .entry)) o (now (store .exit)) (now (out .exit)) r ⌝ }
+{
+    let n = within(size, store);
+    let number = cerambiu::cerambiu_new(&mut store[..n], time);
+    answers::done(o, out, NEW, number)
+}
+
+fn load(
+    o: Stream,
+    size: usize,
+    time: u64,
+    image: &[u32],
+    store: &mut [u32],
+    out: &mut [u8],
+) -> Stream
+    requires { ⌜ 1024 ≤ length (now out) ⌝ }
+    ensures { λ r. ⌜ Does (calling size (Calls.load time (now (image .entry))) (now (store .entry))) (now (out .entry)) o (now (store .exit)) (now (out .exit)) r ⌝ }
+{
+    let n = within(size, store);
+    let number = cerambiu::cerambiu_load(&mut store[..n], time, image);
+    answers::done(o, out, LOAD, number)
+}
+
+fn unload(o: Stream, size: usize, time: u64, store: &mut [u32], out: &mut [u8]) -> Stream
+    requires { ⌜ 1024 ≤ length (now out) ⌝ }
+    ensures { λ r. ⌜ Does (calling size (Calls.unload time) (now (store .entry))) (now (out .entry)) o (now (store .exit)) (now (out .exit)) r ⌝ }
+{
+    let n = within(size, store);
+    let number = cerambiu::cerambiu_unload(&mut store[..n], time);
+    answers::done(o, out, UNLOAD, number)
+}
+
+fn enable(o: Stream, size: usize, rule: u32, on: bool, store: &mut [u32], out: &mut [u8]) -> Stream
+    requires { ⌜ 1024 ≤ length (now out) ⌝ }
+    ensures { λ r. ⌜ Does (calling size (Calls.enable rule on) (now (store .entry))) (now (out .entry)) o (now (store .exit)) (now (out .exit)) r ⌝ }
+{
+    let n = within(size, store);
+    let mut answer = [0u32; 17];
+    let number = cerambiu::cerambiu_enable(&mut store[..n], rule, on, &mut answer);
+    answers::enabled(o, out, ENABLE, number, rule, &answer)
+}
+
+fn deadline(o: Stream, size: usize, store: &[u32], out: &mut [u8]) -> Stream
+    requires { ⌜ 1024 ≤ length (now out) ⌝ }
+    ensures { λ r. ⌜ Does (calling size Calls.deadline (now (store .entry))) (now (out .entry)) o (now (store .entry)) (now (out .exit)) r ⌝ }
+{
+    let n = within(size, store);
+    let mut answer = [0u32; 17];
+    let number = cerambiu::cerambiu_next_deadline(&store[..n], &mut answer);
+    answers::deadline(o, out, DEADLINE, number, &answer)
+}
+
+fn counters(o: Stream, size: usize, store: &[u32], out: &mut [u8]) -> Stream
+    requires { ⌜ 1024 ≤ length (now out) ⌝ }
+    ensures { λ r. ⌜ Does (calling size Calls.counters (now (store .entry))) (now (out .entry)) o (now (store .entry)) (now (out .exit)) r ⌝ }
+{
+    let n = within(size, store);
+    let mut answer = [0u32; 17];
+    let number = cerambiu::cerambiu_counters(&store[..n], &mut answer);
+    answers::counters(o, out, COUNTERS, number, &answer)
+}
+
+fn tick(
+    o: Stream,
+    t: Settings,
+    snapshot: &[u32],
+    store: &mut [u32],
+    outcomes: &mut [u32],
+    effects: &mut [u32],
+    out: &mut [u8],
+) -> Stream
+    requires { ⌜ 1024 ≤ length (now out) ⌝ }
+    ensures { λ r. ⌜ Does (calling (t .size) (Calls.tick (now (snapshot .entry)) (min (t .outcomes) (length (now (outcomes .entry)))) (min (t .effects) (length (now (effects .entry))))) (now (store .entry))) (now (out .entry)) o (now (store .exit)) (now (out .exit)) r ⌝ }
+{
+    let n = within(t.size, store);
+    let os = within(t.outcomes, outcomes);
+    let es = within(t.effects, effects);
+    let mut answer = [0u32; 17];
+    let number = cerambiu::cerambiu_tick(
+        &mut store[..n],
+        snapshot,
+        &mut outcomes[..os],
+        &mut effects[..es],
+        &mut answer,
+    );
+    answers::handled(
+        o,
+        out,
+        TICK,
+        number,
+        snapshot,
+        &answer,
+        &outcomes[..os],
+        &effects[..es],
+    )
+}
+
+fn run(
+    o: Stream,
+    t: Settings,
+    rule: u32,
+    dry: bool,
+    snapshot: &[u32],
+    store: &mut [u32],
+    outcomes: &mut [u32],
+    effects: &mut [u32],
+    out: &mut [u8],
+) -> Stream
+    requires { ⌜ 1024 ≤ length (now out) ⌝ }
+    ensures { λ r. ⌜ Does (calling (t .size) (Calls.run rule dry (now (snapshot .entry)) (min (t .outcomes) (length (now (outcomes .entry)))) (min (t .effects) (length (now (effects .entry))))) (now (store .entry))) (now (out .entry)) o (now (store .exit)) (now (out .exit)) r ⌝ }
+{
+    let n = within(t.size, store);
+    let os = within(t.outcomes, outcomes);
+    let es = within(t.effects, effects);
+    let mut answer = [0u32; 17];
+    let number = cerambiu::cerambiu_run(
+        &mut store[..n],
+        rule,
+        dry,
+        snapshot,
+        &mut outcomes[..os],
+        &mut effects[..es],
+        &mut answer,
+    );
+    answers::handled(
+        o,
+        out,
+        RUN,
+        number,
+        snapshot,
+        &answer,
+        &outcomes[..os],
+        &effects[..es],
+    )
+}
+
+// Obeys a line; `list` are the words of its image or snapshot.
+pub fn obey(
+    o: Stream,
+    number: u64,
+    l: Line,
+    list: &[u32],
+    t: Settings,
+    store: &mut [u32],
+    outcomes: &mut [u32],
+    effects: &mut [u32],
+    out: &mut [u8],
+) -> Stream
+    requires { ⌜ 1024 ≤ length (now out) ⌝ }
+    ensures { λ r. ⌜ Does (obeyed (length (now (outcomes .entry))) (length (now (effects .entry))) number l (now (list .entry)) t (now (store .entry))) (now (out .entry)) o (now (store .exit)) (now (out .exit)) r ⌝ }
+{
+    match l {
+        Line::New { time } => new(o, t.size, time, store, out),
+        Line::Load { time, count } => load(o, t.size, time, list, store, out),
+        Line::Unload { time } => unload(o, t.size, time, store, out),
+        Line::Enable { rule, on } => enable(o, t.size, rule, on, store, out),
+        Line::Tick { count } => tick(o, t, list, store, outcomes, effects, out),
+        Line::Run { rule, dry, count } => run(o, t, rule, dry, list, store, outcomes, effects, out),
+        Line::Deadline => deadline(o, t.size, store, out),
+        Line::Counters => counters(o, t.size, store, out),
+        Line::Poke { place, word } => {
+            poke(store, place, word);
+            o
+        }
+        Line::Peek { place } => {
+            let word = fields::word(store, place as usize);
+            output::peeked(o, out, place, word)
+        }
+        Line::Bad(wrong) => output::wrong(o, out, number, wrong),
+        Line::Blank => o,
+        Line::Lend {
+            outcomes: _,
+            effects: _,
+        } => o,
+        Line::Size { words } => o,
+    }
+}
