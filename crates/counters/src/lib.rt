@@ -70,7 +70,7 @@ pub fn none_counted() -> Counters
 }
 
 // The counter at place `which` goes up by `by`, and stops at 2^32 - 1. A place past the last changes nothing.
-pub fn count(c: Counters, which: u32, by: u32) -> Counters
+fn count(c: Counters, which: u32, by: u32) -> Counters
     ensures { λ r. ⌜ countersOf r ≡ raisedAt which by (countersOf c) ⌝ }
 {
     let mut d = c;

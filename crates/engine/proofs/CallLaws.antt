@@ -40,7 +40,7 @@ use Rattle.engine.specs.Sets.{cleared}
 use Rattle.engine.specs.declared.Answer.the-variants.{Done, Refused, Enabled}
 use Rattle.engine.proofs.Seeing.{same-done, same-refused, same-enabled, no-outcomes, no-effects, OnStore, call-seen}
 use Rattle.engine.proofs.WordLaws.{Said, all-written, volatile-written}
-use Rattle.engine.proofs.LoadedLaws.{found-none, found-some}
+use Rattle.store.proofs.RecordRules.{found-none, found-at}
 
 -- the same value, by what it says itself
 pub itself : {v : Volatile} {m : model.Volatile} → AllNumbered v m → AllNumbered v (meaning v)
@@ -171,7 +171,7 @@ pub enable-yes : (rule i : ℕ) (on : Bool) (w w₁ : List ℕ) (u : Volatile) (
 enable-yes rule i on w w₁ u k r e n a h =
     let s = k .store in
     let v = flipped rule i on (s .vol) in
-    let d = enable-call rule on s (some i) (found-some (ruleIn (s .loaded) rule) r i e n) in
+    let d = enable-call rule on s (some i) (found-at (ruleIn (s .loaded) rule) r i e n) in
     let q = volatile-written s v w w₁ (k .keeps) (k .written) (says-wrote u v w w₁ a h) in
     let b = enabled true in
     call-seen (enable rule on) w w₁ [] [] s (Enabled true) b (enable-on rule on w) (k .is) (ap (λ (x : calls.Done). x .answer) d) (same-enabled true) (q ∙ sym (ap (λ (x : calls.Done). write (x .store)) d)) (no-outcomes 0 b refl) (no-effects 0 b refl)

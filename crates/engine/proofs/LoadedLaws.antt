@@ -26,6 +26,7 @@ use Rattle.store.specs.FlatPart.{Kept}
 use Rattle.store.specs.Volatile.{Readable}
 use Rattle.store.proofs.Stored.{from-read}
 use Rattle.store.proofs.LoadedSet.{loaded-read, image-read, accepted-read, form-read, kept-read}
+use Rattle.store.proofs.RecordRules.{found-none, found-at}
 
 module _ (w : List ℕ) (s : Store) (e : read w ≡ some s) where
   absent : (o : Option RuleSet) → present o ≡ false → o ≡ none
@@ -77,23 +78,13 @@ kept-place : (o : Option RuleSet) (xs : List (Option ℕ)) (name : ℕ) → kept
 kept-place none xs name = refl
 kept-place (some set) xs name = refl
 
-pub found-none : (o : Option ℕ) (r : Found) → r ≡ found o → r ≡ Nothing → o ≡ none
-unfolding found
-found-none none r e n = refl
-found-none (some i) r e n = let z : _≡_ {A = ℕ} 0 1 = cc in absurd (omega arith)
-
-pub found-some : (o : Option ℕ) (r : Found) (i : ℕ) → r ≡ found o → r ≡ At i → o ≡ some i
-unfolding found
-found-some none r i e n = let z : _≡_ {A = ℕ} 0 1 = cc in absurd (omega arith)
-found-some (some j) r i e n = cc
-
 module _ (o : Option RuleSet) (xs : List (Option ℕ)) (name : ℕ) (r : Found) (e : r ≡ found (ruleIn o name)) where
   pub nothing-kept : r ≡ Nothing → length xs ≤ 64 → getD xs 64 none ≡ kept o xs name
   nothing-kept n l =
       List·getD-eq-default xs none l ∙ sym (ap (λ (x : Option ℕ). keptAt x xs) (found-none (ruleIn o name) r e n)) ∙ kept-place o xs name
 
   pub kept-there : (i : ℕ) → r ≡ At i → getD xs i none ≡ kept o xs name
-  kept-there i n = sym (ap (λ (x : Option ℕ). keptAt x xs) (found-some (ruleIn o name) r i e n)) ∙ kept-place o xs name
+  kept-there i n = sym (ap (λ (x : Option ℕ). keptAt x xs) (found-at (ruleIn o name) r i e n)) ∙ kept-place o xs name
 
 -- where a rule is found a set is loaded
 pub set-of : (o : Option RuleSet) (rule i : ℕ) → ruleIn o rule ≡ some i → (set : RuleSet) × (o ≡ some set)

@@ -1,25 +1,21 @@
 -- The words of a store that reads, and of one whose parts are written one by one. Assumes nothing.
 use mathlib.Core.Path.{_≡_, refl, sym, ap, _∙_, subst}
 use mathlib.Core.Bool.{true, false, false≢true}
-use mathlib.Core.List.{List, _++_}
+use mathlib.Core.List.{List}
 use mathlib.Core.Option.{Option, none, some}
-use Prim.Native.Nat.{ℕ, _+_, _^_}
-use lib.Dec.{ltb}
-use lib.ListN.{length, replicate}
+use Prim.Native.Nat.{ℕ}
+use lib.ListN.{length}
 use Rattle.model.specs.Lists.{present}
-use Rattle.model.specs.Layout.{sizes}
 use Rattle.model.specs.Codec.{wide}
-use Rattle.model.specs.Parts.{loadedPart, changingPart, layout}
-use Rattle.model.specs.State.{RuleSet, Volatile, Store}
-use Rattle.model.specs.Store.{loadedOf, changingOf, partsOf, volatileIn, ruleCount, read, write, Keeps}
-use Rattle.model.proofs.Bools.{both}
-use Rattle.model.proofs.PartsLaws.{loaded-laws, changing-laws}
+use Rattle.model.specs.Parts.{loadedPart}
+use Rattle.model.specs.State.{Volatile, Store}
+use Rattle.model.specs.Store.{loadedOf, volatileIn, ruleCount, read, write, Keeps}
 use Rattle.model.proofs.StoreLaws.{write-read}
 use Rattle.store.specs.Places.{laid}
 use Rattle.state.specs.Meaning.{AllNumbered}
 use Rattle.state.specs.declared.Volatile.{Volatile as Value}
 use Rattle.store.specs.Volatile.{Wrote, changingIn}
-use Rattle.store.proofs.Stored.{laid-first, laid-behind, from-read, volatile-read, ReadsAs}
+use Rattle.store.proofs.Stored.{long, time-laid, set-laid, volatile-laid, from-read, volatile-read, ReadsAs}
 
 -- A STORE THAT READS ----------------------------------------------------------------------------------------------------------------------
 -- what is known of it
@@ -45,56 +41,6 @@ said w p = go (read w) refl p
 pub value-read : (w : List ℕ) (s : Store) → read w ≡ some s → (n : ℕ) (v : Value) → n ≡ ruleCount (s .loaded) → AllNumbered v (volatileIn n (changingIn w)) → AllNumbered v (s .vol)
 value-read w s e n v q a =
     subst (λ (m : Volatile). AllNumbered v m) (ap (λ (k : ℕ). volatileIn k (changingIn w)) q ∙ volatile-read w s (from-read w s e)) a
-
--- ONE PART WRITTEN ANEW -------------------------------------------------------------------------------------------------------------------
-loaded-size : sizes (loadedPart .parts) ≡ 12419
-unfolding sizes loadedPart
-loaded-size = refl
-
-changing-size : sizes (changingPart .parts) ≡ 1285
-unfolding sizes changingPart
-changing-size = refl
-
--- how many words the set and the changing parts of a store take
-pub record Long (s : Store) : Type 0 where
-  pub loaded : length (loadedPart .put (loadedOf (s .loaded))) ≡ 12419
-  pub changing : length (changingPart .put (changingOf (s .vol))) ≡ 1285
-
-pub long : (s : Store) → Keeps s → Long s
-unfolding layout partsOf
-long s k =
-    let (_, r) = both (ltb (s .now) (2 ^ 64)) _ (k .room) in
-    let (l, c) = both (loadedPart .good (loadedOf (s .loaded))) _ r in
-    record {
-      loaded = loaded-laws .long (loadedOf (s .loaded)) l ∙ loaded-size;
-      changing = changing-laws .long (changingOf (s .vol)) (both (changingPart .good (changingOf (s .vol))) true c .0) ∙ changing-size;
-    }
-
-module _ (s : Store) where
-  pub time-laid : (t : ℕ) → laid (write s) 0 (wide .put t) ≡ write (record { now = t; loaded = s .loaded; vol = s .vol })
-  unfolding write layout partsOf
-  time-laid t = laid-first (wide .put (s .now)) (loadedPart .put (loadedOf (s .loaded)) ++ (changingPart .put (changingOf (s .vol)) ++ replicate 2678 0)) (wide .put t) refl
-
-  pub set-laid : (o : Option RuleSet) → length (loadedPart .put (loadedOf (s .loaded))) ≡ 12419 → length (loadedPart .put (loadedOf o)) ≡ 12419
-      → laid (write s) 2 (loadedPart .put (loadedOf o)) ≡ write (record { now = s .now; loaded = o; vol = s .vol })
-  unfolding write layout partsOf
-  set-laid o l e =
-      let old = loadedPart .put (loadedOf (s .loaded)) in
-      let new = loadedPart .put (loadedOf o) in
-      let rest = changingPart .put (changingOf (s .vol)) ++ replicate 2678 0 in
-      laid-behind (wide .put (s .now)) (old ++ rest) new 0 2 refl ∙ ap (λ (x : List ℕ). wide .put (s .now) ++ x) (laid-first old rest new (e ∙ sym l))
-
-  pub volatile-laid : (v : Volatile) (w : List ℕ) → Long s → Wrote (write s) v w → w ≡ write (record { now = s .now; loaded = s .loaded; vol = v })
-  unfolding write layout partsOf
-  volatile-laid v w l p =
-      let set = loadedPart .put (loadedOf (s .loaded)) in
-      let old = changingPart .put (changingOf (s .vol)) in
-      let new = changingPart .put (changingOf v) in
-      p .placed
-      ∙ laid-behind (wide .put (s .now)) (set ++ (old ++ replicate 2678 0)) new 12419 12421 refl
-      ∙ ap (λ (x : List ℕ). wide .put (s .now) ++ x)
-      (laid-behind set (old ++ replicate 2678 0) new 0 12419 (sym (ap (λ (n : ℕ). n + 0) (l .loaded)))
-      ∙ ap (λ (x : List ℕ). set ++ x) (laid-first old (replicate 2678 0) new (p .long ∙ sym (l .changing))))
 
 -- ALL THREE PARTS, AND TWO ----------------------------------------------------------------------------------------------------------------
 pub all-written : (s s′ : Store) (w w₁ w₂ w₃ : List ℕ) → Keeps s → Keeps s′ → write s ≡ w

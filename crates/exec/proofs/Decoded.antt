@@ -3,7 +3,7 @@ use Prim.Native.Nat.{ℕ, zero, suc, _+_, _*_, _-_, _≤_, _<_}
 use native.Mathlib.Omega.{arith}
 use native.Mathlib.Nat.{not-suc-le-zero}
 use mathlib.Core.Path.{_≡_, refl, sym, ap, _∙_}
-use mathlib.Core.Bool.{Bool, true, false, _&&_}
+use mathlib.Core.Bool.{true}
 use mathlib.Core.List.{List, [], _∷_, _++_}
 use mathlib.Core.Option.{none, some}
 use lib.ListN.{length, take, drop, getD, getElem?, List·getD-eq-default, length-take, length-drop}
@@ -12,6 +12,7 @@ use Rattle.model.specs.Flat.{listIn, bodyLen}
 use Rattle.model.specs.Lists.{all}
 use Rattle.model.specs.declared.Step.{Step}
 use Rattle.model.specs.declared.Step.the-variants.{Primitive, Wait, Branch, After, Fail}
+use Rattle.model.proofs.Bools.{both}
 use Rattle.flat.specs.Words.{layout, stepWords}
 use Rattle.flat.proofs.Words.{layout-length}
 use Rattle.exec.specs.Paid.{reach}
@@ -94,10 +95,6 @@ module _ (w : List ℕ) (list : ℕ) (xs : List Step) where
   body-list r h e = let one : suc (list - 1) ≡ list = omega arith in rw one at e
 
 -- ---- what flattening gives
-both : (a b : Bool) → a && b ≡ true → (a ≡ true) × (b ≡ true)
-both true b h = (refl, h)
-both false b h = (h, cc)
-
 all-drop : (n : ℕ) (xs : List Step) → all isNear xs ≡ true → all isNear (drop n xs) ≡ true
 all-drop zero xs h = h
 all-drop (suc n) [] h = refl

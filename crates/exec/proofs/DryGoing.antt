@@ -32,7 +32,7 @@ use Rattle.exec.specs.declared.Job.{Job}
 use Rattle.exec.specs.declared.RunResult.{RunResult}
 use Rattle.exec.specs.declared.StepResult.{StepResult}
 use Rattle.exec.proofs.Written.{put-append}
-use Rattle.exec.proofs.Going.{reason-none, reason-assoc}
+use Rattle.exec.proofs.Going.{few, reason-none, reason-assoc}
 use Rattle.exec.specs.declared.DryRun.{DryRun}
 use Rattle.exec.specs.declared.MaybeStep.{MaybeStep}
 use Rattle.exec.specs.declared.MaybeStep.the-variants.{Nothing, One}
@@ -145,10 +145,6 @@ module _ (snapshot image rule list : List ℕ) (job : Job) (run r : DryRun) (wor
         most = omega (arith, t .queued, k .most, moved .most);
       }
     where
-      few : {A : Type 0} (o : Option A) → length (toList o) ≤ 1
-      few none = omega arith
-      few (some a) = omega arith
-
       moved-machine : (E : Env) (b : ℕ) → nextStep E (jobOf job) (run .point) (bodiesOf run) ≡ some (record { step = x; point = r .point; bodies = bodiesOf r })
           → leftDry false b E (jobOf job) (takeDry (dryStep E (jobOf job) x (r .point) (bodiesOf r) (meaning (r .vol) .rest)) (dryMachine r words)) ≡ leftDry false b E (jobOf job) (takeDry (dryStep E (jobOf job) x (r .point) (bodiesOf r) (meaning (run .vol) .rest)) (dryMachine run words))
       moved-machine E b h = take-moved E (jobOf job) b x run r words (moved .same)

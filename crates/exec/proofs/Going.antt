@@ -38,6 +38,11 @@ use Rattle.exec.specs.declared.StepResult.{StepResult}
 use Rattle.exec.proofs.Written.{put-append}
 use Rattle.exec.proofs.Bounds.{accepts-one, keeps-list}
 
+-- a step emits at most one effect
+pub few : {A : Type 0} (o : Option A) → length (toList o) ≤ 1
+few none = omega arith
+few (some a) = omega arith
+
 -- ---- reasons
 some-reason : (a : ℕ) → eqb (suc a) 0 ≡ false
 some-reason a = ne-eqb (suc a) 0 (differs a)
@@ -133,10 +138,6 @@ module _ (snapshot image list : List ℕ) (job : Job) (left : ℕ) (run : Run) (
         sameList = ap (λ (p : Point). p .list) (t .point) ∙ keeps-list (envOf snapshot image []) (jobOf job) left (run .point) x (run .vol) d (s []);
       }
     where
-      few : {A : Type 0} (o : Option A) → length (toList o) ≤ 1
-      few none = omega arith
-      few (some a) = omega arith
-
       steps : (flat : List (List Step)) → list ≡ layout (listIn (getD flat (job .index) []) (run .point .list)) → machine r exit ≡ turnOf (envOf snapshot image flat) (jobOf job) left (machine run words)
       steps flat l =
           let o : some x ≡ getElem? (listIn (getD flat (job .index) []) (run .point .list)) (run .point .place) = sym (ap stepOption n) ∙ at (listIn (getD flat (job .index) []) (run .point .list)) l in

@@ -2,9 +2,9 @@
 use mathlib.Core.Path.{_≡_, refl, sym, ap, _∙_}
 use mathlib.Core.Bool.{Bool, true, false, _&&_}
 use mathlib.Core.List.{List}
-use Prim.Native.Nat.{ℕ, _≤_, _^_}
+use Prim.Native.Nat.{ℕ, _≤_}
 use native.Mathlib.Omega.{arith}
-use lib.Dec.{leb, ltb, eqb}
+use lib.Dec.{leb, eqb}
 use lib.ListN.{length, getD}
 use borrow.Author.Tests.{leb-true, eqb-true, ne-eqb, eq-eqb}
 use Rattle.model.specs.Lists.{all}
@@ -15,16 +15,15 @@ use Rattle.model.specs.Flat.{flattenRules}
 use Rattle.model.specs.Snapshot.{snapshotRefusal}
 use Rattle.model.specs.Layout.{partsFit}
 use Rattle.model.specs.Codec.{word, wide, maybe, allGood}
-use Rattle.model.specs.Parts.{any, bit, variableRow, Changing, loadedPart, changingPart, layout}
+use Rattle.model.specs.Parts.{any, bit, variableRow, Changing, changingPart, layout}
 use Rattle.model.specs.Store.{textShort}
 use Rattle.model.proofs.Bools.{both}
-use Rattle.model.proofs.RowLaws.{rows-count}
-use Rattle.model.proofs.PartsLaws.{variable-laws, layout-laws}
+use Rattle.model.proofs.PartsLaws.{variable-laws}
 use Rattle.image.specs.Sized.{Sized}
 use Rattle.image.proofs.Accepted.{sized, tables-accepted, few-accepted, rules-few}
 use Rattle.store.specs.Places.{rowAt, tableAt}
 use Rattle.store.specs.Volatile.{changingIn, Readable}
-use Rattle.store.proofs.Parts.{variables-at}
+use Rattle.store.proofs.Parts.{variables-at, good-changing, table-long}
 use Rattle.store.proofs.Reading.{word-is}
 use Rattle.exports.specs.Answers.{readable, given}
 
@@ -38,17 +37,6 @@ few-good m g =
     let (v, _) = both (leb (length (m .variables)) 16 && allGood variableRow (m .variables)) _ c in
     leb-true _ _ (both (leb (length (m .variables)) 16) (allGood variableRow (m .variables)) v .0)
 
-good-changing : (w : List ℕ) → partsFit (layout .parts) w ≡ true → changingPart .good (changingIn w) ≡ true
-unfolding layout changingIn
-good-changing w f =
-    let g = layout-laws .writes w f .1 in
-    let p = layout .get w in
-    both (changingPart .good (p .changing)) true (both (loadedPart .good (p .set)) _ (both (ltb (p .last) (2 ^ 64)) _ g .1) .1) .0
-
-table-long : (n : ℕ) (w : List ℕ) (k : ℕ) → length (tableAt variableRow n w k) ≡ n
-unfolding tableAt
-table-long n w k = rows-count variableRow variable-laws n _
-
 module _ (w : List ℕ) (a : Bool) (e : a ≡ eqb (length w) 16384 && partsFit (layout .parts) w) where
   module _ (t : a ≡ true) where
     long : length w ≡ 16384
@@ -59,7 +47,7 @@ module _ (w : List ℕ) (a : Bool) (e : a ≡ eqb (length w) 16384 && partsFit (
 
     pub few-variables : (n : ℕ) → n ≡ getD w 12805 0 → n ≤ 16
     few-variables n h =
-        let l = ap length (variables-at w) ∙ table-long (rowAt any w 12805) w 12806 in
+        let l = ap length (variables-at w) ∙ table-long variableRow variable-laws (rowAt any w 12805) w 12806 in
         omega (arith, l, word-is w 12805 n h, few-good (changingIn w) (good-changing w fit))
 
     pub texts-decide : (n : ℕ) (b : Bool) → n ≡ getD w 12805 0 → b ≡ all textShort (tableAt variableRow n w 12806) → b ≡ readable w

@@ -1,27 +1,23 @@
 -- The number of flat steps of an image that load accepts.
 use mathlib.Core.Path.{_≡_, refl, sym, ap, _∙_}
-use mathlib.Core.Bool.{Bool, true, false, cond, false≢true}
+use mathlib.Core.Bool.{cond}
 use mathlib.Core.List.{List}
 use Prim.Native.Nat.{ℕ}
 use lib.Dec.{eqb}
 use borrow.Author.Tests.{eq-eqb, ne-eqb}
 use Rattle.model.specs.Load.{imageRefusal}
-use Rattle.model.specs.Flat.{Flattened, flattenRules, stepsIn, tooManySteps}
+use Rattle.model.specs.Flat.{flattenRules, stepsIn}
 use Rattle.flat.specs.Load.{Checked, loaded}
 use Rattle.flat.specs.declared.Loaded.{Loaded}
 use Rattle.flat.specs.declared.Loaded.the-variants.{Over, Steps}
 use Rattle.flat.proofs.FlatPart.{passed}
+use Rattle.flat.proofs.RuleLists.{loaded-steps}
 
 pub refused : (r n steps : ℕ) → r ≡ n → (r ≡ 0 → ⊥) → 0 ≡ cond (eqb n 0) steps 0
 refused r n steps e h = rw (ne-eqb n 0 (λ z. h (e ∙ z))) refl
 
 pub checked : (img : List ℕ) (r : ℕ) → r ≡ imageRefusal img → r ≡ 0 → Checked img
 checked img r e z = passed img (sym e ∙ z) .0
-
--- an accepted set is not over the limits
-loaded-steps : (fs : List Flattened) → tooManySteps fs ≡ false → loaded fs ≡ Steps (stepsIn fs)
-unfolding loaded
-loaded-steps fs e = rw e refl
 
 -- the number that an answer tells
 pub numberIn : Loaded → ℕ
@@ -32,7 +28,7 @@ pub told : (img : List ℕ) (r n : ℕ) (l : Loaded) → r ≡ imageRefusal img 
     → n ≡ cond (eqb (imageRefusal img) 0) (stepsIn (flattenRules img)) 0
 unfolding numberIn
 told img r n l e z h t =
-    let a = loaded-steps (flattenRules img) (passed img (sym e ∙ z) .1) in
+    let a = sym (loaded-steps (flattenRules img) (stepsIn (flattenRules img)) (passed img (sym e ∙ z) .1) refl) in
     rw (eq-eqb (imageRefusal img) 0 (sym e ∙ z)) (sym t ∙ ap numberIn (h ∙ a))
 
 pub over-told : (l : Loaded) → l ≡ Over → numberIn l ≡ 0

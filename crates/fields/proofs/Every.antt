@@ -1,12 +1,13 @@
 -- Laws of `every`, for a loop that leaves at the first number where its test fails. Assume nothing.
 use mathlib.Core.Path.{_≡_, refl, sym, _∙_}
 use mathlib.Core.Logic.{⊎-elim}
-use mathlib.Core.Bool.{Bool, true, false, not, _&&_, and-false, false≢true}
+use mathlib.Core.Bool.{Bool, true, false, not, and-false}
 use Prim.Native.Nat.{ℕ, zero, suc, _+_, _≤_, _<_}
 use native.Mathlib.Nat.{le-antisymm, le-of-suc-le-suc, eq-or-lt-of-le, not-suc-le-zero}
 use native.Mathlib.Numerals.{add-one}
 use borrow.Author.Tests.{not-true, not-false}
 use Rattle.model.specs.Lists.{every}
+use Rattle.model.proofs.Bools.{every-at}
 
 -- The invariant of such a loop at i is `every i f ≡ true`. A turn asks `if !r { return false; }`, where r is the test's answer at i.
 module _ (f : ℕ → Bool) where
@@ -36,8 +37,4 @@ module _ (f : ℕ → Bool) where
 
   -- what such a loop has shown
   pub at : (n i : ℕ) → every n f ≡ true → i < n → f i ≡ true
-  at n i all l = go (f i) refl
-    where
-      go : (b : Bool) → f i ≡ b → b ≡ true
-      go true e = refl
-      go false e = absurd (false≢true (sym (fails n i l e) ∙ all))
+  at n i all l = every-at f n i all l

@@ -1,11 +1,10 @@
 -- What the checks of load say of the tables that flattening reads.
 use mathlib.Core.Path.{_≡_, refl, sym, ap, _∙_}
-use mathlib.Core.Logic.{⊎-elim}
-use mathlib.Core.Bool.{Bool, true, false, _&&_, _||_, cond, false≢true}
-use mathlib.Core.List.{List, [], _∷_, _++_, map}
-use mathlib.Core.Option.{Option, none, some}
+use mathlib.Core.Bool.{Bool, true, false, _||_, cond}
+use mathlib.Core.List.{List, [], _∷_, map}
+use mathlib.Core.Option.{Option, some}
 use Prim.Native.Nat.{ℕ, zero, suc, _+_, _*_, _-_, _/_, _≤_, _<_}
-use native.Mathlib.Nat.{mul-comm, eq-or-lt-of-le, le-of-suc-le-suc}
+use native.Mathlib.Nat.{mul-comm}
 use native.Mathlib.Omega.{arith}
 use native.Mathlib.Decide.{decLe}
 use borrow.Author.Tests.{lt-ltb, le-ltb, leb-true, ltb-true, ne-eqb}
@@ -13,26 +12,17 @@ use lib.Dec.{leb, ltb, eqb}
 use lib.ListN.{length, take, drop, getD, length-drop}
 use lib.Seq.{length-take-le, getD-take, getD-drop}
 use Rattle.model.specs.declared.Record.{Record}
-use Rattle.model.specs.declared.Field.{Field}
 use Rattle.model.specs.declared.Field.the-variants.{Span, Nested}
-use Rattle.model.specs.declared.FlowAction.{FlowAction}
 use Rattle.model.specs.declared.FlowAction.the-variants.{Wait, After, Call, Repeat, Conditional, Plain}
-use Rattle.model.specs.Lists.{every, find, upFrom}
+use Rattle.model.specs.Lists.{find, upFrom}
 use Rattle.model.specs.Rows.{rules, blocks, actions, fieldOf}
-use Rattle.model.specs.Image.{widthOf, imageSized, trailer, callDepth, repeatLimit, limitsFit, limitFits, firstOf, placeFits, placesFit, sizeOf, tableOf, wordAt, leads, wordPasses, recordPasses, tablePasses, tablesPass}
+use Rattle.model.specs.Image.{widthOf, imageSized, trailer, callDepth, repeatLimit, limitsFit, limitFits, firstOf, sizeOf, tableOf, wordAt, leads, wordPasses, recordPasses, tablePasses, tablesPass}
 use Rattle.model.specs.Rules.{recordIn, flowOf}
-use Rattle.model.specs.Flat.{Flattened, blockNamed, flattenRule, flattenRules}
+use Rattle.model.specs.Flat.{blockNamed, flattenRule, flattenRules}
 use Rattle.model.proofs.Bools as bools
-use Rattle.flat.specs.Outcome.{Behind, NestedIn, BlockIn, Tables, foundIn, actionIn}
+use Rattle.model.proofs.ImageLaws.{table-follows}
+use Rattle.flat.specs.Outcome.{Behind, NestedIn, BlockIn, foundIn, actionIn}
 use Rattle.flat.specs.Load.{Checked, CheckedTables, ruleAt, rulesUpTo, flattenTables}
-
--- a test that holds at every number below n holds at i
-pub every-at : (f : ℕ → Bool) (n i : ℕ) → every n f ≡ true → i < n → f i ≡ true
-unfolding every
-every-at f zero i h l = absurd (omega arith)
-every-at f (suc n) i h l =
-    let e = bools.both (every n f) (f n) h in
-    ⊎-elim (λ q. rw q (e .1)) (λ q. every-at f n i (e .0) q) (eq-or-lt-of-le (le-of-suc-le-suc l))
 
 -- A LIST OF ACTIONS, AS A RECORD HOLDS IT -------------------------------------------------------------------------------------------
 or-behind : (next i w : ℕ) → eqb next 0 || ltb i w ≡ true → 0 < next → i < w
@@ -159,35 +149,29 @@ module _ (img : List ℕ) (h : Checked img) where
 
   pub limit-at : (j : ℕ) → j < 5 → limitFits img j ≡ true
   unfolding limitsFit
-  limit-at j l = every-at (limitFits img) 5 j (h .limited) l
+  limit-at j l = bools.every-at (limitFits img) 5 j (h .limited) l
 
   pub repeat-limit : repeatLimit img < 256
   repeat-limit = let e = leb-true (trailer img 2) 255 (bools.both (leb 1 (trailer img 2)) (leb (trailer img 2) 255) (limit-at 2 (omega arith)) .1) in omega arith
-
-  ordered : (t : ℕ) → t < 8 → firstOf img t ≤ firstOf img (t + 1)
-  unfolding placesFit
-  ordered t l =
-      let e = every-at (placeFits img) 8 t (bools.both (eqb (firstOf img 0) 0) (every 8 (placeFits img)) (h .placed) .1) l in
-      leb-true (firstOf img t) (firstOf img (t + 1)) (bools.both (leb (firstOf img t) (firstOf img (t + 1))) _ e .0)
 
   last-first : firstOf img 8 ≡ length img - 13
   unfolding firstOf
   last-first = refl
 
   pub rules-order : firstOf img 0 ≤ firstOf img 1
-  rules-order = ordered 0 (omega arith)
+  rules-order = table-follows img (h .placed) 0 (omega arith)
 
   pub blocks-order : firstOf img 1 ≤ firstOf img 2
-  blocks-order = ordered 1 (omega arith)
+  blocks-order = table-follows img (h .placed) 1 (omega arith)
 
   pub actions-order : firstOf img 4 ≤ firstOf img 5
-  actions-order = ordered 4 (omega arith)
+  actions-order = table-follows img (h .placed) 4 (omega arith)
 
   pub actions-end : firstOf img 5 ≤ length img
-  actions-end = omega (arith, ordered 5 (omega arith), ordered 6 (omega arith), ordered 7 (omega arith), last-first, long)
+  actions-end = omega (arith, table-follows img (h .placed) 5 (omega arith), table-follows img (h .placed) 6 (omega arith), table-follows img (h .placed) 7 (omega arith), last-first, long)
 
   pub blocks-end : firstOf img 2 ≤ length img
-  blocks-end = omega (arith, ordered 2 (omega arith), ordered 3 (omega arith), actions-order, actions-end)
+  blocks-end = omega (arith, table-follows img (h .placed) 2 (omega arith), table-follows img (h .placed) 3 (omega arith), actions-order, actions-end)
 
   pub rules-end : firstOf img 1 ≤ length img
   rules-end = omega (arith, blocks-order, blocks-end)
@@ -197,8 +181,8 @@ module _ (img : List ℕ) (h : Checked img) where
       → leads img i (fieldOf t (wordAt img t i 0) (wordAt img t i 1) j) (wordAt img t i j) (wordAt img t i (j + 1)) ≡ true
   unfolding tablesPass
   led t i j a b c =
-      every-at (wordPasses img true t i) (widthOf t) j
-      (every-at (recordPasses img true t) (sizeOf img t) i (every-at (tablePasses img true) 8 t (h .linked) a) b)
+      bools.every-at (wordPasses img true t i) (widthOf t) j
+      (bools.every-at (recordPasses img true t) (sizeOf img t) i (bools.every-at (tablePasses img true) 8 t (h .linked) a) b)
       c
 
   -- THE TABLES -----------------------------------------------------------------------------------------------------------------------

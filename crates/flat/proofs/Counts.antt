@@ -1,17 +1,17 @@
 -- How long flat lists get: "no list passes 256 + D + 4 steps" of the Rust's count, D the call depth limit; the stored form of an accepted
 -- set has at most 2,048 steps.
-use mathlib.Core.Path.{_≡_, refl, sym, ap, _∙_}
-use mathlib.Core.Bool.{Bool, true, false, not, _&&_, _||_, false≢true}
-use mathlib.Core.List.{List, [], _∷_, _++_, append-nil, map}
+use mathlib.Core.Path.{_≡_, refl, sym, _∙_}
+use mathlib.Core.Bool.{Bool, true, false, not, false≢true}
+use mathlib.Core.List.{List, [], _∷_}
 use Prim.Native.Nat.{ℕ, zero, suc, _+_, _≤_, _<_}
 use native.Mathlib.Omega.{arith}
-use borrow.Author.Tests.{le-leb, leb-true, leb-false, ltb-false}
+use borrow.Author.Tests.{le-leb, leb-true, ltb-false}
 use lib.Dec.{leb, ltb}
 use lib.ListN.{length, length-append}
 use Rattle.model.specs.declared.Step.{Step}
-use Rattle.model.specs.declared.Step.the-variants.{Primitive, Wait, Branch, After, Fail}
+use Rattle.model.specs.declared.Step.the-variants.{Primitive, Wait, Fail}
 use Rattle.model.specs.declared.FlattenCtx.{FlattenCtx}
-use Rattle.model.specs.Lists.{all, flatten}
+use Rattle.model.specs.Lists.{flatten}
 use Rattle.model.specs.Image.{callDepth, repeatLimit}
 use Rattle.model.specs.Store.{bodyOf}
 use Rattle.model.specs.Flat.{Flattened, noSteps, oneStep, append, withinAfter, withinRepeat, withinConditional, copies, flattenAfter, flattenRepeat, flattenBranch, flattenRule, stepsIn, takenIn, tooManySteps}
@@ -39,10 +39,6 @@ record Sized (after : Bool) (m : ℕ) (f : Flattened) : Type 0 where
   same : after ≡ true → f .counted ≡ length (f .steps)
   short : shortBodies m (f .steps) ≡ true
 
-all-append : (p : Step → Bool) (xs ys : List Step) → all p xs ≡ true → all p ys ≡ true → all p (xs ++ ys) ≡ true
-all-append p [] ys h k = k
-all-append p (x ∷ xs) ys h k = let b = bools.both (p x) (all p xs) h in rw (b .0, all-append p xs ys (b .1) k)
-
 longer : (m n : ℕ) (xs : List Step) → m ≤ n → shortBodies m xs ≡ true → shortBodies n xs ≡ true
 longer m n [] l h = refl
 longer m n (x ∷ xs) l h =
@@ -64,7 +60,7 @@ sized-append : (v : Bool) (m : ℕ) (a b : Flattened) (t : ℕ) → Sized v m a 
 sized-append v m a b t p q =
     record {
       same = λ e. omega (arith, p .same e, q .same e, length-append (a .steps) (b .steps));
-      short = all-append (λ (s : Step). leb (bodyOf s) m) (a .steps) (b .steps) (p .short) (q .short);
+      short = bools.all-append (λ (s : Step). leb (bodyOf s) m) (a .steps) (b .steps) (p .short) (q .short);
     }
 
 sized-copies : (v : Bool) (m t : ℕ) (b : Flattened) (n : ℕ) → Sized v m b → Sized v m (copies t b n)
@@ -157,18 +153,14 @@ rule-short-bodies img i =
     let e : 256 + callDepth img + 4 ≡ 260 + callDepth img = omega arith in rw e (counts img i .1 .short)
 
 -- AN ACCEPTED SET -------------------------------------------------------------------------------------------------------------------
-or-false : (a b : Bool) → a || b ≡ false → (a ≡ false) × (b ≡ false)
-or-false true b e = absurd (false≢true (sym e))
-or-false false b e = (refl, e)
-
 module _ (fs : List Flattened) (h : tooManySteps fs ≡ false) where
   pub few-steps : stepsIn fs ≤ 2048
   unfolding tooManySteps
-  few-steps = ltb-false 2048 (stepsIn fs) (or-false (ltb 2048 (stepsIn fs)) (ltb 65536 (takenIn fs)) h .0)
+  few-steps = ltb-false 2048 (stepsIn fs) (bools.neither (ltb 2048 (stepsIn fs)) (ltb 65536 (takenIn fs)) h .0)
 
   pub few-taken : takenIn fs ≤ 65536
   unfolding tooManySteps
-  few-taken = ltb-false 65536 (takenIn fs) (or-false (ltb 2048 (stepsIn fs)) (ltb 65536 (takenIn fs)) h .1)
+  few-taken = ltb-false 65536 (takenIn fs) (bools.neither (ltb 2048 (stepsIn fs)) (ltb 65536 (takenIn fs)) h .1)
 
   pub few-stored : length (flatten (stepLists fs)) ≤ 2048
   few-stored = omega (arith, few-steps, steps-in fs)

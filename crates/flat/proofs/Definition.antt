@@ -1,26 +1,21 @@
 -- Laws of the definition of flattening.
 use mathlib.Core.Path.{_≡_, refl, sym, ap, _∙_}
-use mathlib.Core.List.{List, [], _∷_, _++_}
-use Prim.Native.Nat.{ℕ, zero, suc, _+_, _*_, _-_, _/_, _≤_, _<_}
+use mathlib.Core.List.{List, _∷_}
+use Prim.Native.Nat.{ℕ, zero, suc, _+_, _-_, _/_, _≤_, _<_}
 use native.Mathlib.Omega.{arith}
-use native.Mathlib.Nat.{add-zero, add-suc, suc-add}
+use native.Mathlib.Nat.{add-zero}
 use native.Mathlib.Numerals.{add-one, sub-one}
 use borrow.Author.Tests.{le-leb, lt-leb, ne-eqb, eqb-false, ltb-false}
 use lib.ListN.{length, take, drop}
 use lib.Seq.{drop-drop}
-use mathlib.Core.Bool.{Bool, true, false, _||_, true≢false}
+use mathlib.Core.Bool.{true, false, _||_}
 use lib.Dec.{ltb, eqb}
-use Rattle.model.specs.declared.Record.{Record}
-use Rattle.model.specs.declared.FlowAction.{FlowAction}
 use Rattle.model.specs.declared.FlowAction.the-variants.{After, Repeat, Conditional}
 use Rattle.model.specs.declared.FlattenCtx.{FlattenCtx}
 use Rattle.model.specs.declared.Step.the-variants.{Fail}
 use Rattle.model.specs.Flat.{Flattened, Flattening, noSteps, oneStep, append, copies, flattenList, flattenAction, flatteningsFrom, flattenBlock, blockNamed, flattenCall, flattenings, withinAfter, withinRepeat, withinConditional, flattenAfter, flattenBranch, flattenRepeat, repeatFails}
+use Rattle.model.proofs.Bools.{neither}
 use Rattle.flat.specs.Outcome.{Behind, actionIn, listAt, actionAt, formAt}
-
-or-false : (a b : Bool) → a || b ≡ false → (a ≡ false) × (b ≡ false)
-or-false true b e = absurd (true≢false e)
-or-false false b e = (refl, e)
 
 -- copies
 module _ (b : Flattened) (n : ℕ) where
@@ -125,10 +120,10 @@ module _ (c : FlattenCtx) (times : ℕ) where
 
   -- what holds of one that does not
   pub repeats-outside : repeatFails c times ≡ false → c .«in_repeat» ≡ false
-  repeats-outside e = or-false (c .«in_repeat») (eqb times 0 || ltb (c .limit) times) e .0
+  repeats-outside e = neither (c .«in_repeat») (eqb times 0 || ltb (c .limit) times) e .0
 
   pub repeats-some : repeatFails c times ≡ false → times ≡ 0 → ⊥
-  repeats-some e = eqb-false times 0 (or-false (eqb times 0) (ltb (c .limit) times) (or-false (c .«in_repeat») (eqb times 0 || ltb (c .limit) times) e .1) .0)
+  repeats-some e = eqb-false times 0 (neither (eqb times 0) (ltb (c .limit) times) (neither (c .«in_repeat») (eqb times 0 || ltb (c .limit) times) e .1) .0)
 
   pub repeats-within : repeatFails c times ≡ false → times ≤ c .limit
-  repeats-within e = ltb-false (c .limit) times (or-false (eqb times 0) (ltb (c .limit) times) (or-false (c .«in_repeat») (eqb times 0 || ltb (c .limit) times) e .1) .1)
+  repeats-within e = ltb-false (c .limit) times (neither (eqb times 0) (ltb (c .limit) times) (neither (c .«in_repeat») (eqb times 0 || ltb (c .limit) times) e .1) .1)

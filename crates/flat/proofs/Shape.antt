@@ -1,24 +1,22 @@
 -- The shape of flat steps: no after in an after body; bodies and regions end in their list; no branch in a region; a body that begins in
 -- a region ends in it. Of every image, checked or not.
-use mathlib.Core.Path.{_≡_, refl, sym, ap, ap₂, _∙_}
-use mathlib.Core.Bool.{Bool, true, false, not, _&&_, false≢true, true≢false}
+use mathlib.Core.Path.{_≡_, refl, sym, ap, _∙_}
+use mathlib.Core.Bool.{Bool, true, false, not, false≢true}
 use mathlib.Core.List.{List, [], _∷_, _++_, append-nil, append-assoc, map}
-use Prim.Native.Nat.{ℕ, zero, suc, _+_, _≤_, _<_}
+use Prim.Native.Nat.{ℕ, zero, suc, _+_}
 use native.Mathlib.Omega.{arith}
 use borrow.Author.Tests.{le-leb}
 use lib.Dec.{leb}
 use lib.ListN.{length, take, drop, getD, getElem?, length-append}
-use lib.Seq.{take-append-seam, take-at}
+use lib.Seq.{take-append-seam}
 use Rattle.model.specs.declared.Step.{Step}
 use Rattle.model.specs.declared.Step.the-variants.{Primitive, Wait, Branch, After, Fail}
 use Rattle.model.specs.declared.FlattenCtx.{FlattenCtx}
 use Rattle.model.specs.Lists.{all}
-use Rattle.model.specs.Image.{callDepth, repeatLimit}
 use Rattle.model.specs.Rules.{ruleIndices}
-use Rattle.model.specs.Flat.{Flattened, noSteps, oneStep, append, withinAfter, withinRepeat, withinConditional, copies, flattenAfter, flattenRepeat, flattenBranch, flattenRule, flattenRules, setOf, listIn, bodyLen}
+use Rattle.model.specs.Flat.{Flattened, copies, flattenRule, flattenRules, setOf, listIn, bodyLen}
 use Rattle.model.proofs.Bools as bools
-use Rattle.flat.specs.Load.{ruleContext}
-use Rattle.flat.specs.Shape.{isBranch, notAfter, notBranch, regionsOf, fitOk, insideOk, stepOk, listOk, bodyOk, bodiesOk}
+use Rattle.flat.specs.Shape.{notAfter, notBranch, fitOk, insideOk, listOk, bodyOk, bodiesOk}
 use Rattle.flat.proofs.Induction.{by, Closed, of-rule}
 
 -- SHAPED STEPS ----------------------------------------------------------------------------------------------------------------------
@@ -31,10 +29,6 @@ pub record Shaped (conditional after : Bool) (xs : List Step) : Type 0 where
   pub no-branch : conditional ≡ true → all notBranch xs ≡ true
   pub no-after : after ≡ true → all notAfter xs ≡ true
 
-all-append : (p : Step → Bool) (xs ys : List Step) → all p xs ≡ true → all p ys ≡ true → all p (xs ++ ys) ≡ true
-all-append p [] ys h k = k
-all-append p (x ∷ xs) ys h k = let b = bools.both (p x) (all p xs) h in rw (b .0, all-append p xs ys (b .1) k)
-
 shaped-none : (u v : Bool) → Shaped u v []
 shaped-none u v = record { fit = λ ys. refl; inside = λ ys. refl; listed = λ ys. refl; bodies = λ ys. refl; no-branch = λ e. refl; no-after = λ e. refl }
 
@@ -45,8 +39,8 @@ shaped-append u v xs ys p q =
       inside = λ zs. ap insideOk (append-assoc xs ys zs) ∙ p .inside (ys ++ zs) ∙ q .inside zs;
       listed = λ zs. ap listOk (append-assoc xs ys zs) ∙ p .listed (ys ++ zs) ∙ q .listed zs;
       bodies = λ zs. ap bodiesOk (append-assoc xs ys zs) ∙ p .bodies (ys ++ zs) ∙ q .bodies zs;
-      no-branch = λ e. all-append notBranch xs ys (p .no-branch e) (q .no-branch e);
-      no-after = λ e. all-append notAfter xs ys (p .no-after e) (q .no-after e);
+      no-branch = λ e. bools.all-append notBranch xs ys (p .no-branch e) (q .no-branch e);
+      no-after = λ e. bools.all-append notAfter xs ys (p .no-after e) (q .no-after e);
     }
 
 least : (n : ℕ) → leb 0 n ≡ true

@@ -2,13 +2,14 @@
 use mathlib.Core.Path.{_≡_, refl, sym, _∙_}
 use mathlib.Core.Bool.{Bool, true, false, not, _&&_, cond}
 use mathlib.Core.List.{List}
-use Prim.Native.Nat.{ℕ, zero, suc, _+_, _-_, _*_, _/_, _%_, _≤_, _<_}
+use Prim.Native.Nat.{ℕ, zero, suc, _+_, _-_, _*_, _%_, _≤_, _<_}
 use native.Mathlib.Nat.{div-add-mod', add-zero, le-refl, mul-le-mul-left}
 use native.Mathlib.Omega.{arith}
 use lib.Dec.{leb, eqb}
 use lib.ListN.{length, getD}
 use borrow.Author.Tests.{leb-true, eqb-true, not-true}
 use Rattle.model.proofs.Bools.{both}
+use Rattle.model.proofs.ImageLaws as image-laws
 use Rattle.model.specs.Lists.{every, total}
 use Rattle.model.specs.Field.{unless}
 use Rattle.model.specs.Rows.{rules, blocks, actions, pool}
@@ -104,9 +105,6 @@ module _ (img : List ℕ) (ok : tablesRefusal img 0 ≡ 0) where
   pub links-passed : tablesPass img true ≡ true
   links-passed = checks .links
 
-  pub names-passed : namesDiffer img ≡ true
-  names-passed = checks .names
-
   -- 10
   pub sized : Sized img
   unfolding imageSized
@@ -142,19 +140,19 @@ module _ (img : List ℕ) (ok : tablesRefusal img 0 ≡ 0) where
   unfolding placesFit
   first-zero = eqb-true _ _ (both (eqb (firstOf img 0) 0) (every 8 (placeFits img)) (checks .places) .0)
 
-  place-at : (t : ℕ) → t < 8 → (firstOf img t ≤ firstOf img (t + 1)) × ((firstOf img (t + 1) - firstOf img t) % widthOf t ≡ 0)
+  whole-records : (t : ℕ) → t < 8 → (firstOf img (t + 1) - firstOf img t) % widthOf t ≡ 0
   unfolding placesFit
-  place-at t h =
+  whole-records t h =
       let all = both (eqb (firstOf img 0) 0) (every 8 (placeFits img)) (checks .places) .1 in
       let b = both (leb (firstOf img t) (firstOf img (t + 1))) (eqb ((firstOf img (t + 1) - firstOf img t) % widthOf t) 0) (at (placeFits img) 8 t all h) in
-      (leb-true _ _ (b .0), eqb-true _ _ (b .1))
+      eqb-true _ _ (b .1)
 
   pub table-follows : (t : ℕ) → t < 8 → firstOf img t ≤ firstOf img (t + 1)
-  table-follows t h = place-at t h .0
+  table-follows = image-laws.table-follows img (checks .places)
 
   pub table-words : (t : ℕ) → t < 8 → firstOf img (t + 1) - firstOf img t ≡ sizeOf img t * widthOf t
   unfolding sizeOf
-  table-words t h = sym (div-add-mod' (firstOf img (t + 1) - firstOf img t) (widthOf t)) ∙ rw (place-at t h .1) (add-zero _)
+  table-words t h = sym (div-add-mod' (firstOf img (t + 1) - firstOf img t) (widthOf t)) ∙ rw (whole-records t h) (add-zero _)
 
   pub table-ends : (t : ℕ) → t < 8 → firstOf img t + sizeOf img t * widthOf t ≡ firstOf img (t + 1)
   table-ends t h = omega (arith, table-words t h, table-follows t h)

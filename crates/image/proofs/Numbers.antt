@@ -1,11 +1,10 @@
 -- Lists of the numbers from one on: lengths, elements, and a search through them as a loop makes it. Assumes nothing.
-use mathlib.Core.Path.{_≡_, refl, sym, ap, _∙_}
-use mathlib.Core.Bool.{Bool, true, false, cond, false≢true}
-use mathlib.Core.List.{List, [], _∷_, map}
+use mathlib.Core.Path.{_≡_, refl, ap, _∙_}
+use mathlib.Core.Bool.{Bool, true, false, cond}
+use mathlib.Core.List.{map}
 use mathlib.Core.Option.{Option, none, some}
 use Prim.Native.Nat.{ℕ, zero, suc, _+_, _-_, _≤_, _<_}
-use native.Mathlib.Nat.{le-of-suc-le-suc, not-suc-le-zero, eq-or-lt-of-le}
-use mathlib.Core.Logic.{_⊎_, inl, inr}
+use native.Mathlib.Nat.{le-of-suc-le-suc, not-suc-le-zero}
 use native.Mathlib.Numerals.{add-one}
 use native.Mathlib.Omega.{arith}
 use lib.ListN.{length, getD, length-map}
@@ -55,15 +54,3 @@ module _ (p : ℕ → Bool) where
   pub found-passes : (m i k : ℕ) → positionFrom p i (upFrom i m) ≡ some k → Found i m k
   found-passes zero i k e = let z : _≡_ {A = ℕ} 0 1 = cc in absurd (omega arith)
   found-passes (suc m) i k e = found-case m i k (p i) refl (found-passes m (suc i) k) e
-
-  -- the number that is found, where none before it passes
-  finds-case : (m i k : ℕ) (b : Bool) → p i ≡ b → p k ≡ true → (i < k → p i ≡ false) → (i < k → positionFrom p (suc i) (upFrom (suc i) m) ≡ some k) → (i ≡ k) ⊎ (i < k) → cond b (some i) (positionFrom p (suc i) (upFrom (suc i) m)) ≡ some k
-  finds-case m i k true h t before rest (inl e) = ap some e
-  finds-case m i k true h t before rest (inr l) = absurd (false≢true (sym (before l) ∙ h))
-  finds-case m i k false h t before rest (inl e) = absurd (false≢true (sym h ∙ rw (← e) at t))
-  finds-case m i k false h t before rest (inr l) = rest l
-
-  pub finds : (m i k : ℕ) → i ≤ k → k < i + m → p k ≡ true → ((j : ℕ) → j < k → p j ≡ false) → positionFrom p i (upFrom i m) ≡ some k
-  finds zero i k a b t before = absurd (omega arith)
-  finds (suc m) i k a b t before =
-      finds-case m i k (p i) refl t (before i) (λ l. finds m (suc i) k l (omega arith) t before) (eq-or-lt-of-le a)

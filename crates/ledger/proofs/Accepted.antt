@@ -1,20 +1,21 @@
 -- What an image of words that passes load gives.
 use mathlib.Core.Path.{_≡_, refl, sym, _∙_, ap}
-use Prim.Native.Nat.{ℕ, zero, suc, _+_, _-_, _/_, _≤_, _<_, zero-le}
+use Prim.Native.Nat.{ℕ, zero, suc, _-_, _/_, _≤_, _<_}
 use native.Mathlib.Omega.{arith}
-use mathlib.Core.Bool.{Bool, true, false, not, _&&_, true≢false, false≢true}
+use mathlib.Core.Bool.{true, false, not, _&&_}
 use mathlib.Core.List.{List}
 use mathlib.Core.Option.{some, Option·none-ne-some, Option·some-injective}
-use lib.Dec.{leb, ltb, eqb}
+use lib.Dec.{leb, eqb}
 use lib.ListN.{length, drop, length-take}
-use borrow.Author.Tests.{not-true, leb-true, ltb-true, ltb-false, eqb-true, eq-eqb}
-use Rattle.model.specs.Lists.{all, every, positionFrom, upFrom}
-use Rattle.model.specs.Field.{unless}
+use borrow.Author.Tests.{not-true, leb-true, eqb-true}
+use Rattle.model.specs.Lists.{all, positionFrom, upFrom}
 use Rattle.model.specs.Rows.{rules, actions, blocks}
 use Rattle.model.specs.Image.{imageSized, limitsFit, placesFit, tablesPass, namesDiffer, fewEnough, limitFits, budget, sizeOf, wordAt, firstOf, widthOf, tableOf, callDepth, repeatLimit}
 use Rattle.model.specs.Rules.{nameOf, ruleNamed}
 use Rattle.model.specs.Flat.{flattenRule, flattenRules, flattenings, tooManySteps}
 use Rattle.model.specs.Load.{tablesRefusal, imageRefusalWith, imageRefusal}
+use Rattle.model.proofs.Bools.{not-refused, every-at}
+use Rattle.model.proofs.ImageLaws.{rule-of-name}
 use Rattle.ledger.proofs.ListLaws.{and-l, and-r, all-take, all-drop, by}
 use Rattle.ledger.proofs.Shapes.{Shape}
 use Rattle.ledger.proofs.FlatShapes.{isWord, word-at, shaped-part, shaped-all}
@@ -28,30 +29,18 @@ pub record Accepted (img : List ℕ) : Type 0 where
   pub steps : tooManySteps (flattenRules img) ≡ false
   pub few : fewEnough img ≡ true
 
-past-check : (b : Bool) (n rest : ℕ) → unless b (suc n) rest ≡ 0 → (b ≡ true) × (rest ≡ 0)
-past-check true n rest e = (refl, e)
-past-check false n rest e = absurd (omega arith)
-
 pub accepts : (img : List ℕ) → all isWord img ≡ true → imageRefusal img ≡ 0 → Accepted img
 unfolding imageRefusal imageRefusalWith tablesRefusal
 accepts img w e =
-    let (a, e10) = past-check (imageSized img) 9 _ e in
-    let (b, e11) = past-check (limitsFit img) 10 _ e10 in
-    let (c, e12) = past-check (placesFit img) 11 _ e11 in
-    let (d, e13) = past-check (tablesPass img false) 12 _ e12 in
-    let (f, e14) = past-check (tablesPass img true) 13 _ e13 in
-    let (g, e15) = past-check (namesDiffer img) 14 _ e14 in
-    let (h, e16) = past-check (not (tooManySteps (flattenRules img))) 15 _ e15 in
-    let (i, e17) = past-check (fewEnough img) 16 0 e16 in
+    let (a, e10) = not-refused (imageSized img) 9 _ e in
+    let (b, e11) = not-refused (limitsFit img) 10 _ e10 in
+    let (c, e12) = not-refused (placesFit img) 11 _ e11 in
+    let (d, e13) = not-refused (tablesPass img false) 12 _ e12 in
+    let (f, e14) = not-refused (tablesPass img true) 13 _ e13 in
+    let (g, e15) = not-refused (namesDiffer img) 14 _ e14 in
+    let (h, e16) = not-refused (not (tooManySteps (flattenRules img))) 15 _ e15 in
+    let (i, e17) = not-refused (fewEnough img) 16 0 e16 in
     record { words = w; sized = a; limits = b; fields = d; names = g; steps = not-true _ h; few = i }
-
--- a test that holds at every number below n
-pub every-at : (n : ℕ) (f : ℕ → Bool) (i : ℕ) → every n f ≡ true → i < n → f i ≡ true
-unfolding every
-every-at zero f i h lt = absurd (omega arith)
-every-at (suc n) f i h lt =
-    by (ltb i n) (λ t. every-at n f i (and-l (every n f) (f n) h) (ltb-true i n t))
-    (λ t. let e : i ≡ n = omega (arith, ltb-false i n t) in rw e (and-r (every n f) (f n) h))
 
 -- LISTS ------------------------------------------------------------------------------------------------------------------
 pub length-from : (s n : ℕ) → length (upFrom s n) ≡ n
@@ -59,43 +48,19 @@ length-from s zero = refl
 length-from s (suc n) = ap suc (length-from (suc s) n)
 
 -- THE RULE OF A NAME ----------------------------------------------------------------------------------------------------------------
-found-at : (f : ℕ → ℕ) (s n i : ℕ) → s ≤ i → i < s + n → ((k : ℕ) → k < i → f k ≡ f i → ⊥) → positionFrom (λ k. eqb (f k) (f i)) s (upFrom s n) ≡ some i
-found-at f s zero i lo hi first = absurd (omega arith)
-found-at f s (suc n) i lo hi first =
-    by (eqb (f s) (f i))
-    (λ t.
-    by (ltb s i) (λ lt. absurd (first s (ltb-true s i lt) (eqb-true (f s) (f i) t)))
-    (λ ge. let e : s ≡ i = omega (arith, ltb-false s i ge) in rw t (ap some e)))
-    (λ t.
-    let ne : s ≡ i → ⊥ = λ e. let z : true ≡ false = sym (eq-eqb (f s) (f i) (ap f e)) ∙ t in absurd (true≢false z) in
-    rw t (found-at f (suc s) n i (below s i lo ne) (omega arith) first))
-  where
-    below : (a b : ℕ) → a ≤ b → (a ≡ b → ⊥) → suc a ≤ b
-    below a b le ne = by (ltb a b) (λ t. omega (arith, ltb-true a b t)) (λ t. absurd (ne (omega (arith, ltb-false a b t))))
-
 module _ (img : List ℕ) (ok : Accepted img) where
   pub word-of : (t i j : ℕ) → isWord (wordAt img t i j) ≡ true
   unfolding wordAt
   word-of t i j = word-at img _ (ok .words)
 
-  -- no two rules of one name
-  names-differ : (k i : ℕ) → k < i → i < sizeOf img rules → nameOf img k ≡ nameOf img i → ⊥
-  unfolding namesDiffer wordAt widthOf every
-  names-differ k i lt hi e =
-      let at = every-at (sizeOf img rules) _ i (ok .names) hi in
-      let differ : not (eqb (nameOf img i) (nameOf img k)) ≡ true = every-at i _ k at lt in
-      let same : eqb (nameOf img i) (nameOf img k) ≡ true = eq-eqb (nameOf img i) (nameOf img k) (sym e) in
-      absurd (false≢true (sym (ap not same) ∙ differ))
-
   pub named : (i : ℕ) → i < sizeOf img rules → ruleNamed img (nameOf img i) ≡ some i
-  unfolding ruleNamed
-  named i hi = found-at (nameOf img) 0 (sizeOf img rules) i zero-le (omega arith) (λ k lt e. names-differ k i lt hi e)
+  named = rule-of-name img (ok .names)
 
   -- B is 1 to 256
   pub budget-range : (1 ≤ budget img) × (budget img ≤ 256)
   unfolding limitsFit
   budget-range =
-      let h : leb 1 (budget img) && leb (budget img) 256 ≡ true = every-at 5 (limitFits img) 0 (ok .limits) (omega arith) in
+      let h : leb 1 (budget img) && leb (budget img) 256 ≡ true = every-at (limitFits img) 5 0 (ok .limits) (omega arith) in
       (leb-true _ _ (and-l _ _ h), leb-true _ _ (and-r (leb 1 (budget img)) _ h))
 
   pub few-rules : sizeOf img rules ≤ 64

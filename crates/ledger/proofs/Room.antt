@@ -93,10 +93,6 @@ rows-words k (xs ∷ xss) h =
     and-i (isWord k && isWord (length xs)) _ (and-i (isWord k) _ (small-word k (omega arith)) (small-word (length xs) (omega arith)))
     (rows-words (k + length xs) xss (omega arith))
 
-pub rows-length : (k : ℕ) (xss : List (List Step)) → length (listRows k xss) ≡ length xss
-rows-length k [] = refl
-rows-length k (xs ∷ xss) = ap suc (rows-length (k + length xs) xss)
-
 -- the action table has fewer records than words
 pub few-records : (img : List ℕ) → Accepted img → sizeOf img actions ≤ max32
 unfolding sizeOf widthOf firstOf trailer

@@ -18,11 +18,12 @@ use Rattle.model.specs.declared.Step.{Step}
 use Rattle.model.specs.declared.Step.the-variants.{Primitive, Wait, Branch, After, Fail}
 use Rattle.model.specs.State.{RuleSet}
 use Rattle.model.specs.Flat.{Flattened, flattenRule, flattenRules, stepsIn, tooManySteps, setOf, bodyLen, listIn}
+use Rattle.model.proofs.Bools.{every-at}
 use Rattle.ledger.proofs.ListLaws.{and-l, and-r, and-i, all-take, all-drop, all-getD, Every}
 use Rattle.ledger.proofs.Shapes.{notAfter, regionsOf, regionsInside, stepOk, listOk, numbersOk}
 use Rattle.ledger.proofs.FlatShapes.{isWord}
 use Rattle.ledger.proofs.Points.{take-short}
-use Rattle.ledger.proofs.Accepted.{Accepted, every-at, word-of, few-rules, rule-shape, length-from}
+use Rattle.ledger.proofs.Accepted.{Accepted, word-of, few-rules, rule-shape, length-from}
 use Rattle.ledger.proofs.ActionRules.{ActionOk}
 
 pub record SetOk (set : RuleSet) : Type 0 where
@@ -44,9 +45,9 @@ module _ (img : List ℕ) (ok : Accepted img) (i : ℕ) (lt : i < sizeOf img act
   few-scenes : wordAt img actions i 0 ≡ 3 → wordAt img actions i 2 ≤ 16
   unfolding tablesPass widthOf fieldOf fits
   few-scenes e =
-      let table : tablePasses img false 4 ≡ true = every-at 8 (tablePasses img false) 4 (ok .fields) (omega arith) in
-      let row : recordPasses img false 4 i ≡ true = every-at (sizeOf img 4) (recordPasses img false 4) i table lt in
-      let cell : fits (fieldOf 4 (wordAt img 4 i 0) (wordAt img 4 i 1) 2) (wordAt img 4 i 2) (wordAt img 4 i 3) ≡ true = every-at 8 (wordPasses img false 4 i) 2 row (omega arith) in
+      let table : tablePasses img false 4 ≡ true = every-at (tablePasses img false) 8 4 (ok .fields) (omega arith) in
+      let row : recordPasses img false 4 i ≡ true = every-at (recordPasses img false 4) (sizeOf img 4) i table lt in
+      let cell : fits (fieldOf 4 (wordAt img 4 i 0) (wordAt img 4 i 1) 2) (wordAt img 4 i 2) (wordAt img 4 i 3) ≡ true = every-at (wordPasses img false 4 i) 8 2 row (omega arith) in
       leb-true _ _ (subst (λ k. fits (fieldOf 4 k (wordAt img 4 i 1) 2) (wordAt img 4 i 2) (wordAt img 4 i 3) ≡ true) e cell)
 
   pub action-ok : ActionOk (actionOf (recordOf img actions i))

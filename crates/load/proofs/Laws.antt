@@ -1,31 +1,27 @@
 -- What the answers of the checks of an image say together.
 use mathlib.Core.Path.{_≡_, refl, sym, ap, _∙_}
-use mathlib.Core.Bool.{Bool, true, false, not, cond}
+use mathlib.Core.Bool.{Bool, true, false, not}
 use mathlib.Core.List.{List}
-use Prim.Native.Nat.{ℕ, zero, suc}
+use Prim.Native.Nat.{ℕ}
 use native.Mathlib.Omega.{arith}
 use Rattle.model.specs.Field.{unless}
 use Rattle.model.specs.Image.{imageSized, limitsFit, placesFit, tablesPass, namesDiffer, fewEnough}
-use Rattle.model.specs.Flat.{Flattened, flattenRules, stepsIn, tooManySteps}
+use Rattle.model.specs.Flat.{Flattened, flattenRules, tooManySteps}
 use Rattle.model.specs.Load.{tablesRefusal, imageRefusalWith, imageRefusal}
+use Rattle.model.proofs.Bools.{not-refused}
 use Rattle.flat.specs.Load.{Checked, loaded}
 use Rattle.flat.specs.declared.Loaded.{Loaded}
 use Rattle.flat.specs.declared.Loaded.the-variants.{Over, Steps}
-
--- a check that was passed, where the number behind it is 0
-passed : (b : Bool) (n rest : ℕ) → unless b (suc n) rest ≡ 0 → (b ≡ true) × (rest ≡ 0)
-passed true n rest e = (refl, e)
-passed false n rest e = absurd (omega arith)
 
 -- 10 to 15 passed give what flattening asks
 pub checked : (img : List ℕ) → tablesRefusal img 0 ≡ 0 → Checked img
 unfolding tablesRefusal
 checked img e =
-    let (a, r) = passed (imageSized img) 9 _ e in
-    let (b, s) = passed (limitsFit img) 10 _ r in
-    let (c, t) = passed (placesFit img) 11 _ s in
-    let (_, u) = passed (tablesPass img false) 12 _ t in
-    let (d, _) = passed (tablesPass img true) 13 _ u in
+    let (a, r) = not-refused (imageSized img) 9 _ e in
+    let (b, s) = not-refused (limitsFit img) 10 _ r in
+    let (c, t) = not-refused (placesFit img) 11 _ s in
+    let (_, u) = not-refused (tablesPass img false) 12 _ t in
+    let (d, _) = not-refused (tablesPass img true) 13 _ u in
     record { sized = a; limited = b; placed = c; linked = d }
 
 -- SIX CHECKS -----------------------------------------------------------------------------------------------------------------------

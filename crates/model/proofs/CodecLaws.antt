@@ -72,7 +72,7 @@ all-laws n {r} p =
 
 -- AT MOST n ROWS --------------------------------------------------------------------------------------------------------------------
 -- the words of c rows and of the others are those of n
-rest-of : (c n f : ℕ) → c ≤ n → c * f + (n - c) * f ≡ n * f
+pub rest-of : (c n f : ℕ) → c ≤ n → c * f + (n - c) * f ≡ n * f
 rest-of c n f h =
     let e : c + (n - c) ≡ n = omega arith in
     sym (add-mul c (n - c) f) ∙ rw e

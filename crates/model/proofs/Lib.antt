@@ -1,4 +1,5 @@
 pub mod Bools
+pub mod ImageLaws
 pub mod RowLaws
 pub mod CodecLaws
 pub mod PartsLaws

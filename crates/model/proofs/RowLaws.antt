@@ -227,42 +227,46 @@ pad-laws n =
     size = length-replicate n (upTo 0)
 
 -- ROWS ----------------------------------------------------------------------------------------------------------------------------
-module _ {A : Type 0} (r : Row A) (p : RowLaws r) where
+module _ {A : Type 0} (r : Row A) where
   abbrev n : ℕ
   n = length (r .cells)
 
   next : (m : ℕ) → suc m * n ≡ n + m * n
   next m = suc-mul m n ∙ add-comm (m * n) n
 
-  pub rows-long : (l : List A) → length (wordsOf r l) ≡ length l * n
+  pub words-long : ((a : A) → length (r .put a) ≡ n) → (l : List A) → length (wordsOf r l) ≡ length l * n
   unfolding wordsOf
-  rows-long [] = sym (zero-mul n)
-  rows-long (a ∷ l) = length-append (r .put a) (wordsOf r l) ∙ rw (p .long a, rows-long l, next (length l))
+  words-long p [] = sym (zero-mul n)
+  words-long p (a ∷ l) = length-append (r .put a) (wordsOf r l) ∙ rw (p a, words-long p l, next (length l))
 
-  pub rows-count : (m : ℕ) (w : List ℕ) → length (rowsAt r m w) ≡ m
-  unfolding rowsAt
-  rows-count zero w = refl
-  rows-count (suc m) w = ap suc (rows-count m (drop n w))
+  module _ (p : RowLaws r) where
+    pub rows-long : (l : List A) → length (wordsOf r l) ≡ length l * n
+    rows-long = words-long (p .long)
 
-  pub rows-reads : (l : List A) (rest : List ℕ) → allGood r l ≡ true
-      → (rowsAt r (length l) (wordsOf r l ++ rest) ≡ l) × (rowsFit (length l) (r .cells) (wordsOf r l ++ rest) ≡ true)
-  unfolding wordsOf rowsAt rowsFit allGood
-  rows-reads [] rest g = (refl, refl)
-  rows-reads (a ∷ l) rest g =
-      let (g₁, g₂) = both (r .good a) (allGood r l) g in
-      let e = append-assoc (r .put a) (wordsOf r l) rest in
-      let (v₁, f₁) = p .reads a (wordsOf r l ++ rest) g₁ in
-      let (v₂, f₂) = rows-reads l rest g₂ in
-      let d = behind p a (wordsOf r l ++ rest) in
-      (rw (e, d, v₁, v₂), rw (e, d, f₁, f₂))
+    pub rows-count : (m : ℕ) (w : List ℕ) → length (rowsAt r m w) ≡ m
+    unfolding rowsAt
+    rows-count zero w = refl
+    rows-count (suc m) w = ap suc (rows-count m (drop n w))
 
-  pub rows-writes : (m : ℕ) (w : List ℕ) → rowsFit m (r .cells) w ≡ true
-      → (wordsOf r (rowsAt r m w) ++ drop (m * n) w ≡ w) × (allGood r (rowsAt r m w) ≡ true)
-  unfolding wordsOf rowsAt rowsFit allGood
-  rows-writes zero w f = (ap (λ (k : ℕ). drop k w) (zero-mul n), refl)
-  rows-writes (suc m) w f =
-      let (f₁, f₂) = both (rowFits (r .cells) w) (rowsFit m (r .cells) (drop n w)) f in
-      let (v₁, g₁) = p .writes w f₁ in
-      let (v₂, g₂) = rows-writes m (drop n w) f₂ in
-      let d : drop (suc m * n) w ≡ drop (m * n) (drop n w) = ap (λ (k : ℕ). drop k w) (next m) ∙ sym (drop-drop (m * n) n w) in
-      (rw d (append-assoc (r .put (r .get w)) (wordsOf r (rowsAt r m (drop n w))) (drop (m * n) (drop n w)) ∙ ap (λ t. r .put (r .get w) ++ t) v₂ ∙ v₁), join g₁ g₂)
+    pub rows-reads : (l : List A) (rest : List ℕ) → allGood r l ≡ true
+        → (rowsAt r (length l) (wordsOf r l ++ rest) ≡ l) × (rowsFit (length l) (r .cells) (wordsOf r l ++ rest) ≡ true)
+    unfolding wordsOf rowsAt rowsFit allGood
+    rows-reads [] rest g = (refl, refl)
+    rows-reads (a ∷ l) rest g =
+        let (g₁, g₂) = both (r .good a) (allGood r l) g in
+        let e = append-assoc (r .put a) (wordsOf r l) rest in
+        let (v₁, f₁) = p .reads a (wordsOf r l ++ rest) g₁ in
+        let (v₂, f₂) = rows-reads l rest g₂ in
+        let d = behind p a (wordsOf r l ++ rest) in
+        (rw (e, d, v₁, v₂), rw (e, d, f₁, f₂))
+
+    pub rows-writes : (m : ℕ) (w : List ℕ) → rowsFit m (r .cells) w ≡ true
+        → (wordsOf r (rowsAt r m w) ++ drop (m * n) w ≡ w) × (allGood r (rowsAt r m w) ≡ true)
+    unfolding wordsOf rowsAt rowsFit allGood
+    rows-writes zero w f = (ap (λ (k : ℕ). drop k w) (zero-mul n), refl)
+    rows-writes (suc m) w f =
+        let (f₁, f₂) = both (rowFits (r .cells) w) (rowsFit m (r .cells) (drop n w)) f in
+        let (v₁, g₁) = p .writes w f₁ in
+        let (v₂, g₂) = rows-writes m (drop n w) f₂ in
+        let d : drop (suc m * n) w ≡ drop (m * n) (drop n w) = ap (λ (k : ℕ). drop k w) (next m) ∙ sym (drop-drop (m * n) n w) in
+        (rw d (append-assoc (r .put (r .get w)) (wordsOf r (rowsAt r m (drop n w))) (drop (m * n) (drop n w)) ∙ ap (λ t. r .put (r .get w) ++ t) v₂ ∙ v₁), join g₁ g₂)

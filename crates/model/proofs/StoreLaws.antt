@@ -11,12 +11,13 @@ use lib.ListN.{length, take, drop, replicate, length-append, length-replicate, t
 use lib.Seq.{take-at, drop-at}
 use borrow.Author.Tests.{leb-true, eqb-true, eq-eqb, not-true}
 use Rattle.model.specs.Lists.{all, present, _>>=_}
+use Rattle.model.specs.declared.Step.{Step}
 use Rattle.model.specs.Flat.{flattenRules, setOf}
 use Rattle.model.specs.World.{isOne}
 use Rattle.model.specs.State.{NamedTimer, Variable, VarValue, Int, Text, Pending, RuleSet, Rest, Volatile, Store}
 use Rattle.model.specs.Codec.{allGood, decode, word, wide, maybe}
 use Rattle.model.specs.Parts.{Loaded, Changing, Parts, layout, loadedPart, changingPart, bit, variableRow}
-use Rattle.model.specs.Store.{filled, bitOf, loadedOf, variableRowOf, changingOf, partsOf, setIn, variableOf, volatileIn, storeIn, samePair, sameRow, sameList, flatForm, textShort, unusedPast, wordsHold, partsFit, ruleCount, oneForEach, passesLoad, distinct, pendingFits, sameSlots, slotsOf, rulesHold, read, write, FlatFormOf, textFits, Keeps}
+use Rattle.model.specs.Store.{filled, bitOf, loadedOf, variableRowOf, changingOf, partsOf, setIn, variableOf, volatileIn, storeIn, listRows, samePair, sameRow, sameList, flatForm, textShort, unusedPast, wordsHold, partsFit, ruleCount, oneForEach, passesLoad, distinct, pendingFits, sameSlots, slotsOf, rulesHold, read, write, FlatFormOf, textFits, Keeps}
 use Rattle.model.proofs.Bools.{both, join}
 use Rattle.model.proofs.CodecLaws.{Holds, decode-put, put-decode}
 use Rattle.model.proofs.PartsLaws.{layout-laws}
@@ -49,9 +50,14 @@ module _ {A : Type 0} (x : A) (is : A → Bool) (sure : (a : A) → is a ≡ tru
   drop-fill : (m n : ℕ) (l : List A) → length l ≡ n → all is (drop n (filled m x l)) ≡ true
   drop-fill m n l e = rw (drop-at l (replicate (m - length l) x) n e) (all-same (m - length l))
 
+-- each list of a set has one row
+pub rows-length : (k : ℕ) (xss : List (List Step)) → length (listRows k xss) ≡ length xss
+rows-length k [] = refl
+rows-length k (xs ∷ xss) = ap suc (rows-length (k + length xs) xss)
+
 -- SAMENESS ------------------------------------------------------------------------------------------------------------------------
 module _ {A : Type 0} (same : A → A → Bool) where
-  same-list : ((a b : A) → same a b ≡ true → a ≡ b) → (l r : List A) → sameList same l r ≡ true → l ≡ r
+  pub same-list : ((a b : A) → same a b ≡ true → a ≡ b) → (l r : List A) → sameList same l r ≡ true → l ≡ r
   same-list sure [] [] e = refl
   same-list sure [] (y ∷ r) e = absurd (false≢true e)
   same-list sure (x ∷ l) [] e = absurd (false≢true e)
@@ -61,13 +67,13 @@ module _ {A : Type 0} (same : A → A → Bool) where
   list-same r [] = refl
   list-same r (x ∷ l) = join (r x) (list-same r l)
 
-same-pair : (a b : ℕ × ℕ) → samePair a b ≡ true → a ≡ b
+pub same-pair : (a b : ℕ × ℕ) → samePair a b ≡ true → a ≡ b
 same-pair (a, b) (c, d) e = let (p, q) = both _ _ e in rw (eqb-true a c p, eqb-true b d q)
 
 pair-same : (a : ℕ × ℕ) → samePair a a ≡ true
 pair-same (a, b) = join (eq-eqb a a refl) (eq-eqb b b refl)
 
-same-row : (a b : ℕ × (ℕ × (ℕ × ℕ))) → sameRow a b ≡ true → a ≡ b
+pub same-row : (a b : ℕ × (ℕ × (ℕ × ℕ))) → sameRow a b ≡ true → a ≡ b
 same-row (a, (b, c)) (d, (e, f)) h =
     let (p, q) = both _ _ h in
     let (r, s) = both _ _ q in

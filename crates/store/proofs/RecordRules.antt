@@ -41,12 +41,12 @@ named-below img name i e =
     let h = below (λ j. eqb (nameOf img j) name) 0 (ruleIndices img) i e in
     omega arith
 
-found-none : (o : Option ℕ) (r : Found) → r ≡ found o → r ≡ Nothing → o ≡ none
+pub found-none : (o : Option ℕ) (r : Found) → r ≡ found o → r ≡ Nothing → o ≡ none
 unfolding found
 found-none none r e n = refl
 found-none (some i) r e n = let z : _≡_ {A = ℕ} 0 1 = cc in absurd (omega arith)
 
-found-at : (o : Option ℕ) (r : Found) (i : ℕ) → r ≡ found o → r ≡ At i → o ≡ some i
+pub found-at : (o : Option ℕ) (r : Found) (i : ℕ) → r ≡ found o → r ≡ At i → o ≡ some i
 unfolding found
 found-at none r i e n = let z : _≡_ {A = ℕ} 0 1 = cc in absurd (omega arith)
 found-at (some j) r i e n = let q : j ≡ i = cc in ap some q

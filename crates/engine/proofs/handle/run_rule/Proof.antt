@@ -5,7 +5,8 @@ use Rattle.model.specs.Calls.{ruleIn}
 use Rattle.state.specs.Meaning.{meaning}
 use Rattle.activate.proofs.Continues.{nothing-done}
 use Rattle.engine.specs.Handling.{begun}
-use Rattle.engine.proofs.LoadedLaws.{found-none, found-some, set-of}
+use Rattle.engine.proofs.LoadedLaws.{set-of}
+use Rattle.store.proofs.RecordRules.{found-none, found-at}
 use Rattle.engine.proofs.HandlingLaws.{ran-nothing, ran-rule, continues-as, room-begun}
 use Rattle.engine.proofs.handle.run_rule.Statement.{statement}
 use Rattle.engine.proofs.handle.run_rule.Tie as tie
@@ -14,7 +15,7 @@ run-at-requires : tie.Need-run-at-requires
 run-at-requires c κs =
     let m = c .before .before .before in
     let s = m .before .before .before .before .before .before .before in
-    ((s .pre .0, λ t e. found-some (ruleIn (t .loaded) (s .args .rule)) _ _ (m .before .before .rule-in .ensures t e) (m .i .given .1)), room-begun (s .args .v) _ (s .pre .1))
+    ((s .pre .0, λ t e. found-at (ruleIn (t .loaded) (s .args .rule)) _ _ (m .before .before .rule-in .ensures t e) (m .i .given .1)), room-begun (s .args .v) _ (s .pre .1))
 
 returns : tie.Need-returns
 returns c s e =
@@ -27,7 +28,7 @@ returns-2 c s e =
     let d = c .before .before .before .before in
     let m = d .before .before .before .before in
     let a = m .before .before .before .before .before .before .before in
-    let q = found-some (ruleIn (s .loaded) (a .args .rule)) _ _ (m .before .before .rule-in .ensures s e) (m .i .given .1) in
+    let q = found-at (ruleIn (s .loaded) (a .args .rule)) _ _ (m .before .before .rule-in .ensures s e) (m .i .given .1) in
     let l = set-of (s .loaded) (a .args .rule) _ q in
     continues-as (begun (a .args .v)) _ _ _ _ _ _ _
     (ran-rule (s .loaded) (l .0) (a .args .rule) _ (a .args .dry) (now (a .args .snapshot)) (meaning (a .args .v)) (l .1) q)
