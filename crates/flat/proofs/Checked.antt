@@ -20,7 +20,7 @@ use Rattle.model.specs.Image.{widthOf, imageSized, trailer, callDepth, repeatLi
 use Rattle.model.specs.Rules.{recordIn, flowOf}
 use Rattle.model.specs.Flat.{blockNamed, flattenRule, flattenRules}
 use Rattle.model.proofs.Bools as bools
-use Rattle.model.proofs.ImageLaws.{table-follows}
+use Rattle.model.proofs.ImageLaws.{table-follows, last-first}
 use Rattle.flat.specs.Outcome.{Behind, NestedIn, BlockIn, foundIn, actionIn}
 use Rattle.flat.specs.Load.{Checked, CheckedTables, ruleAt, rulesUpTo, flattenTables}
 
@@ -154,10 +154,6 @@ module _ (img : List ℕ) (h : Checked img) where
   pub repeat-limit : repeatLimit img < 256
   repeat-limit = let e = leb-true (trailer img 2) 255 (bools.both (leb 1 (trailer img 2)) (leb (trailer img 2) 255) (limit-at 2 (omega arith)) .1) in omega arith
 
-  last-first : firstOf img 8 ≡ length img - 13
-  unfolding firstOf
-  last-first = refl
-
   pub rules-order : firstOf img 0 ≤ firstOf img 1
   rules-order = table-follows img (h .placed) 0 (omega arith)
 
@@ -168,7 +164,7 @@ module _ (img : List ℕ) (h : Checked img) where
   actions-order = table-follows img (h .placed) 4 (omega arith)
 
   pub actions-end : firstOf img 5 ≤ length img
-  actions-end = omega (arith, table-follows img (h .placed) 5 (omega arith), table-follows img (h .placed) 6 (omega arith), table-follows img (h .placed) 7 (omega arith), last-first, long)
+  actions-end = omega (arith, table-follows img (h .placed) 5 (omega arith), table-follows img (h .placed) 6 (omega arith), table-follows img (h .placed) 7 (omega arith), last-first img, long)
 
   pub blocks-end : firstOf img 2 ≤ length img
   blocks-end = omega (arith, table-follows img (h .placed) 2 (omega arith), table-follows img (h .placed) 3 (omega arith), actions-order, actions-end)

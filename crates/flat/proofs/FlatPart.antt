@@ -10,7 +10,7 @@ use lib.Seq.{take-suc, take-all}
 use Rattle.model.proofs.Bools as bools
 use native.Mathlib.Omega.{arith}
 use lib.ListN.{length, take, getD, replicate, length-map}
-use Rattle.model.specs.Lists.{flatten, upFrom}
+use Rattle.model.specs.Lists.{flatten}
 use Rattle.model.specs.Rows.{rules}
 use Rattle.model.specs.Rules.{ruleIndices}
 use Rattle.model.specs.Codec.{wordsOf, most}
@@ -21,6 +21,7 @@ use Rattle.model.specs.Flat.{Flattened, flattenRule, flattenRules, tooManySteps
 use Rattle.model.specs.Load.{tablesRefusal, imageRefusalWith, imageRefusal}
 use Rattle.model.proofs.Bools.{not-refused}
 use Rattle.model.proofs.StoreLaws.{rows-length}
+use Rattle.model.proofs.ListLaws.{length-upFrom}
 use Rattle.flat.specs.Load.{stepLists, stepPart, listPart, Checked, loaded, Stored, Unmade, many, other, Made, Loading, sameFlat}
 use Rattle.flat.specs.declared.Loaded.{Loaded}
 use Rattle.flat.specs.declared.Loaded.the-variants.{Over, Steps}
@@ -131,13 +132,9 @@ module _ (fs : List Flattened) (lists steps : List ℕ) where
         let w = stored-rows fs rows k (m .parts .rows (omega arith)) in
         rw (m .few, same-true steps (stepPart fs) s, and-true (sameList eqb lists (wordsOf listRow (filled 64 (0, 0) (listRows 0 (stepLists fs)))))) (rw w at g)
 
-up-length : (i k : ℕ) → length (upFrom i k) ≡ k
-up-length i zero = refl
-up-length i (suc k) = ap suc (up-length (suc i) k)
-
 pub rules-length : (img : List ℕ) → length (flattenRules img) ≡ sizeOf img rules
 unfolding flattenRules
-rules-length img = length-map (ruleIndices img) (flattenRule img) ∙ up-length 0 (sizeOf img rules)
+rules-length img = length-map (ruleIndices img) (flattenRule img) ∙ length-upFrom 0 (sizeOf img rules)
 
 -- what is loaded where nothing is compared
 pub loaded-alone : (fs : List Flattened) (seen words lists : List ℕ) (r : Loaded) → length seen ≡ 0 → Loading fs seen words lists r

@@ -1,8 +1,8 @@
 -- Laws of the lists of several rules, one behind the other.
-use mathlib.Core.Path.{_≡_, refl, sym, ap, _∙_}
-use mathlib.Core.Bool.{Bool, true, false, _||_}
+use mathlib.Core.Path.{_≡_, refl, ap, _∙_}
+use mathlib.Core.Bool.{true, false}
 use mathlib.Core.List.{List, [], _∷_, _++_, map, append-nil, append-assoc}
-use Prim.Native.Nat.{ℕ, zero, suc, _+_, _*_, _-_, _/_, _≤_, _<_}
+use Prim.Native.Nat.{ℕ, zero, suc, _+_, _*_, _-_, _≤_, _<_}
 use native.Mathlib.Nat.{add-zero, zero-add}
 use native.Mathlib.Numerals.{add-one}
 use native.Mathlib.Omega.{arith}
@@ -17,22 +17,15 @@ use Rattle.model.specs.Codec.{Row, wordsOf}
 use Rattle.model.specs.Parts.{listRow}
 use Rattle.model.specs.Store.{listRows}
 use Rattle.model.specs.Flat.{Flattened, stepsIn, takenIn, tooManySteps}
-use Rattle.flat.specs.declared.Loaded.{Loaded}
+use Rattle.model.proofs.ListLaws.{upFrom-last, map-append}
+use Rattle.model.proofs.Bools.{or-true}
 use Rattle.flat.specs.declared.Loaded.the-variants.{Over, Steps}
 use Rattle.flat.specs.Words.{layout}
 use Rattle.flat.specs.Outcome.{Wrote, Differs, Refusal, over, differs}
-use Rattle.flat.specs.Load.{stepLists, stepPart, listPart, loaded, Parts, Unmade, many, other, Made, ruleAt, rulesUpTo}
+use Rattle.flat.specs.Load.{stepLists, listPart, loaded, Unmade, many, other, Made, ruleAt, rulesUpTo}
 use Rattle.flat.proofs.Words.{layout-is, both, whole-length, tailOf, front-differs, back-differs, compared-both}
 
 -- LISTS OF LISTS --------------------------------------------------------------------------------------------------------------------
-pub up-more : (i k : ℕ) → upFrom i (suc k) ≡ upFrom i k ++ ((i + k) ∷ [])
-up-more i zero = rw (add-zero i)
-up-more i (suc k) = let e : suc i + k ≡ i + suc k = omega arith in rw (← e) (ap (λ (l : List ℕ). i ∷ l) (up-more (suc i) k))
-
-pub map-append : {A B : Type 0} (f : A → B) (l m : List A) → map f (l ++ m) ≡ map f l ++ map f m
-map-append f [] m = refl
-map-append f (x ∷ l) m = rw (map-append f l m)
-
 pub flatten-more : {A : Type 0} (xss : List (List A)) (xs : List A) → flatten (xss ++ (xs ∷ [])) ≡ flatten xss ++ xs
 flatten-more [] xs = append-nil xs
 flatten-more (ys ∷ xss) xs = rw (flatten-more xss xs, append-assoc)
@@ -76,10 +69,6 @@ module _ (f : Flattened) where
       ∙ ap (λ (n : ℕ). listPart fs ++ (n ∷ length (f .steps) ∷ [])) e
 
 -- over the limits or not
-or-true : (a : Bool) → a || true ≡ true
-or-true true = refl
-or-true false = refl
-
 module _ (fs : List Flattened) where
   pub over-taken : 65536 < takenIn fs → tooManySteps fs ≡ true
   unfolding tooManySteps
@@ -206,7 +195,7 @@ module _ (acts blocks rules : List ℕ) (d limit : ℕ) where
   unfolding rulesUpTo
   rules-more k =
       ap (λ (n : ℕ). map (ruleAt acts blocks rules d limit) (upFrom 0 n)) (add-one k)
-      ∙ ap (map (ruleAt acts blocks rules d limit)) (up-more 0 k)
+      ∙ ap (map (ruleAt acts blocks rules d limit)) (upFrom-last 0 k)
       ∙ map-append (ruleAt acts blocks rules d limit) (upFrom 0 k) ((0 + k) ∷ []) ∙ ap (λ (n : ℕ). map (ruleAt acts blocks rules d limit) (upFrom 0 k) ++ (ruleAt acts blocks rules d limit n ∷ [])) (zero-add k)
 
   -- more rules, more actions taken

@@ -25,6 +25,7 @@ use Rattle.model.specs.Activate.{Handled, noOutcome, Manual, Dry}
 use Rattle.model.specs.Wheel.{serviceTick}
 use Rattle.model.specs.Calls.{Call, new, load, unload, enable, tick, run, deadline, counters, Done, fresh, keptAt, kept, restWith, restWithout, loading, callLoad, callUnload, flipped, enabling, ruleIn, callEnable, effectsOf, outcomeRoom, effectRoom, overflow, committing, committed, tickWith, runRule, runWith, given, call}
 use Rattle.model.specs.Store.{distinct, pendingFits, inRule, passesLoad, ruleCount, slotsOf, FlatFormOf, Keeps}
+use Rattle.model.proofs.ListLaws.{length-upFrom}
 use Rattle.ledger.specs.Demand3.{inWords}
 use Rattle.ledger.proofs.ListLaws.{all-keep, and-l, and-r, and-i, all-getD, by, IfSome}
 use Rattle.ledger.proofs.Distinct.{distinct-by}
@@ -32,7 +33,7 @@ use Rattle.ledger.proofs.Sound.{Sound}
 use Rattle.ledger.proofs.StoreRules.{call-sound}
 use Rattle.ledger.proofs.Shapes.{flatOk, flatsOk}
 use Rattle.ledger.proofs.FlatShapes.{isWord}
-use Rattle.ledger.proofs.Accepted.{accepts, named-self, length-from}
+use Rattle.ledger.proofs.Accepted.{accepts, named-self}
 use Rattle.ledger.proofs.Values.{WorldOk, world-ok}
 use Rattle.ledger.proofs.RestRules.{OptionsOk, RestOk, bump-ok}
 use Rattle.ledger.proofs.SetRules.{SetOk, set-ok}
@@ -100,7 +101,7 @@ kept-all row o xs f h (i ∷ is) = and-i (goodMaybe row (kept o xs (f i))) _ (ke
 
 kept-ok : (row : Row ℕ) (o : Option RuleSet) (n : ℕ) (xs : List (Option ℕ)) (f : ℕ → ℕ) (m : ℕ) → OptionsOk row n xs → OptionsOk row m (map (λ i. kept o xs (f i)) (upFrom 0 m))
 kept-ok row o n xs f m h =
-    record { size = length-map (upFrom 0 m) (λ i. kept o xs (f i)) ∙ length-from 0 m; fit = kept-all row o xs f (h .fit) (upFrom 0 m) }
+    record { size = length-map (upFrom 0 m) (λ i. kept o xs (f i)) ∙ length-upFrom 0 m; fit = kept-all row o xs f (h .fit) (upFrom 0 m) }
 
 load-ok : (n t : ℕ) (img : List ℕ) (s : Store) → imageRefusalWith img (flattenRules img) ≡ n → t < 2 ^ 64 → all isWord img ≡ true → PartsOk s
     → PartsOk ((loading n t img (flattenRules img) s) .store)
@@ -118,7 +119,7 @@ load-ok zero t img s e lt w h =
         rest =
             bump-ok _ 11 _ _ _
             (record {
-              enabled = length-map (ruleIndices img) (enabledOf img) ∙ length-from 0 (sizeOf img rules);
+              enabled = length-map (ruleIndices img) (enabledOf img) ∙ length-upFrom 0 (sizeOf img rules);
               lastActivation = kept-ok wide (s .loaded) _ (s .vol .rest .lastActivation) (nameOf img) (sizeOf img rules) (r .lastActivation);
               cyclePos = kept-ok (word 15) (s .loaded) _ (s .vol .rest .cyclePos) (nameOf img) (sizeOf img rules) (r .cyclePos);
               vars = r .vars;

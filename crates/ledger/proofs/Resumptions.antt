@@ -17,10 +17,11 @@ use Rattle.model.specs.Outcome.{plain, disables, defers, Item, started, resumed
 use Rattle.model.specs.declared.Pending.{Pending}
 use Rattle.model.specs.State.{Store}
 use Rattle.model.specs.Calls.{Call, new, load, unload, enable, tick, run, deadline, counters}
+use Rattle.model.proofs.Bools.{all-append}
 use Rattle.ledger.proofs.Sound.{Sound}
 use Rattle.ledger.specs.Ledger.{Event, cleared, disabled, ticked, ran, traced, Posting, Standing, Ledger, leavesBefore, leaving, staying, struck, accept, postReport, postItem, post, postAll, entryOf, startLedger, Notice, eventsOf, leavingAt, leavingAtEach, notices, postCall}
 use Rattle.ledger.specs.Resumptions.{allEvents, changeAt, tickNumber, ticksIn, expected, leavingOn, allLeaving, ofAge, resumptionsOf, continuation}
-use Rattle.ledger.proofs.ListLaws.{all-append, all-keep, and-l, and-r, and-i, by}
+use Rattle.ledger.proofs.ListLaws.{all-keep, and-l, and-r, and-i, by}
 use Rattle.ledger.proofs.Distinct.{distinctBy}
 use Rattle.ledger.proofs.SortLaws.{keep-comm, keep-append, keep-sort-none, keep-sort-one}
 

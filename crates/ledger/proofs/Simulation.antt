@@ -27,8 +27,10 @@ use Rattle.model.specs.Steps.{start}
 use Rattle.model.specs.Wheel.{resumeAll}
 use Rattle.model.specs.Rules.{nameOrder}
 use Rattle.model.specs.Calls.{ruleIn}
+use Rattle.model.proofs.ListLaws.{map-append}
+use Rattle.model.proofs.Bools.{all-append}
 use Rattle.ledger.specs.Ledger.{traced, Entry, Posting, Standing, Payer, Ledger, struck, accept, postReport, pay, resumedPayer, postItem, postItems, post, postAll, entryOf}
-use Rattle.ledger.proofs.ListLaws.{map-append, map-keep, length-keep, all-append, all-keep, and-l, and-r, and-i, by, Every, every-sort, every-all}
+use Rattle.ledger.proofs.ListLaws.{map-keep, length-keep, all-keep, and-l, and-r, and-i, by, Every, every-sort, every-all}
 use Rattle.ledger.proofs.Known.{indices-known, named-known}
 use Rattle.ledger.proofs.Wheel.{WheelLaws}
 

@@ -4,10 +4,11 @@ use mathlib.Core.Logic.{_⊎_, inl, inr}
 use mathlib.Core.Bool.{Bool, true, false, not, cond, false≢true}
 use mathlib.Core.List.{List}
 use mathlib.Core.Option.{some}
-use Prim.Native.Nat.{ℕ, zero, suc, _+_, _≤_, _<_, zero-le}
+use Prim.Native.Nat.{ℕ, zero, suc, _+_, _-_, _≤_, _<_, zero-le}
 use native.Mathlib.Nat.{eq-or-lt-of-le}
 use native.Mathlib.Omega.{arith}
 use lib.Dec.{leb, eqb}
+use lib.ListN.{length}
 use borrow.Author.Tests.{leb-true, eq-eqb, ne-eqb}
 use Rattle.model.specs.Lists.{every, positionFrom, upFrom}
 use Rattle.model.specs.Rows.{rules}
@@ -21,6 +22,10 @@ unfolding placesFit
 table-follows img e t l =
     let f = every-at (placeFits img) 8 t (both (eqb (firstOf img 0) 0) (every 8 (placeFits img)) e .1) l in
     leb-true (firstOf img t) (firstOf img (t + 1)) (both (leb (firstOf img t) (firstOf img (t + 1))) _ f .0)
+
+pub last-first : (img : List ℕ) → firstOf img 8 ≡ length img - 13
+unfolding firstOf
+last-first img = refl
 
 -- the number that is found, where none before it passes
 module _ (p : ℕ → Bool) where

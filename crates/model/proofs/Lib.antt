@@ -1,4 +1,5 @@
 pub mod Bools
+pub mod ListLaws
 pub mod ImageLaws
 pub mod RowLaws
 pub mod CodecLaws

@@ -9,7 +9,7 @@ use native.Mathlib.Omega.{arith}
 use lib.ListN.{length, drop, getD, drop-of-length-le}
 use lib.Seq.{drop-cons}
 use Rattle.model.specs.Lists.{any, upFrom}
-use Rattle.image.proofs.Numbers.{length-upFrom}
+use Rattle.model.proofs.ListLaws.{length-upFrom}
 
 module _ {A : Type 0} (p : A → Bool) (xs : List A) where
   pub Left : ℕ → Type 0

@@ -14,6 +14,7 @@ use Rattle.model.specs.Wheel.{byTime, bySolar, minuteDue, solarDue, withoutSun,
 use Rattle.model.specs.World as model-world
 use Rattle.model.specs.declared.Trigger.{Trigger}
 use Rattle.model.specs.declared.Trigger.the-variants.{TimerFires, Every, AtTime, AtSolar, Other}
+use Rattle.model.proofs.Bools.{or-true, or-false}
 use Rattle.state.specs.Meaning.{option32}
 use Rattle.world.specs.Values.{sunOption, sunRecord}
 use Rattle.world.specs.declared.MaybeSun.{MaybeSun}
@@ -22,17 +23,9 @@ use Rattle.world.specs.declared.SunTimes.{SunTimes}
 use Rattle.wheel.specs.Wall.{kindIf, wallKind, missedToo}
 use Rattle.wheel.specs.declared.wall.WallKind.{WallKind}
 
-or-false : (b : Bool) → b || false ≡ b
-or-false true = refl
-or-false false = refl
-
 or-assoc : (a b c : Bool) → a || (b || c) ≡ (a || b) || c
 or-assoc true b c = refl
 or-assoc false b c = refl
-
-or-true : (b : Bool) → b || true ≡ true
-or-true true = refl
-or-true false = refl
 
 abbrev nothing : model.WallKind
 nothing = record { kind = none; unsynced = false }
