@@ -10,16 +10,23 @@
  *   slices    A lent store is a pointer and its number of words. The pointer is aligned for uint32_t; with 0 words it may be anything.
  *             Stores of one call do not overlap. A store that is not const is written within its words only.
  *   threads   Two calls may run at once if they share no store that either of them writes.
- *   stack     In bytes, measured on x86-64 by examples/c/stack.c with a rule of most kinds of action: tick 193,000, run 160,000, load 36,000,
- *             enable 33,000, unload, next_deadline and counters 29,000, new 2,000. Flattening goes as deep as an image's lists and calls go, and
- *             every call but new flattens the loaded image, to check the store: with the deepest image that was found (506 calls in a list, eight
- *             levels down) each of them needs 2,700,000.
+ *   stack     In bytes, as examples/c/stack.c prints it on x86-64 for a rule of most kinds of action: tick 192,679, run 159,239, dry run 118,839,
+ *             load 36,407, enable 32,791, unload 28,047, next_deadline 26,543, counters 21,023, new 3,191. Flattening goes as deep as an image's
+ *             lists and calls go, and every call but new flattens the loaded image, to check the store: with the deepest image that was found (506
+ *             calls in a list, eight levels down) a tick needs 2,679,359, and the others little less. These are measured, not proved.
  *   refusals  Each call returns 0, or the number of a refusal: the lowest that applies. A refused call has changed nothing: the store is as
  *             it was, and every word of the outcomes, the effects and the answer is 0.
  *   answers   Values go into the lent `answer`. Values past its end are not written; words behind the values are 0. Fewer words than a call has
  *             values, or none, are fine.
  *   names     Names, texts, topics, schedules and light targets are words, numbered by the caller for the life of a store. Rules and timers are
- *             served in the order of their numbers, so that they are numbered in the byte order of their spelling.
+ *             served in the order of their numbers, so that they are numbered in the byte order of their spelling. Numbers need not follow each
+ *             other: leave room between two for names that come later (steps of 65,536, say). Where no number is left between two, number
+ *             all anew and make the store new: it remembers rules, timers and variables by their numbers.
+ *   weekdays  0 to 6; which day is 0 is the caller's choice, the same in every snapshot and in every image (bit d of days is weekday d).
+ *   lighting  The engine hands these words on and does not look into them, but for their range: a light target (a lamp, a group ..), a verb (what a
+ *             target is to do: on, off, a level, a colour ..), a scene (a stored setting of lights, by number), a schedule. HCL, human centric
+ *             lighting, drives targets by schedules of the day, outside the engine; the hold mark of an effect asks HCL to leave its target alone.
+ *             A rule has a hold mark for its effects; a Light may have its own.
  *
  * Each function's contract in crates/cerambiu/src/lib.rt is one equation with the definitions of crates/model/specs, proved for all arguments.
  */
@@ -45,8 +52,9 @@ extern "C" {
 #define CERAMBIU_EFFECT_WORDS 5          /* one effect; a lent store of n words holds n / 5 */
 
 /* A run has at most 1 outcome. A tick has at most 1,184: 32 continuations, 16 timers for 64 rules each, 64 Every slots, 64 rules by the wall
- * clock. An outcome has at most as many effects as the image's budget (1 to 256). A call that needs more room than was lent is refused with 30
- * and can be made again. */
+ * clock. An outcome has at most as many effects as the image's budget B (1 to 256): a tick has at most 1,184 * B effects, and an image of 365 words
+ * is known whose tick has 51,200 (examples/c/room.c). A call that needs more room than was lent is refused with 30 and can be made again with more;
+ * with no more the later ticks are refused too, since what is due stays due. Lend for the largest B that you let a rule author use. */
 #define CERAMBIU_TICK_MAX_OUTCOMES 1184
 #define CERAMBIU_OUTCOME_MAX_EFFECTS 256
 
@@ -71,7 +79,7 @@ enum cerambiu_refusal {
     CERAMBIU_IMAGE_LIMIT = 11,   /* a limit of the trailer out of range */
     CERAMBIU_IMAGE_TABLE = 12,   /* a table out of place, or no whole number of records */
     CERAMBIU_IMAGE_FIELD = 13,   /* unknown kind, field out of range, or unused word not 0; in any record, used or not */
-    CERAMBIU_IMAGE_INDEX = 14,   /* index or list outside its table, or a nested list that does not start after its holder */
+    CERAMBIU_IMAGE_INDEX = 14,   /* index or list outside its table, or a nested list, not empty, that does not start after its holder */
     CERAMBIU_IMAGE_NAMES = 15,   /* two rules of one name */
     CERAMBIU_IMAGE_STEPS = 16,   /* over 2,048 flat steps, or over 65,536 actions taken to flatten all rules */
     CERAMBIU_IMAGE_COUNT = 17,   /* over 64 rules, blocks or Every slots */
@@ -89,7 +97,8 @@ enum cerambiu_refusal {
 /* STORE ------------------------------------------------------------------------------------------------------------------------------
  *
  * 16,384 words, made by cerambiu_new from whatever they held. A caller keeps them, copies them, saves them and brings them back; it need not look
- * inside. A store that was changed from outside is refused with 2 unless it still keeps every store rule. What it holds: the last time, the
+ * inside. A store that was changed from outside is refused with 2 unless it still keeps every store rule. Words that are all 0 keep them: they are a
+ * store without rules, so that 2 does not tell a store that was never made. What it holds: the last time, the
  * loaded image and its flat steps, rule bits, last activations, cycle positions, at most 16 variables, 16 timers, 64 Every slots and 32 pending
  * continuations, the previous week minute, the next sequence number, 13 counters. Places: docs/STORE.md.
  *
@@ -97,7 +106,7 @@ enum cerambiu_refusal {
  *
  * Eight tables, then a trailer of the last 13 words:
  *
- *   0  budget, 1 to 256: steps that one activation may take, its continuations included
+ *   0  budget, 1 to 256: steps that one run may take; a continuation begins with what was left when it was scheduled
  *   1  call depth, 0 to 8     2  repeat limit, 1 to 255     3  text limit, 0 to 255     4  group limit, 0 to 255
  *   5 to 12  first word of each table: rules, blocks, triggers, conditions, actions, values, time bounds, pool
  *
@@ -109,7 +118,7 @@ enum cerambiu_refusal {
  *   pool (1 word)     a scene, 0 to 255
  *
  * The other records are 8 words: a kind, then its fields. In the tables below: byte 0 to 255, id 0 to 65,535, ms a word, cmp one of enum
- * cerambiu_comparison, value / condition / bound an index into that table, actions a list (two words) that starts after its holder.
+ * cerambiu_comparison, value / condition / bound an index into that table, actions a list (two words) that starts after its holder if it is not empty.
  */
 
 enum cerambiu_action {
@@ -231,8 +240,8 @@ enum cerambiu_trigger {
  * What the bus driver knows at the time of a tick or a run: 14 words, then the rows of five tables, one behind the other.
  *
  *   0, 1   now, low and high word: the time of the call
- *   2      wall clock mark     3  weekday, 0 to 6     4  minute of the day, 0 to 1,439     (both 0 without a wall clock)
- *   5      sun mark            6  sunrise minute      7  sunset minute, 0 to 1,439         (both 0 without a sun)
+ *   2      wall clock mark     3  weekday, 0 to 6     4  minute of the day, 0 to 1,439     (3 and 4 are 0 without a wall clock)
+ *   5      sun mark            6  sunrise minute      7  sunset minute, 0 to 1,439         (6 and 7 are 0 without a sun)
  *   8      controller active mark
  *   9      lamps, at most 256  10 groups, 64          11 devices, 64          12 inputs, 128          13 hcl rows, 64
  *
@@ -267,9 +276,10 @@ enum cerambiu_outcome_trigger {
 
 /* The first that was met. A run does not stop at a step that fails. */
 enum cerambiu_reason {
-    CERAMBIU_REASON_NONE = 0,                  /* all steps ran */
+    CERAMBIU_REASON_NONE = 0,                  /* no step failed or was left out; what is behind a wait or in an after is still to come */
     CERAMBIU_REASON_CONDITION_UNEVALUABLE = 1, /* a condition could not be decided, or a step failed: unevaluable, a 17th timer or variable, a
-                                                  text over the limit, an unknown rule, a call or repeat that cannot be flattened */
+                                                  text over the limit, an unknown rule, a call or repeat that cannot be flattened, the
+                                                  end of a list that has more than 256 steps */
     CERAMBIU_REASON_EFFECT_BUDGET = 2,         /* the budget was spent with a step left, or 32 were pending and a continuation was dropped */
     CERAMBIU_REASON_CHAIN_DEPTH = 3            /* not given by ticks and runs, which start at depth 0 */
 };
@@ -331,13 +341,16 @@ uint32_t cerambiu_enable(uint32_t *store, size_t store_words, uint32_t rule, boo
 uint32_t cerambiu_tick(uint32_t *store, size_t store_words, const uint32_t *snapshot, size_t snapshot_words, uint32_t *outcomes,
                        size_t outcome_words, uint32_t *effects, size_t effect_words, uint32_t *answer, size_t answer_words);
 
-/* Runs a rule by hand, past its cooldown; its conditions hold. A dry run says what would happen, with the bodies of afters at the end, asks no rule bit
- * and changes nothing but counters and the last time. A rule that is not loaded, or is off, gives no outcome. Answer and refusals: as tick. */
+/* Runs a rule by hand, past its cooldown; its conditions are asked. A dry run tries the steps on the state as it is: all at once, past waits, the
+ * bodies of afters at the end, from one budget. So its effects are not those of a wet run (examples/dry.script). It asks no rule bit and changes
+ * nothing but counters and the last time. A rule that is not loaded, is off (wet), or whose conditions are not met gives no outcome. Answer and
+ * refusals: as tick. */
 uint32_t cerambiu_run(uint32_t *store, size_t store_words, uint32_t rule, bool dry, const uint32_t *snapshot, size_t snapshot_words,
                       uint32_t *outcomes, size_t outcome_words, uint32_t *effects, size_t effect_words, uint32_t *answer, size_t answer_words);
 
 /* The earliest time at which something is due: a continuation, a timer, an Every slot; with a wall trigger of a rule that is on, a second after the
- * last time at the latest. It may lie in the past. Answer: mark, low word, high word. Refusals: 1, 2. */
+ * last time at the latest. It may lie in the past, and stay there (examples/deadline.script): sleep for a tick's length at the least. Answer: mark,
+ * low word, high word. Refusals: 1, 2. */
 uint32_t cerambiu_next_deadline(const uint32_t *store, size_t store_words, uint32_t *answer, size_t answer_words);
 
 /* Answer: the 17 words of enum cerambiu_counter. Refusals: 1, 2. */
