@@ -2,6 +2,7 @@
 pub mod Words
 mod Definition
 mod Outcomes
+mod Lists
 mod Branches
 mod Copies
 pub mod RuleLists
@@ -10,4 +11,5 @@ pub mod Parts
 pub mod Induction
 pub mod Shape
 pub mod Counts
+pub mod OpenBound
 pub mod FlatPart

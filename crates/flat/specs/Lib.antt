@@ -3,3 +3,4 @@ pub mod Outcome
 pub mod Load
 pub mod Body
 pub mod Shape
+pub mod OpenLists

@@ -1,5 +1,6 @@
 // The cycle of flattening. "A block may call itself, down to the call depth limit": it falls on the calls left, then on the records
-// left in the table. The tail of the lent words is handed on as a mutable part.
+// left in the table. At most 12 lists are open at once (specs/OpenLists.antt, proofs/OpenBound.antt). The tail of the lent words is
+// handed on as a mutable part.
 use crate::Answer;
 use crate::Found;
 use crate::Progress;
@@ -24,7 +25,7 @@ ghost use Rattle.model.specs.declared.FlowAction.the-variants.{After, Repeat, C
 ghost use Rattle.model.specs.Flat.{flattenCall};
 ghost use Rattle.flat.specs.Outcome.{Start, Behind, ListOut, ActOut, listAt, actionAt, formAt};
 
-// `count` actions from record `first` on, behind n steps of the list around them.
+// `count` actions from record `first` on, behind n steps of the list around them: one after the other. Only nested lists and calls recurse.
 pub fn flatten_list(
     acts: &[u32],
     blocks: &[u32],
@@ -38,42 +39,44 @@ pub fn flatten_list(
     requires { ⌜ first + count ≤ length (now acts) / 8 ⌝ }
     ensures { λ r. ⌜ ListOut (p .ctx .«in_repeat») (p .left) (listAt (now (acts .entry)) (now (blocks .entry)) (p .depth) first count (p .ctx) (p .n)) (now (seen .entry)) (now (words .exit)) r ⌝ }
 {
-    if count == 0 {
-        return Answer::Done(0, 0, p.left);
+    let end = first + count;
+    let mut i = first;
+    let mut n = p.n;
+    let mut size: usize = 0;
+    let mut left = p.left;
+    while i < end {
+        let at = tail_start(size, words.len());
+        let behind = tail_start(size, seen.len());
+        if 256 <= n {
+            let Answer::Done(c, s, l) = push(&mut words[at..], &seen[behind..], 4, 0, left) else {
+                return Answer::Refused;
+            };
+            return Answer::Done(n - p.n + c, size + s, l);
+        }
+        if left == 0 {
+            return Answer::Refused;
+        }
+        let here = Progress {
+            n,
+            left: left - 1,
+            ..p
+        };
+        let Answer::Done(c, s, l) = flatten_action(
+            acts,
+            blocks,
+            &mut words[at..],
+            &seen[behind..],
+            i,
+            here,
+        ) else {
+            return Answer::Refused;
+        };
+        n += c;
+        size += s;
+        left = l;
+        i += 1;
     }
-    if 256 <= p.n {
-        return push(words, seen, 4, 0, p.left);
-    }
-    if p.left == 0 {
-        return Answer::Refused;
-    }
-    let here = Progress {
-        left: p.left - 1,
-        ..p
-    };
-    let Answer::Done(counted, size, left) = flatten_action(acts, blocks, words, seen, first, here)
-    else {
-        return Answer::Refused;
-    };
-    let at = tail_start(size, words.len());
-    let behind = tail_start(size, seen.len());
-    let next = Progress {
-        n: p.n + counted,
-        left,
-        ..p
-    };
-    let Answer::Done(c, s, l) = flatten_list(
-        acts,
-        blocks,
-        &mut words[at..],
-        &seen[behind..],
-        first + 1,
-        count - 1,
-        next,
-    ) else {
-        return Answer::Refused;
-    };
-    Answer::Done(counted + c, size + s, l)
+    Answer::Done(n - p.n, size, left)
 }
 
 // The action of record i.

@@ -1,4 +1,4 @@
--- The proof of the cycle of calls of flattening: each function's answers stand in a file of its own. Assumes noSteps.
+-- The proof of the cycle of calls of flattening: each function's answers stand in a file of its own. Assumes nothing.
 mod Measures
 mod Action
 mod After

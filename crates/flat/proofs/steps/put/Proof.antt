@@ -1,4 +1,4 @@
--- `flat::steps::put` meets its contract: four stores. Assumes noSteps.
+-- `flat::steps::put` meets its contract: four stores. Assumes nothing.
 use borrow.Author.Needs.{needs}
 use native.Mathlib.Omega.{arith}
 use mathlib.Core.Path.{_≡_, refl}
