@@ -9,7 +9,7 @@ use Rattle.model.specs.Actions as actions
 use Rattle.model.specs.Dry.{runStepsDry}
 use Rattle.model.specs.Exec.{runSteps}
 use Rattle.model.specs.Image.{budget}
-use Rattle.model.specs.Outcome.{started, resumed}
+use Rattle.model.specs.Outcome.{started, resumed, aborted}
 use Rattle.model.specs.Rules.{nameOf, holdHclOf, ruleNamed}
 use Rattle.model.specs.State as model-state
 use Rattle.model.specs.State.{Env, Rest, withRest, activationsDry, continuationsFired}
@@ -79,11 +79,11 @@ module _ (snapshot image steps : List ℕ) (i kind depth : ℕ) (mode : Mode) (x
     begins ow′ ew′ t h = same-handles steps i _ _ x ow ew r ow′ ew′ (activated a Begins d t) (subst (λ (k : Job). Executes snapshot image steps k x ow ew r ow′ ew′) is-job h)
 
     abbrev refusedWith : Rest → ℕ → model.Handled
-    refusedWith s reason = record { vol = withRest s (meaning (x .vol)); outcomes = model.outcome (jobOf job) [] reason ∷ []; trace = [] }
+    refusedWith s reason = record { vol = withRest s (meaning (x .vol)); outcomes = model.outcome (jobOf job) [] reason ∷ []; trace = aborted (job .rule) ∷ [] }
 
     refusing : (ow′ : List ℕ) (y : Handled) (s : Rest) (reason : ℕ) → Changes x s y → Refuses y ow j reason r ow′ → Handles steps i (λ flat. refusedWith s reason) x ow ew r ow′ ew
     refusing ow′ y s reason b h =
-        let k : List (List Step) → model-state.Volatile → model.Handled = λ flat m. record { vol = m; outcomes = model.outcome (jobOf job) [] reason ∷ []; trace = [] } in
+        let k : List (List Step) → model-state.Volatile → model.Handled = λ flat m. record { vol = m; outcomes = model.outcome (jobOf job) [] reason ∷ []; trace = aborted (job .rule) ∷ [] } in
         after-change x y s b steps i k ow ew r ow′ ew (refuses steps i y ow ew job reason r ow′ (subst (λ (k : Job). Refuses y ow k reason r ow′) is-job h))
 
     pub too-deep : (ow′ : List ℕ) (y : Handled) → a ≡ TooDeep → Counts model-state.chainDepthExceeded x y → Refuses y ow j model.chainDepth r ow′
@@ -107,7 +107,7 @@ module _ (snapshot image steps : List ℕ) (i : ℕ) (c : Pending) (x y : Handle
   resumedJob = record { rule = c .rule; index = i; hold = holdHclOf image i; trigger = c .trigger; dry = false }
 
   abbrev resumedRun : List (List Step) → model-state.Volatile → model.Handled
-  resumedRun flat m = model.finished (jobOf resumedJob) (resumed (c .rule)) (runSteps (c .budget) (envOf snapshot image flat) (jobOf resumedJob) (c .point) m)
+  resumedRun flat m = model.finished (jobOf resumedJob) (resumed c) (runSteps (c .budget) (envOf snapshot image flat) (jobOf resumedJob) (c .point) m)
 
   is-resumed : ruleNamed image (c .rule) ≡ some i → (flat : List (List Step))
       → resumedRun flat (withRest (model-state.bump continuationsFired (meaning (x .vol) .rest)) (meaning (x .vol))) ≡ model.resume (envOf snapshot image flat) c (meaning (x .vol))
@@ -118,4 +118,4 @@ module _ (snapshot image steps : List ℕ) (i : ℕ) (c : Pending) (x y : Handle
       → Resumes snapshot image steps i c x ow ew r ow′ ew′
   resumes j e named a h =
       same-handles steps i _ _ x ow ew r ow′ ew′ (is-resumed named)
-      (after-change x y _ a steps i resumedRun ow ew r ow′ ew′ (subst (λ (k : Job). RunsWet snapshot image steps k (c .point) (c .budget) y ow ew r ow′ ew′) e h (resumed (c .rule))))
+      (after-change x y _ a steps i resumedRun ow ew r ow′ ew′ (subst (λ (k : Job). RunsWet snapshot image steps k (c .point) (c .budget) y ow ew r ow′ ew′) e h (resumed c)))

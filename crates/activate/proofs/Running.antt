@@ -12,7 +12,7 @@ use Rattle.model.specs.Activate.{noOutcome}
 use Rattle.model.specs.Dry.{DryOutput, runStepsDry}
 use Rattle.model.specs.Exec.{RunOutput, runSteps}
 use Rattle.model.specs.Image.{budget}
-use Rattle.model.specs.Outcome.{Item}
+use Rattle.model.specs.Outcome.{Item, aborted}
 use Rattle.model.specs.State as model-state
 use Rattle.model.specs.State.{Rest, withRest, withLastActivation, bumpBy, activationsTotal, effectsEmitted, partialOutcomes}
 use Rattle.model.specs.Steps.{start}
@@ -56,7 +56,7 @@ pushed x ow ew v j reason count r ow′ ew′ p s es why trace m e n w =
 pub refused : (x : Handled) (ow : List ℕ) (j : Job) (reason : ℕ) (r : Handled) (ow′ : List ℕ) → Sound (x .vol) → Pushes x ow (x .vol) j reason (x .effects) r ow′ → Refuses x ow j reason r ow′
 unfolding putEffects
 refused x ow j reason r ow′ s p ew =
-    pushed x ow ew (x .vol) j reason (x .effects) r ow′ ew p (meaning (x .vol)) [] reason [] (record { says = refl; sound = s; based = refl }) refl (omega arith) refl
+    pushed x ow ew (x .vol) j reason (x .effects) r ow′ ew p (meaning (x .vol)) [] reason (aborted (j .rule) ∷ []) (record { says = refl; sound = s; based = refl }) refl (omega arith) refl
 
 -- ---- the state changes, but for its continuations
 module _ (x y : Handled) (s : Rest) (c : Changes x s y) where
@@ -95,7 +95,7 @@ same-handles steps i h k x ow ew r ow′ ew′ e a =
 
 -- an outcome without effects
 pub refuses : (steps : List ℕ) (i : ℕ) (x : Handled) (ow ew : List ℕ) (j : Job) (reason : ℕ) (r : Handled) (ow′ : List ℕ) → Refuses x ow j reason r ow′
-    → Handles steps i (λ flat. record { vol = meaning (x .vol); outcomes = model.outcome (jobOf j) [] reason ∷ []; trace = [] }) x ow ew r ow′ ew
+    → Handles steps i (λ flat. record { vol = meaning (x .vol); outcomes = model.outcome (jobOf j) [] reason ∷ []; trace = aborted (j .rule) ∷ [] }) x ow ew r ow′ ew
 unfolding model.outcome
 refuses steps i x ow ew j reason r ow′ h =
     record { says = λ flat e. h ew; within = within-by 1 x ow ew _ r ow′ ew (h ew) (omega arith) (omega arith) (omega arith) }

@@ -10,6 +10,7 @@ use Rattle.state.specs.declared.Volatile.{Volatile}
 use Rattle.exec.specs.Results.{jobOf}
 use Rattle.exec.specs.declared.Job.{Job}
 use Rattle.activate.specs.Handled.{putOutcome, Continues}
+use Rattle.model.specs.Outcome.{aborted}
 use Rattle.activate.specs.declared.Handled.{Handled}
 
 -- the outcome of a job with so many effects is written
@@ -26,4 +27,4 @@ pub record Pushes (x : Handled) (w : List ℕ) (v : Volatile) (j : Job) (reason 
 -- an outcome with no effects, for this reason
 abbrev pub Refuses : Handled → List ℕ → Job → ℕ → Handled → List ℕ → Type 0
 Refuses x ow j reason r ow′ =
-    (ew : List ℕ) → Continues x ow ew (record { vol = meaning (x .vol); outcomes = model.outcome (jobOf j) [] reason ∷ []; trace = [] }) r ow′ ew
+    (ew : List ℕ) → Continues x ow ew (record { vol = meaning (x .vol); outcomes = model.outcome (jobOf j) [] reason ∷ []; trace = aborted (j .rule) ∷ [] }) r ow′ ew

@@ -84,6 +84,10 @@ examples =
     ([] ∷ ((5 ∷ 0 ∷ 2 ∷ 1 ∷ []) ∷ []) ∷ ([] ∷ []) ∷ []) ∷
     -- a dry run spends its budget too: B 2, and three Logs
     edge (history (doing 2 3 (logs 3)) (runDry 5 0 ∷ [])) ([] ∷ ((5 ∷ 2 ∷ 7 ∷ 7 ∷ []) ∷ []) ∷ []) ∷
+    -- Fail does not stop a dry run either
+    edge (history (doing 8 2 ((25 ∷ 9 ∷ []) ∷ log 1 ∷ [])) (runDry 5 0 ∷ [])) ([] ∷ ((5 ∷ 1 ∷ 1 ∷ []) ∷ []) ∷ []) ∷
+    -- nor is a skipped branch charged in one
+    edge (history skipping (runDry 5 0 ∷ [])) ([] ∷ ((5 ∷ 0 ∷ 3 ∷ []) ∷ []) ∷ []) ∷
     -- disabling a rule strikes its continuations
     edge (history notDue (runWet 5 0 ∷ enable 5 false ∷ tickAt 10 ∷ runWet 5 20 ∷ [])) ([] ∷ ((5 ∷ 0 ∷ []) ∷ []) ∷ [] ∷ [] ∷ [] ∷ []) ∷
     -- a slot of equal rule, place and period is kept

@@ -1,166 +1,263 @@
--- The trace of a tick or a wet run is made of runs of its rules' lists, and its effects are those of the outcomes.
-use mathlib.Core.Path.{_≡_, refl, sym, _∙_, ap, ap₂, subst}
+-- The trace of a tick or a wet run is made of runs of its rules' lists, each with its outcome.
+use mathlib.Core.Path.{_≡_, refl, sym, _∙_, ap, subst}
 use Prim.Native.Nat.{ℕ, zero, suc}
-use mathlib.Core.Bool.{Bool, true, false, true≢false}
-use mathlib.Core.List.{List, [], _∷_, _++_, map, append-nil, append-assoc}
+use mathlib.Core.Bool.{Bool, true, false, cond, true≢false, _&&_}
+use mathlib.Core.List.{List, [], _∷_, _++_, append-nil, append-assoc}
 use mathlib.Core.Option.{Option, none, some}
-use Rattle.model.specs.Lists.{orElse, toList}
+use lib.Dec.{ltb}
+use Rattle.model.specs.Lists.{orElse}
 use Rattle.model.specs.Image.{budget}
-use Rattle.model.specs.Rules.{nameOf, ruleNamed}
+use Rattle.model.specs.Rules.{nameOf, ruleNamed, nameOrder, conditionsOfRule}
 use Rattle.model.specs.Snapshot.{snapshotRefusal}
+use Rattle.model.specs.Load.{imageRefusalWith}
+use Rattle.model.specs.Flat.{Flattened, flattenRules}
 use Rattle.model.specs.World.{nowOf, worldOf}
-use Rattle.model.specs.Outcome.{Outcome, Item, started, resumed, paid}
+use Rattle.model.specs.declared.Effect.{Effect}
+use Rattle.model.specs.Outcome.{Outcome, Item, started, resumed, aborted, paid}
 use Rattle.model.specs.declared.Pending.{Pending}
-use Rattle.model.specs.State.{Env, Volatile, RuleSet, Store, withRest, isEnabled, bump, continuationsFired}
-use Rattle.model.specs.Actions.{Job}
+use Rattle.model.specs.declared.Point.{Point}
+use Rattle.model.specs.State.{Env, Rest, Volatile, RuleSet, Store, withRest, isEnabled, bump, continuationsFired, suppressedCooldown}
+use Rattle.model.specs.Eval.{conditionsHold}
+use Rattle.model.specs.Actions.{Job, conditionUnevaluable}
 use Rattle.model.specs.Exec.{RunOutput, runSteps}
-use Rattle.model.specs.Activate.{Mode, Auto, Manual, isDry, Handled, noOutcome, andThen, outcome, jobOf, Decision, begins, suppressed, tooDeep, unevaluable, decide, finished, executeWet, execute, decided, activate, resume}
+use Rattle.model.specs.Activate.{Mode, Auto, Manual, isDry, isAuto, Handled, noOutcome, andThen, outcome, jobOf, inCooldown, Decision, begins, suppressed, tooDeep, unevaluable, verdict, decide, finished, executeWet, execute, decided, activate, resume}
 use Rattle.model.specs.Steps.{start}
 use Rattle.model.specs.Wheel.{dueNow, resumeAll, fireContinuations, serviceTick}
-use Rattle.model.specs.Rules.{nameOrder}
-use Rattle.model.specs.Calls.{tick, run, Done, overflow, committing, committed, tickWith, runRule, runWith, given as given-to, refuse, call}
-use Rattle.ledger.specs.Ledger.{Entry, entryOf}
-use Rattle.ledger.specs.Trace.{effectsIn, given, FaithfulTrace, RunOf, TraceOf, none-runs, resumption, activation}
+use Rattle.model.specs.Calls.{Call, new, load, unload, enable, tick, run, deadline, counters, Done, overflow, loading, callLoad, callUnload, enabling, ruleIn, callEnable, committing, committed, tickWith, runRule, runWith, given, refuse, call}
+use Rattle.ledger.specs.Ledger.{resumedIn}
+use Rattle.ledger.specs.Trace.{effectsIn, RunOf, ended, exhausted, waits, continues, wetOutcome, ActivationsOf, no-more, activation, TraceOf, activations, resumption, NoOutput, Ticks, OnlyOf, RunsWet, Conforms}
+use Rattle.ledger.specs.Trace as trace
 use Rattle.ledger.proofs.RunTrace.{run-effects, run-trace}
 use Rattle.ledger.proofs.ListLaws.{by}
 use Rattle.ledger.proofs.Wheel.{WheelLaws, every-any, wheel}
+use Rattle.ledger.proofs.WetRuns.{run-only}
 
--- A part of a call: it resumes these entries in order, then come activations; and its effects are the outcomes'.
-pub record Faithful (set : RuleSet) (xs : List Entry) (x : Handled) : Type 0 where
-  pub runs : TraceOf set xs (x .trace)
-  pub effects : given (x .outcomes) ≡ effectsIn (x .trace)
+-- PARTS OF A CALL: first these records resume, in order, then come activations ------------------------------------------------------
+pub data PartOf (set : RuleSet) : List Pending → List Item → List Outcome → Type 0 where
+  behind : {ms : List Item} {os : List Outcome} → ActivationsOf set ms os → PartOf set [] ms os
+  first : {c : Pending} {cs : List Pending} {reason : ℕ} {ms rest : List Item} {os : List Outcome}
+      → RunOf set (orElse 0 (ruleNamed (set .image) (c .rule))) (c .budget) (c .point) ms reason → PartOf set cs rest os
+      → PartOf set (c ∷ cs) (resumed c ∷ (ms ++ rest)) (wetOutcome (c .rule) (c .trigger) reason ms ∷ os)
 
-effects-append : (xs ys : List Item) → effectsIn (xs ++ ys) ≡ effectsIn xs ++ effectsIn ys
-effects-append [] ys = refl
-effects-append (started r ∷ xs) ys = effects-append xs ys
-effects-append (resumed r ∷ xs) ys = effects-append xs ys
-effects-append (paid x s g ∷ xs) ys =
-    ap (λ zs. toList g ++ zs) (effects-append xs ys) ∙ sym (append-assoc (toList g) (effectsIn xs) (effectsIn ys))
+trace-of : {set : RuleSet} {cs : List Pending} {ms : List Item} {os : List Outcome} → PartOf set cs ms os → TraceOf set ms os
+trace-of (behind p) = activations p
+trace-of (first w p) = resumption w (trace-of p)
 
-given-append : (xs ys : List Outcome) → given (xs ++ ys) ≡ given xs ++ given ys
-given-append [] ys = refl
-given-append (o ∷ xs) ys = ap (λ zs. o .effects ++ zs) (given-append xs ys) ∙ sym (append-assoc (o .effects) (given xs) (given ys))
+activations-of : {set : RuleSet} {ms : List Item} {os : List Outcome} → PartOf set [] ms os → ActivationsOf set ms os
+activations-of (behind p) = p
 
-runs-append : {f : RuleSet} {xs : List Entry} {a b : List Item} → TraceOf f xs a → TraceOf f [] b → TraceOf f xs (a ++ b)
-runs-append none-runs q = q
-runs-append {f} {b = b} (resumption {x = x} {xs = xs} {ms = ms} {rest = rest} w p) q =
-    subst (λ zs. TraceOf f (x ∷ xs) (resumed (x .rule) ∷ zs)) (sym (append-assoc ms rest b)) (resumption w (runs-append p q))
-runs-append {f} {b = b} (activation {i = i} {ms = ms} {rest = rest} w p) q =
-    subst (λ zs. TraceOf f [] (started (nameOf (f .image) i) ∷ zs)) (sym (append-assoc ms rest b)) (activation w (runs-append p q))
+-- the records of a part are those of its trace: a run's steps and activations resume none
+run-resumes : {set : RuleSet} {i b reason : ℕ} {sp : Point} {ms : List Item} (rest : List Item) → RunOf set i b sp ms reason → resumedIn (ms ++ rest) ≡ resumedIn rest
+run-resumes rest (ended h) = refl
+run-resumes rest (exhausted h) = refl
+run-resumes rest (waits h) = refl
+run-resumes rest (continues q h r l w) = run-resumes rest w
+
+none-resumed : {set : RuleSet} {ms : List Item} {os : List Outcome} → ActivationsOf set ms os → resumedIn ms ≡ []
+none-resumed no-more = refl
+none-resumed (activation {rest = rest} w p) = run-resumes rest w ∙ none-resumed p
+none-resumed (trace.unevaluable i p) = none-resumed p
+
+pub part-resumes : {set : RuleSet} {cs : List Pending} {ms : List Item} {os : List Outcome} → PartOf set cs ms os → resumedIn ms ≡ cs
+part-resumes (behind p) = none-resumed p
+part-resumes (first {c = c} {rest = rest} w p) = ap (λ cs. c ∷ cs) (run-resumes rest w ∙ part-resumes p)
+
+-- one part behind another
+activations-append : {set : RuleSet} {a b : List Item} {os bs : List Outcome} → ActivationsOf set a os → ActivationsOf set b bs → ActivationsOf set (a ++ b) (os ++ bs)
+activations-append no-more q = q
+activations-append {set} {b = b} {bs = bs} (activation {i = i} {kind = kind} {reason = reason} {ms = ms} {rest = rest} {os = os} w p) q =
+    subst (λ zs. ActivationsOf set (started (nameOf (set .image) i) ∷ zs) (wetOutcome (nameOf (set .image) i) kind reason ms ∷ (os ++ bs))) (sym (append-assoc ms rest b))
+    (activation w (activations-append p q))
+activations-append (trace.unevaluable i p) q = trace.unevaluable i (activations-append p q)
+
+part-append : {set : RuleSet} {cs : List Pending} {a b : List Item} {os bs : List Outcome} → PartOf set cs a os → ActivationsOf set b bs → PartOf set cs (a ++ b) (os ++ bs)
+part-append (behind p) q = behind (activations-append p q)
+part-append {set} {b = b} {bs = bs} (first {c = c} {cs = cs} {reason = reason} {ms = ms} {rest = rest} {os = os} w p) q =
+    subst (λ zs. PartOf set (c ∷ cs) (resumed c ∷ zs) (wetOutcome (c .rule) (c .trigger) reason ms ∷ (os ++ bs))) (sym (append-assoc ms rest b)) (first w (part-append p q))
+
+pub record Faithful (set : RuleSet) (cs : List Pending) (x : Handled) : Type 0 where
+  pub part : PartOf set cs (x .trace) (x .outcomes)
+
+-- at depth 0 no chain is too deep
+Shallow : Decision → Type 0
+Shallow (begins s) = Unit {0}
+Shallow (suppressed s) = Unit {0}
+Shallow (tooDeep s) = ⊥
+Shallow (unevaluable s) = Unit {0}
+
+shallow-verdict : (o : Option Bool) (dry : Bool) (s : Rest) → Shallow (verdict o dry s)
+unfolding Shallow
+shallow-verdict none dry s = tt
+shallow-verdict (some true) dry s = tt
+shallow-verdict (some false) dry s = tt
+
+shallow : (e : Env) (i : ℕ) (m : Mode) (s : Rest) → Shallow (decide e i 0 m s)
+unfolding decide
+shallow e i m s =
+    by (isAuto m && inCooldown e i s) (λ t. rw t (unfold Shallow in tt))
+    (λ f. rw f (shallow-verdict (conditionsHold e s (conditionsOfRule (e .set .image) i)) (isDry m) s))
 
 module _ (e : Env) where
   no-outcome : (v : Volatile) → Faithful (e .set) [] (noOutcome v)
-  no-outcome v = record { runs = none-runs; effects = refl }
+  no-outcome v = record { part = behind no-more }
 
-  and-then : (xs : List Entry) (x : Handled) (K : Volatile → Handled) → Faithful (e .set) xs x → Faithful (e .set) [] (K (x .vol)) → Faithful (e .set) xs (andThen x K)
-  and-then xs x K p q =
-      record {
-        runs = runs-append (p .runs) (q .runs);
-        effects = given-append (x .outcomes) _ ∙ ap₂ _++_ (p .effects) (q .effects) ∙ sym (effects-append (x .trace) _);
-      }
+  and-then : (cs : List Pending) (x : Handled) (K : Volatile → Handled) → Faithful (e .set) cs x → Faithful (e .set) [] (K (x .vol)) → Faithful (e .set) cs (andThen x K)
+  and-then cs x K p q = record { part = part-append (p .part) (activations-of (q .part)) }
+
+  -- the outcome of a wet job tells its rule, its trigger and the run's effects and reason
+  wet-outcome : (w : Job) (name : ℕ) (effects : List Effect) (reason : ℕ) (ms : List Item) → w .dry ≡ false → w .rule ≡ name → effects ≡ effectsIn ms
+      → outcome w effects reason ≡ wetOutcome name (w .trigger) reason ms
+  unfolding outcome
+  wet-outcome w name effects reason ms wet er y =
+      λ i. record { rule = er i; dry = cond (wet i) 1 0; trigger = w .trigger; reason = reason; effects = y i }
 
   -- a wet activation of the rule at the job's place
-  starts : (w : Job) (r : RunOutput) → w .rule ≡ nameOf (e .set .image) (w .index) → RunOf (e .set) (w .index) (budget (e .set .image)) start (r .trace)
-      → r .effects ≡ effectsIn (r .trace) → Faithful (e .set) [] (finished w (started (w .rule)) r)
-  unfolding outcome
-  starts w r er z y =
+  starts : (w : Job) (r : RunOutput) → w .dry ≡ false → w .rule ≡ nameOf (e .set .image) (w .index)
+      → RunOf (e .set) (w .index) (budget (e .set .image)) start (r .trace) (r .reason) → r .effects ≡ effectsIn (r .trace)
+      → Faithful (e .set) [] (finished w (started (w .rule)) r)
+  starts w r wet er z y =
+      let name = nameOf (e .set .image) (w .index) in
+      let a : ActivationsOf (e .set) (started name ∷ (r .trace ++ [])) (wetOutcome name (w .trigger) (r .reason) (r .trace) ∷ []) = activation z no-more in
+      let b = subst (λ ms. ActivationsOf (e .set) (started name ∷ ms) (wetOutcome name (w .trigger) (r .reason) (r .trace) ∷ [])) (append-nil (r .trace)) a in
+      let c = subst (λ n. ActivationsOf (e .set) (started n ∷ r .trace) (wetOutcome name (w .trigger) (r .reason) (r .trace) ∷ [])) (sym er) b in
       record {
-        runs = subst (λ n. TraceOf (e .set) [] (started n ∷ r .trace)) (sym er)
-            (subst (λ ms. TraceOf (e .set) [] (started (nameOf (e .set .image) (w .index)) ∷ ms)) (append-nil (r .trace)) (activation z none-runs));
-        effects = append-nil (r .effects) ∙ y;
+        part = behind (subst (λ o. ActivationsOf (e .set) (started (w .rule) ∷ r .trace) (o ∷ [])) (sym (wet-outcome w name (r .effects) (r .reason) (r .trace) wet er y)) c);
       }
+
+  aborts : (w : Job) (v : Volatile) → w .dry ≡ false → w .rule ≡ nameOf (e .set .image) (w .index)
+      → Faithful (e .set) [] (record { vol = v; outcomes = outcome w [] conditionUnevaluable ∷ []; trace = aborted (w .rule) ∷ [] })
+  aborts w v wet er =
+      let name = nameOf (e .set .image) (w .index) in
+      let a : ActivationsOf (e .set) (aborted name ∷ []) (wetOutcome name (w .trigger) conditionUnevaluable [] ∷ []) = trace.unevaluable (w .index) no-more in
+      let b = subst (λ n. ActivationsOf (e .set) (aborted n ∷ []) (wetOutcome name (w .trigger) conditionUnevaluable [] ∷ [])) (sym er) a in
+      record { part = behind (subst (λ o. ActivationsOf (e .set) (aborted (w .rule) ∷ []) (o ∷ [])) (sym (wet-outcome w name [] conditionUnevaluable [] wet er refl)) b) }
 
   wet-execute : (w : Job) (d : Bool) (v : Volatile) → d ≡ false → w .dry ≡ false → w .rule ≡ nameOf (e .set .image) (w .index) → Faithful (e .set) [] (execute e w d v)
   unfolding executeWet
   wet-execute w true v t wet er = absurd (true≢false t)
   wet-execute w false v t wet er =
-      starts w _ er (run-trace (budget (e .set .image)) e w wet start _) ((run-effects (budget (e .set .image)) e w start _) .effects)
+      starts w _ wet er (run-trace (budget (e .set .image)) e w wet start _) ((run-effects (budget (e .set .image)) e w start _) .effects)
 
-  decides : (w : Job) (d : Decision) (v : Volatile) → w .dry ≡ false → w .rule ≡ nameOf (e .set .image) (w .index) → Faithful (e .set) [] (decided d e w v)
-  unfolding outcome
-  decides w (begins s) v wet er = wet-execute w (w .dry) (withRest s v) wet wet er
-  decides w (suppressed s) v wet er = no-outcome (withRest s v)
-  decides w (tooDeep s) v wet er = record { runs = none-runs; effects = refl }
-  decides w (unevaluable s) v wet er = record { runs = none-runs; effects = refl }
+  decides : (w : Job) (d : Decision) (v : Volatile) → Shallow d → w .dry ≡ false → w .rule ≡ nameOf (e .set .image) (w .index) → Faithful (e .set) [] (decided d e w v)
+  unfolding Shallow
+  decides w (begins s) v h wet er = wet-execute w (w .dry) (withRest s v) wet wet er
+  decides w (suppressed s) v h wet er = no-outcome (withRest s v)
+  decides w (tooDeep s) v h wet er = absurd h
+  decides w (unevaluable s) v h wet er = aborts w (withRest s v) wet er
 
   activates : (i kind : ℕ) (m : Mode) (v : Volatile) → isDry m ≡ false → Faithful (e .set) [] (activate e i kind 0 m v)
   unfolding activate jobOf
-  activates i kind m v wet = decides (jobOf e (nameOf (e .set .image) i) i kind (isDry m)) (decide e i 0 m (v .rest)) v wet refl
+  activates i kind m v wet =
+      decides (jobOf e (nameOf (e .set .image) i) i kind (isDry m)) (decide e i 0 m (v .rest)) v (shallow e i m (v .rest)) wet refl
 
   -- behind the resumptions there are activations only
-  trace-laws : WheelLaws e (List Entry) (λ i. Unit {0}) (λ xs. Unit {0}) (λ xs v. xs ≡ []) (Faithful (e .set))
+  trace-laws : WheelLaws e (List Pending) (λ i. Unit {0}) (λ cs. Unit {0}) (λ cs v. cs ≡ []) (Faithful (e .set))
   trace-laws =
       record {
-        next = λ xs x. [];
-        nothing = λ xs v p. subst (λ ys. Faithful (e .set) ys (noOutcome v)) (sym p) (no-outcome v);
-        within = λ xs v p. tt;
-        behind = λ xs x p a. refl;
-        both = λ xs x K a b. and-then xs x K a b;
+        next = λ cs x. [];
+        nothing = λ cs v p. subst (λ ds. Faithful (e .set) ds (noOutcome v)) (sym p) (no-outcome v);
+        within = λ cs v p. tt;
+        behind = λ cs x p a. refl;
+        both = λ cs x K a b. and-then cs x K a b;
         order = every-any (nameOrder (e .set .image));
         slot = λ r i q. tt;
-        starts = λ xs i kind v our le p. subst (λ ys. Faithful (e .set) ys (activate e i kind 0 Auto v)) (sym p) (activates i kind Auto v refl);
-        timers = λ xs v p. p;
-        slots = λ xs v p. p;
-        unsynced = λ xs v p. p;
-        week = λ xs v w q p. p;
-        no-week = λ xs v p. p;
+        starts = λ cs i kind v our le p. subst (λ ds. Faithful (e .set) ds (activate e i kind 0 Auto v)) (sym p) (activates i kind Auto v refl);
+        timers = λ cs v p. p;
+        slots = λ cs v p. p;
+        unsynced = λ cs v p. p;
+        week = λ cs v w q p. p;
+        no-week = λ cs v p. p;
       }
 
-  resumes : (cs : List Pending) (v : Volatile) → Faithful (e .set) (map entryOf cs) (resumeAll e cs v)
-  unfolding resumeAll resume jobOf outcome entryOf
+  resumes : (cs : List Pending) (v : Volatile) → Faithful (e .set) cs (resumeAll e cs v)
+  unfolding resumeAll resume jobOf
   resumes [] v = no-outcome v
   resumes (c ∷ cs) v =
       let w : Job = jobOf e (c .rule) (orElse 0 (ruleNamed (e .set .image) (c .rule))) (c .trigger) false in
       let s = withRest (bump continuationsFired (v .rest)) v in
       let r = runSteps (c .budget) e w (c .point) s in
       let ih = resumes cs ((resume e c v) .vol) in
+      let rest = resumeAll e cs ((resume e c v) .vol) in
       record {
-        runs = resumption (run-trace (c .budget) e w refl (c .point) s) (ih .runs);
-        effects = ap₂ _++_ ((run-effects (c .budget) e w (c .point) s) .effects) (ih .effects) ∙ sym (effects-append (r .trace) _);
+        part =
+            subst (λ o. PartOf (e .set) (c ∷ cs) (resumed c ∷ (r .trace ++ rest .trace)) (o ∷ rest .outcomes))
+            (sym (wet-outcome w (c .rule) (r .effects) (r .reason) (r .trace) refl refl ((run-effects (c .budget) e w (c .point) s) .effects)))
+            (first (run-trace (c .budget) e w refl (c .point) s) (ih .part));
       }
 
-  ticks : (v : Volatile) → Faithful (e .set) (map entryOf (dueNow (e .world .now) (v .pending))) (serviceTick e v)
+  pub ticks : (v : Volatile) → Faithful (e .set) (dueNow (e .world .now) (v .pending)) (serviceTick e v)
   unfolding serviceTick fireContinuations
   ticks v =
-      wheel e (List Entry) (λ i. Unit {0}) (λ xs. Unit {0}) (λ xs u. xs ≡ []) (Faithful (e .set)) trace-laws (map entryOf (dueNow (e .world .now) (v .pending))) (fireContinuations e v) tt
+      wheel e (List Pending) (λ i. Unit {0}) (λ cs. Unit {0}) (λ cs u. cs ≡ []) (Faithful (e .set)) trace-laws (dueNow (e .world .now) (v .pending)) (fireContinuations e v) tt
       (resumes _ _)
 
-  runs-wet : (x : Option ℕ) (v : Volatile) → Faithful (e .set) [] (runRule e x false v)
+  pub runs-wet : (x : Option ℕ) (v : Volatile) → Faithful (e .set) [] (runRule e x false v)
   runs-wet none v = no-outcome v
   runs-wet (some i) v = by (isEnabled (v .rest) i) (λ t. rw t (activates i 0 Manual v refl)) (λ f. rw f (no-outcome _))
 
--- THE CALLS THAT RUN STEPS: a tick and a wet run, of any store with the set in it --------------------------------------------------------
-module _ (set : RuleSet) where
-  refuses : (n : ℕ) (s : Store) → FaithfulTrace set (refuse n s)
-  refuses n s = record { runs = none-runs; effects = refl }
+-- THE CALLS ---------------------------------------------------------------------------------------------------------------------------
+-- a tick, with the set in the store or without one
+ticks-refused : (o : Option RuleSet) (n : ℕ) (s : Store) → Ticks o (refuse n s)
+ticks-refused none n s = record { trace = refl; outcomes = refl }
+ticks-refused (some set) n s = activations no-more
 
-  commits : (n now : ℕ) (cs : List Pending) (x : Handled) (s : Store) → Faithful set (map entryOf cs) x → FaithfulTrace set (committing n now cs x s)
-  commits zero now cs x s h = record { runs = h .runs; effects = h .effects }
-  commits (suc n) now cs x s h = refuses (suc n) s
+tick-commits : (n now : ℕ) (x : Handled) (s : Store) (set : RuleSet) (cs : List Pending) → Faithful set cs x → Ticks (some set) (committing n now x s)
+tick-commits zero now x s set cs h = trace-of (h .part)
+tick-commits (suc n) now x s set cs h = ticks-refused (some set) (suc n) s
 
-  snapshot-given : (n : ℕ) (s : Store) (K : Store → Done) → FaithfulTrace set (K s) → FaithfulTrace set (given-to n s K)
-  snapshot-given zero s K h = h
-  snapshot-given (suc n) s K h = refuses (suc n) s
+no-output-commits : (n now : ℕ) (v : Volatile) (s : Store) → NoOutput (committing n now (noOutcome v) s)
+no-output-commits zero now v s = record { trace = refl; outcomes = refl }
+no-output-commits (suc n) now v s = record { trace = refl; outcomes = refl }
 
-  tick-of : (snap : List ℕ) (os es : ℕ) (s : Store) → FaithfulTrace set (tickWith (some set) snap os es s)
-  unfolding tickWith committed worldOf
-  tick-of snap os es s =
-      let e : Env = record { world = worldOf snap; set = set } in
-      commits (overflow os es (serviceTick e (s .vol))) (nowOf snap) (dueNow (nowOf snap) (s .vol .pending)) (serviceTick e (s .vol)) s (ticks e (s .vol))
+tick-of : (o : Option RuleSet) (snap : List ℕ) (os es : ℕ) (s : Store) → Ticks o (tickWith o snap os es s)
+unfolding tickWith committed
+tick-of none snap os es s = no-output-commits (overflow os es (noOutcome (s .vol))) (nowOf snap) (s .vol) s
+tick-of (some set) snap os es s =
+    let e : Env = record { world = worldOf snap; set = set } in
+    tick-commits (overflow os es (serviceTick e (s .vol))) (nowOf snap) (serviceTick e (s .vol)) s set _ (ticks e (s .vol))
 
-  run-of : (r : ℕ) (snap : List ℕ) (os es : ℕ) (s : Store) → FaithfulTrace set (runWith (some set) r false snap os es s)
-  unfolding runWith committed
-  run-of r snap os es s =
-      let e : Env = record { world = worldOf snap; set = set } in
-      let x = runRule e (ruleNamed (set .image) r) false (s .vol) in
-      commits (overflow os es x) (nowOf snap) [] x s (runs-wet e (ruleNamed (set .image) r) (s .vol))
+tick-given : (o : Option RuleSet) (n : ℕ) (s : Store) (K : Store → Done) → Ticks o (K s) → Ticks o (given n s K)
+tick-given o zero s K h = h
+tick-given o (suc n) s K h = ticks-refused o (suc n) s
 
-  pub tick-faithful : (snap : List ℕ) (os es : ℕ) (s : Store) → s .loaded ≡ some set → FaithfulTrace set (call (tick snap os es) s)
-  unfolding call
-  tick-faithful snap os es s e =
-      snapshot-given (snapshotRefusal snap) s (λ s′. tickWith (s′ .loaded) snap os es s′) (subst (λ o. FaithfulTrace set (tickWith o snap os es s)) (sym e) (tick-of snap os es s))
+-- a wet run
+runs-refused : (o : Option RuleSet) (r n : ℕ) (s : Store) → RunsWet r o (refuse n s)
+runs-refused none r n s = record { trace = refl; outcomes = refl }
+runs-refused (some set) r n s = record { runs = no-more; only = tt }
 
-  pub run-faithful : (r : ℕ) (snap : List ℕ) (os es : ℕ) (s : Store) → s .loaded ≡ some set → FaithfulTrace set (call (run r false snap os es) s)
-  unfolding call
-  run-faithful r snap os es s e =
-      snapshot-given (snapshotRefusal snap) s (λ s′. runWith (s′ .loaded) r false snap os es s′) (subst (λ o. FaithfulTrace set (runWith o r false snap os es s)) (sym e) (run-of r snap os es s))
+run-commits : (n now : ℕ) (x : Handled) (s : Store) (set : RuleSet) (r : ℕ) → Faithful set [] x → OnlyOf r (x .outcomes) → RunsWet r (some set) (committing n now x s)
+run-commits zero now x s set r h only = record { runs = activations-of (h .part); only = only }
+run-commits (suc n) now x s set r h only = runs-refused (some set) r (suc n) s
+
+run-of : (o : Option RuleSet) (r : ℕ) (snap : List ℕ) (os es : ℕ) (s : Store) → RunsWet r o (runWith o r false snap os es s)
+unfolding runWith committed
+run-of none r snap os es s = no-output-commits (overflow os es (noOutcome (s .vol))) (nowOf snap) (s .vol) s
+run-of (some set) r snap os es s =
+    let e : Env = record { world = worldOf snap; set = set } in
+    let x = runRule e (ruleNamed (set .image) r) false (s .vol) in
+    run-commits (overflow os es x) (nowOf snap) x s set r (runs-wet e (ruleNamed (set .image) r) (s .vol)) (run-only e r (s .vol))
+
+run-given : (o : Option RuleSet) (r n : ℕ) (s : Store) (K : Store → Done) → RunsWet r o (K s) → RunsWet r o (given n s K)
+run-given o r zero s K h = h
+run-given o r (suc n) s K h = runs-refused o r (suc n) s
+
+-- the other calls
+load-no-output : (n t : ℕ) (img : List ℕ) (fs : List Flattened) (s : Store) → NoOutput (loading n t img fs s)
+load-no-output zero t img fs s = record { trace = refl; outcomes = refl }
+load-no-output (suc n) t img fs s = record { trace = refl; outcomes = refl }
+
+enable-no-output : (o : Option ℕ) (r : ℕ) (on : Bool) (s : Store) → NoOutput (enabling o r on s)
+enable-no-output none r on s = record { trace = refl; outcomes = refl }
+enable-no-output (some i) r on s = record { trace = refl; outcomes = refl }
+
+pub call-conforms : (c : Call) (s : Store) → Conforms c (s .loaded) (call c s)
+unfolding call callLoad callUnload callEnable
+call-conforms (new t) s = record { trace = refl; outcomes = refl }
+call-conforms (load t img) s = load-no-output (imageRefusalWith img (flattenRules img)) t img (flattenRules img) s
+call-conforms (unload t) s = record { trace = refl; outcomes = refl }
+call-conforms (enable r on) s = enable-no-output (ruleIn (s .loaded) r) r on s
+call-conforms (tick snap os es) s = tick-given (s .loaded) (snapshotRefusal snap) s (λ s′. tickWith (s′ .loaded) snap os es s′) (tick-of (s .loaded) snap os es s)
+call-conforms (run r true snap os es) s = tt
+call-conforms (run r false snap os es) s = run-given (s .loaded) r (snapshotRefusal snap) s (λ s′. runWith (s′ .loaded) r false snap os es s′) (run-of (s .loaded) r snap os es s)
+call-conforms deadline s = record { trace = refl; outcomes = refl }
+call-conforms counters s = record { trace = refl; outcomes = refl }

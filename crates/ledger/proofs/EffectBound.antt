@@ -16,7 +16,7 @@ use Rattle.model.specs.Load.{imageRefusalWith}
 use Rattle.model.specs.World.{nowOf, worldOf}
 use Rattle.model.specs.declared.Step.{Step}
 use Rattle.model.specs.declared.Point.{Point}
-use Rattle.model.specs.Outcome.{started, resumed, paid}
+use Rattle.model.specs.Outcome.{Outcome, started, resumed, aborted, paid}
 use Rattle.model.specs.declared.Pending.{Pending}
 use Rattle.model.specs.State.{Rest, Env, Volatile, RuleSet, Store, withRest, withLastActivation, isEnabled, bump, activationsTotal, continuationsFired}
 use Rattle.model.specs.Flat.{Flattened, flattenRule, flattenRules, setOf, stepAt}
@@ -28,13 +28,13 @@ use Rattle.model.specs.Wheel.{dueNow, notDue, resumeAll, fireContinuations, ser
 use Rattle.model.specs.Rules.{nameOrder}
 use Rattle.model.specs.Calls.{Call, new, load, unload, enable, tick, run, deadline, counters, Done, refuse, fresh, loading, callLoad, callUnload, enabling, ruleIn, callEnable, overflow, committing, committed, tickWith, runRule, runWith, given, call}
 use Rattle.ledger.specs.Ledger.{cleared, disabled, ticked, ran, Activation, Posting, Ledger, leavesBefore, leaving, staying, resumedPayer, postItem, postItems, post, postAll, eventsOf, entryOf, isRefused, budgetOf, startLedger, notices, postCall, finalLedger}
-use Rattle.ledger.specs.Effects.{sameActivation, onlyIf, effectsFrom}
+use Rattle.ledger.specs.Effects.{sameActivation, from, onlyIf, effectsFrom}
 use Rattle.ledger.proofs.Sound.{Sound}
 use Rattle.ledger.proofs.ListLaws.{and-l, and-r, and-i, by}
 use Rattle.ledger.proofs.Simulation.{Aged, agedPending, agedPosting, Sim, post-append, post-traced}
 use Rattle.ledger.proofs.TickSimulation.{dues}
 use Rattle.ledger.proofs.History.{Agree, follows, starts}
-use Rattle.ledger.proofs.Potential.{most, most-bound, potential, from, potentialOf, sum-split, sum-sort}
+use Rattle.ledger.proofs.Potential.{most, most-bound, potential, potentialOf, sum-split, sum-sort}
 use Rattle.ledger.proofs.RunBound.{amortized, struck-sum, runs-bound}
 use Rattle.ledger.proofs.Shapes.{listOk, flatOk, flatsOk}
 use Rattle.ledger.proofs.Accepted.{rule-shape}
@@ -103,6 +103,10 @@ module _ (ρ : Activation) where
   no-outcome : (v : Volatile) (l : Ledger) → Within l → BoundKept l (noOutcome v)
   no-outcome v l h = record { within = h; budget = refl }
 
+  aborts : (v : Volatile) (os : List Outcome) (r : ℕ) (l : Ledger) → Within l → BoundKept l (record { vol = v; outcomes = os; trace = aborted r ∷ [] })
+  unfolding postItem
+  aborts v os r l h = record { within = h; budget = refl }
+
   and-then : (l : Ledger) (x : Handled) (K : Volatile → Handled) → BoundKept l x → BoundKept (postItems (x .trace) l) (K (x .vol)) → BoundKept l (andThen x K)
   and-then l x K p q =
       let y = K (x .vol) in
@@ -124,8 +128,8 @@ module _ (ρ : Activation) where
     decides : (w : Job) (d : Decision) (v : Volatile) (l : Ledger) → w .dry ≡ false → l .budget ≡ image.budget (e .set .image) → Within l → BoundKept l (decided d e w v)
     decides w (begins s) v l wet eb h = executes w (w .dry) (withRest s v) l wet eb h
     decides w (suppressed s) v l wet eb h = no-outcome (withRest s v) l h
-    decides w (tooDeep s) v l wet eb h = record { within = h; budget = refl }
-    decides w (unevaluable s) v l wet eb h = record { within = h; budget = refl }
+    decides w (tooDeep s) v l wet eb h = aborts (withRest s v) _ _ l h
+    decides w (unevaluable s) v l wet eb h = aborts (withRest s v) _ _ l h
 
     activates : (i kind : ℕ) (m : Mode) (v : Volatile) (l : Ledger) → isDry m ≡ false → l .budget ≡ image.budget (e .set .image) → Within l → BoundKept l (activate e i kind 0 m v)
     unfolding activate jobOf
@@ -174,8 +178,8 @@ module _ (ρ : Activation) where
         let a : agedPending k c ≡ agedPosting j h = head-eq-of-cons-eq m in
         let el : (resumedPayer (c .rule) (l .due)) .left ≡ c .budget = ap (λ ds. (resumedPayer (c .rule) ds) .left) d ∙ sym (ap (λ (x : Aged). x .entry .budget) a) in
         let er : (resumedPayer (c .rule) (l .due)) .origin ≡ h .origin = ap (λ ds. (resumedPayer (c .rule) ds) .origin) d in
-        let x = runs-bound ρ (c .budget) e w (c .point) u (postItem (resumed (c .rule)) l) ok el in
-        let y = runs-unchanged (c .budget) e w (c .point) u (postItem (resumed (c .rule)) l) in
+        let x = runs-bound ρ (c .budget) e w (c .point) u (postItem (resumed c) l) ok el in
+        let y = runs-unchanged (c .budget) e w (c .point) u (postItem (resumed c) l) in
         let i = resumes j k cs hs ((resume e c v) .vol) (postItems ((resume e c v) .trace) l) (tail-eq-of-cons-eq m) (y .due ∙ ap tail d) in
         let q : onlyIf (from ρ ((resumedPayer (c .rule) (l .due)) .origin)) (potential (c .point .list) (c .budget))
         ≡ onlyIf (from ρ (h .origin)) (potential (h .entry .point .list) (h .entry .budget))
@@ -217,10 +221,10 @@ module _ (ρ : Activation) where
   unfolding eventsOf
   refuses c n s l ok h = record { ok = ok; within = h }
 
-  commits : (c : Call) (n now : ℕ) (cs : List Pending) (x : Handled) (s : Store) (l : Ledger) → flatsOk (s .loaded) ≡ true → Within l
-      → Stays c l (committing 0 now cs x s) → Stays c l (committing n now cs x s)
-  commits c zero now cs x s l ok h d = d
-  commits c (suc n) now cs x s l ok h d = refuses c (suc n) s l ok h
+  commits : (c : Call) (n now : ℕ) (x : Handled) (s : Store) (l : Ledger) → flatsOk (s .loaded) ≡ true → Within l
+      → Stays c l (committing 0 now x s) → Stays c l (committing n now x s)
+  commits c zero now x s l ok h d = d
+  commits c (suc n) now x s l ok h d = refuses c (suc n) s l ok h
 
   snapshot-given : (c : Call) (n : ℕ) (s : Store) (l : Ledger) (K : Store → Done) → flatsOk (s .loaded) ≡ true → Within l → Stays c l (K s) → Stays c l (given n s K)
   snapshot-given c zero s l K ok h d = d
@@ -248,12 +252,12 @@ module _ (ρ : Activation) where
   unfolding tickWith committed eventsOf post worldOf
   tick-bound snap os es none s l e a ok h =
       let q = leaves-bound (nowOf snap) (l .standing .postings) in
-      commits (tick snap os es) (overflow os es (noOutcome (s .vol))) (nowOf snap) [] (noOutcome (s .vol)) s l ok h
+      commits (tick snap os es) (overflow os es (noOutcome (s .vol))) (nowOf snap) (noOutcome (s .vol)) s l ok h
       (record { ok = ok; within = less l (post (ticked (nowOf snap)) l) (omega arith) refl h })
   tick-bound snap os es (some set) s l e a ok h =
       let env : Env = record { world = worldOf snap; set = set } in
       let x = ticks (s .loaded) (a .j) (a .k) env (s .vol) l (a .sim) (sym (ap flatsOk e) ∙ ok) (a .budget ∙ ap budgetOf e) h in
-      commits (tick snap os es) (overflow os es (serviceTick env (s .vol))) (nowOf snap) (dueNow (nowOf snap) (s .vol .pending)) (serviceTick env (s .vol)) s l ok h
+      commits (tick snap os es) (overflow os es (serviceTick env (s .vol))) (nowOf snap) (serviceTick env (s .vol)) s l ok h
       (record { ok = ok; within = rw (post-traced ((serviceTick env (s .vol)) .trace) (post (ticked (nowOf snap)) l)) (x .within) })
 
   runs-wet : (e : Env) → flatOk (e .set) ≡ true → (x : Option ℕ) (v : Volatile) (l : Ledger) → l .budget ≡ image.budget (e .set .image) → Within l
@@ -266,24 +270,24 @@ module _ (ρ : Activation) where
       → Stays (run r false snap os es) l (runWith o r false snap os es s)
   unfolding runWith committed eventsOf post
   run-bound r snap os es none s l e a ok h =
-      commits (run r false snap os es) (overflow os es (noOutcome (s .vol))) (nowOf snap) [] (noOutcome (s .vol)) s l ok h
+      commits (run r false snap os es) (overflow os es (noOutcome (s .vol))) (nowOf snap) (noOutcome (s .vol)) s l ok h
       (record { ok = ok; within = less l (post (ran (nowOf snap)) l) (omega arith) refl h })
   run-bound r snap os es (some set) s l e a ok h =
       let env : Env = record { world = worldOf snap; set = set } in
       let y = runRule env (ruleNamed (set .image) r) false (s .vol) in
       let x = runs-wet env (sym (ap flatsOk e) ∙ ok) (ruleNamed (set .image) r) (s .vol) (post (ran (nowOf snap)) l) (a .budget ∙ ap budgetOf e)
       (less l (post (ran (nowOf snap)) l) (omega arith) refl h) in
-      commits (run r false snap os es) (overflow os es y) (nowOf snap) [] y s l ok h
+      commits (run r false snap os es) (overflow os es y) (nowOf snap) y s l ok h
       (record { ok = ok; within = rw (post-traced (y .trace) (post (ran (nowOf snap)) l)) (x .within) })
 
   dry-bound : (r : ℕ) (snap : List ℕ) (os es : ℕ) (o : Option RuleSet) (s : Store) (l : Ledger) → flatsOk (s .loaded) ≡ true → Within l
       → Stays (run r true snap os es) l (runWith o r true snap os es s)
   unfolding runWith committed eventsOf
   dry-bound r snap os es none s l ok h =
-      commits (run r true snap os es) (overflow os es (noOutcome (s .vol))) (nowOf snap) [] (noOutcome (s .vol)) s l ok h (record { ok = ok; within = h })
+      commits (run r true snap os es) (overflow os es (noOutcome (s .vol))) (nowOf snap) (noOutcome (s .vol)) s l ok h (record { ok = ok; within = h })
   dry-bound r snap os es (some set) s l ok h =
       let y = runRule (record { world = worldOf snap; set = set }) (ruleNamed (set .image) r) true (s .vol) in
-      commits (run r true snap os es) (overflow os es y) (nowOf snap) [] y s l ok h (record { ok = ok; within = h })
+      commits (run r true snap os es) (overflow os es y) (nowOf snap) y s l ok h (record { ok = ok; within = h })
 
   call-bound : (c : Call) (s : Store) (l : Ledger) → Agree s l → flatsOk (s .loaded) ≡ true → Within l → Stays c l (call c s)
   unfolding call callLoad callUnload callEnable eventsOf post fresh

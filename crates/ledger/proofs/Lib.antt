@@ -8,6 +8,7 @@ pub mod TickSimulation
 pub mod Sound
 pub mod History
 pub mod Resumptions
+pub mod WetRuns
 pub mod CallTrace
 pub mod Distinct
 pub mod StoreRules
@@ -30,5 +31,10 @@ pub mod CallRules
 pub mod Potential
 pub mod RunBound
 pub mod EffectBound
+pub mod Reasons
+pub mod Consequences
+pub mod Shown
+pub mod Sets
+pub mod FlatForms
 pub mod Demand3
 pub mod OnWords

@@ -13,7 +13,7 @@ use Rattle.model.specs.World.{nowOf}
 use Rattle.model.specs.declared.Step.{Step}
 use Rattle.model.specs.declared.Point.{Point}
 use Rattle.model.specs.declared.Effect.{Effect}
-use Rattle.model.specs.Outcome.{plain, disables, defers, Item, started, resumed, paid}
+use Rattle.model.specs.Outcome.{plain, disables, defers, Item, started, resumed, aborted, paid}
 use Rattle.model.specs.declared.Pending.{Pending}
 use Rattle.model.specs.State.{Store}
 use Rattle.model.specs.Calls.{Call, new, load, unload, enable, tick, run, deadline, counters}
@@ -54,10 +54,11 @@ module _ (n : ℕ) where
   next-post (ticked t) l h = h
   next-post (ran t) l h = h
   next-post (traced (started r)) l h = h
-  next-post (traced (resumed r)) l h = h
+  next-post (traced (resumed c)) l h = h
+  next-post (traced (aborted r)) l h = h
   next-post (traced (paid x plain g)) l h = h
   next-post (traced (paid x (disables q) g)) l h = h
-  next-post (traced (paid x (defers ms sp) g)) l h = next-accept _ (l .standing) h
+  next-post (traced (paid x (defers d ms sp) g)) l h = next-accept _ (l .standing) h
 
   -- an entry that has left or was struck does not come back
   none-post : (m : Event) (l : Ledger) → n < l .standing .next → ofAge n (l .standing .postings) ≡ [] → ofAge n ((post m l) .standing .postings) ≡ []
@@ -67,10 +68,11 @@ module _ (n : ℕ) where
   none-post (ticked t) l h e = pick-staying t (l .standing .postings) ∙ ap (staying t) e
   none-post (ran t) l h e = e
   none-post (traced (started r)) l h e = e
-  none-post (traced (resumed r)) l h e = e
+  none-post (traced (resumed c)) l h e = e
+  none-post (traced (aborted r)) l h e = e
   none-post (traced (paid x plain g)) l h e = e
   none-post (traced (paid x (disables q) g)) l h e = pick-struck q (l .standing .postings) ∙ ap (struck q) e
-  none-post (traced (paid x (defers ms sp) g)) l h e = pick-accept _ (l .standing) h refl ∙ e
+  none-post (traced (paid x (defers d ms sp) g)) l h e = pick-accept _ (l .standing) h refl ∙ e
 
   none-leaves : (m : Event) (l : Ledger) → ofAge n (l .standing .postings) ≡ [] → ofAge n (leavingOn m l) ≡ []
   unfolding leavingOn leaving
@@ -82,7 +84,8 @@ module _ (n : ℕ) where
       keep-sort-none p leavesBefore (keep d (l .standing .postings)) (keep-comm p d (l .standing .postings) ∙ ap (keep d) e)
   none-leaves (ran t) l e = refl
   none-leaves (traced (started r)) l e = refl
-  none-leaves (traced (resumed r)) l e = refl
+  none-leaves (traced (resumed c)) l e = refl
+  none-leaves (traced (aborted r)) l e = refl
   none-leaves (traced (paid x s g)) l e = refl
 
   gone : (ms : List Event) (i : ℕ) (l : Ledger) → n < l .standing .next → ofAge n (l .standing .postings) ≡ [] → resumptionsOf n i ms l ≡ []
@@ -133,14 +136,15 @@ module _ (n : ℕ) where
       rw (d, z .0) (stands ms (suc i) (post (ticked t) l) h b (z .1)))
   stands (ran t ∷ ms) i l h b e = stands ms i (post (ran t) l) h b e
   stands (traced (started r) ∷ ms) i l h b e = stands ms i (post (traced (started r)) l) h b e
-  stands (traced (resumed r) ∷ ms) i l h b e = stands ms i (post (traced (resumed r)) l) h b e
+  stands (traced (resumed c) ∷ ms) i l h b e = stands ms i (post (traced (resumed c)) l) h b e
+  stands (traced (aborted r) ∷ ms) i l h b e = stands ms i (post (traced (aborted r)) l) h b e
   stands (traced (paid x plain g) ∷ ms) i l h b e = stands ms i (post (traced (paid x plain g)) l) h b e
   stands (traced (paid x (disables q) g) ∷ ms) i l h b e =
       by (eqb (h .entry .rule) q)
       (λ t. rw t (gone ms i (post (traced (paid x (disables q) g)) l) b (struck-out q (l .standing .postings) h e t)))
       (λ f. rw f (stands ms i (post (traced (paid x (disables q) g)) l) h b (struck-in q (l .standing .postings) h e f)))
-  stands (traced (paid x (defers y sp) g) ∷ ms) i l h b e =
-      stands ms i (post (traced (paid x (defers y sp) g)) l) h (next-accept _ (l .standing) b) (pick-accept _ (l .standing) b refl ∙ e)
+  stands (traced (paid x (defers d y sp) g) ∷ ms) i l h b e =
+      stands ms i (post (traced (paid x (defers d y sp) g)) l) h (next-accept _ (l .standing) b) (pick-accept _ (l .standing) b refl ∙ e)
 
 -- ACCEPTED, OR DROPPED -----------------------------------------------------------------------------------------------------------------
 abbrev pub below : Ledger → Bool
@@ -169,10 +173,11 @@ below-post (disabled q) l h = all-keep _ _ (l .standing .postings) h
 below-post (ticked t) l h = all-keep _ _ (l .standing .postings) h
 below-post (ran t) l h = h
 below-post (traced (started r)) l h = h
-below-post (traced (resumed r)) l h = h
+below-post (traced (resumed c)) l h = h
+below-post (traced (aborted r)) l h = h
 below-post (traced (paid x plain g)) l h = h
 below-post (traced (paid x (disables q) g)) l h = all-keep _ _ (l .standing .postings) h
-below-post (traced (paid x (defers ms sp) g)) l h = below-accept _ (l .standing) refl h
+below-post (traced (paid x (defers d ms sp) g)) l h = below-accept _ (l .standing) refl h
 
 pub below-posts : (ms : List Event) (l : Ledger) → below l ≡ true → below (postAll ms l) ≡ true
 below-posts [] l h = h
@@ -188,16 +193,15 @@ none-of-next n [] h = refl
 none-of-next n (x ∷ xs) h =
     rw (ne-eqb (x .age) n (λ z. omega (arith, ltb-true (x .age) n (and-l _ _ h)))) (none-of-next n xs (and-r (ltb (x .age) n) _ h))
 
-accepted-once : (x : Step) (ms : ℕ) (sp : Point) (g : Option Effect) (l : Ledger) (behind : List Event) (i : ℕ) → below l ≡ true → (length (l .standing .postings) ≡ 32 → ⊥)
-    → resumptionsOf (l .standing .next) i behind (post (traced (paid x (defers ms sp) g)) l) ≡ expected (continuation ms sp l) i behind
+accepted-once : (x : Step) (d : Bool) (ms : ℕ) (sp : Point) (g : Option Effect) (l : Ledger) (behind : List Event) (i : ℕ) → below l ≡ true → eqb (length (l .standing .postings)) 32 ≡ false
+    → resumptionsOf (l .standing .next) i behind (post (traced (paid x (defers d ms sp) g)) l) ≡ expected (continuation ms sp l) i behind
 unfolding post postItem postReport accept continuation
-accepted-once x ms sp g l behind i b room =
-    let f = ne-eqb (length (l .standing .postings)) 32 room in
+accepted-once x d ms sp g l behind i b f =
     let n = l .standing .next in
     let h : Posting = record { entry = continuation ms sp l; age = n; origin = l .payer .origin } in
     let e : ofAge n (l .standing .postings ++ (h ∷ [])) ≡ h ∷ [] =
     keep-append (λ (x : Posting). eqb (x .age) n) (l .standing .postings) (h ∷ []) ∙ rw (none-of-next n (l .standing .postings) b, eq-eqb n n refl) in
-    stands n behind i (post (traced (paid x (defers ms sp) g)) l) h (rw f (omega arith)) (rw f e)
+    stands n behind i (post (traced (paid x (defers d ms sp) g)) l) h (rw f (omega arith)) (rw f e)
 
 -- an age that is not given out yet leaves nowhere
 next-mono : (m : Event) (l : Ledger) → l .standing .next ≤ (post m l) .standing .next
@@ -207,10 +211,11 @@ next-mono (disabled q) l = omega arith
 next-mono (ticked t) l = omega arith
 next-mono (ran t) l = omega arith
 next-mono (traced (started r)) l = omega arith
-next-mono (traced (resumed r)) l = omega arith
+next-mono (traced (resumed c)) l = omega arith
+next-mono (traced (aborted r)) l = omega arith
 next-mono (traced (paid x plain g)) l = omega arith
 next-mono (traced (paid x (disables q) g)) l = omega arith
-next-mono (traced (paid x (defers ms sp) g)) l = grows _ (l .standing)
+next-mono (traced (paid x (defers d ms sp) g)) l = grows _ (l .standing)
   where
     grows : (h : Posting) (s : Standing) → s .next ≤ (accept h s) .next
     grows h s = unfold accept in (by (eqb (length (s .postings)) 32) (λ t. rw t (omega arith)) (λ f. rw f (omega arith)))
@@ -241,24 +246,24 @@ pub sound-below : (s : Store) → Sound s → below (startLedger s) ≡ true
 unfolding startLedger
 sound-below s g = below-start (s .vol .pending) (s .vol .next) (g .below)
 
-module _ (s : Store) (g : Sound s) (cs : List Call) (before behind : List Event) (x : Step) (ms : ℕ) (sp : Point) (effect : Option Effect)
-    (here : allEvents (notices s cs) ≡ before ++ (traced (paid x (defers ms sp) effect) ∷ behind)) where
+module _ (s : Store) (g : Sound s) (cs : List Call) (before behind : List Event) (x : Step) (d : Bool) (ms : ℕ) (sp : Point) (effect : Option Effect)
+    (here : allEvents (notices s cs) ≡ before ++ (traced (paid x (defers d ms sp) effect) ∷ behind)) where
   -- 32 stand: dropped
-  pub dropped : length ((postAll before (startLedger s)) .standing .postings) ≡ 32
-      → (post (traced (paid x (defers ms sp) effect)) (postAll before (startLedger s))) .standing ≡ (postAll before (startLedger s)) .standing
+  pub dropped : eqb (length ((postAll before (startLedger s)) .standing .postings)) 32 ≡ true
+      → (post (traced (paid x (defers d ms sp) effect)) (postAll before (startLedger s))) .standing ≡ (postAll before (startLedger s)) .standing
   unfolding post postItem postReport accept
-  dropped full = rw (eq-eqb (length ((postAll before (startLedger s)) .standing .postings)) 32 full)
+  dropped full = rw full
 
   -- fewer: a new last entry
-  pub accepted : (length ((postAll before (startLedger s)) .standing .postings) ≡ 32 → ⊥)
-      → (post (traced (paid x (defers ms sp) effect)) (postAll before (startLedger s))) .standing .postings
+  pub accepted : eqb (length ((postAll before (startLedger s)) .standing .postings)) 32 ≡ false
+      → (post (traced (paid x (defers d ms sp) effect)) (postAll before (startLedger s))) .standing .postings
       ≡ (postAll before (startLedger s)) .standing .postings
       ++ (record { entry = continuation ms sp (postAll before (startLedger s)); age = (postAll before (startLedger s)) .standing .next; origin = (postAll before (startLedger s)) .payer .origin } ∷ [])
   unfolding post postItem postReport accept continuation
-  accepted room = rw (ne-eqb (length ((postAll before (startLedger s)) .standing .postings)) 32 room)
+  accepted room = rw room
 
   -- fewer: accepted, under an age of its own; in the whole list it resumes as expected, once or never, with its stored budget
-  pub resumes-once : (length ((postAll before (startLedger s)) .standing .postings) ≡ 32 → ⊥)
+  pub resumes-once : eqb (length ((postAll before (startLedger s)) .standing .postings)) 32 ≡ false
       → resumptionsOf ((postAll before (startLedger s)) .standing .next) 0 (allEvents (notices s cs)) (startLedger s)
       ≡ expected (continuation ms sp (postAll before (startLedger s))) (ticksIn before 0) behind
   resumes-once room =
@@ -266,13 +271,13 @@ module _ (s : Store) (g : Sound s) (cs : List Call) (before behind : List Event)
       let n = l .standing .next in
       let b = sound-below s g in
       let u : resumptionsOf n 0 before (startLedger s) ≡ [] = not-yet n before 0 (startLedger s) b (omega arith) in
-      ap (λ ms′. resumptionsOf n 0 ms′ (startLedger s)) here ∙ leavings-append n 0 before (traced (paid x (defers ms sp) effect) ∷ behind) (startLedger s)
-      ∙ ap (λ xs. xs ++ resumptionsOf n (ticksIn before 0) (traced (paid x (defers ms sp) effect) ∷ behind) l) u
-      ∙ unpaid (accepted-once x ms sp effect l behind (ticksIn before 0) (below-posts before (startLedger s) b) room)
+      ap (λ ms′. resumptionsOf n 0 ms′ (startLedger s)) here ∙ leavings-append n 0 before (traced (paid x (defers d ms sp) effect) ∷ behind) (startLedger s)
+      ∙ ap (λ xs. xs ++ resumptionsOf n (ticksIn before 0) (traced (paid x (defers d ms sp) effect) ∷ behind) l) u
+      ∙ unpaid (accepted-once x d ms sp effect l behind (ticksIn before 0) (below-posts before (startLedger s) b) room)
     where
-      unpaid : resumptionsOf ((postAll before (startLedger s)) .standing .next) (ticksIn before 0) behind (post (traced (paid x (defers ms sp) effect)) (postAll before (startLedger s)))
+      unpaid : resumptionsOf ((postAll before (startLedger s)) .standing .next) (ticksIn before 0) behind (post (traced (paid x (defers d ms sp) effect)) (postAll before (startLedger s)))
           ≡ expected (continuation ms sp (postAll before (startLedger s))) (ticksIn before 0) behind
-          → resumptionsOf ((postAll before (startLedger s)) .standing .next) (ticksIn before 0) (traced (paid x (defers ms sp) effect) ∷ behind) (postAll before (startLedger s))
+          → resumptionsOf ((postAll before (startLedger s)) .standing .next) (ticksIn before 0) (traced (paid x (defers d ms sp) effect) ∷ behind) (postAll before (startLedger s))
           ≡ expected (continuation ms sp (postAll before (startLedger s))) (ticksIn before 0) behind
       unpaid e = unfold leavingOn in e
 
@@ -314,7 +319,8 @@ trace-leaves : (xs : List Item) (ms : List Event) (l : Ledger) → allLeaving (m
 unfolding leavingOn
 trace-leaves [] ms l = refl
 trace-leaves (started r ∷ xs) ms l = trace-leaves xs ms (post (traced (started r)) l)
-trace-leaves (resumed r ∷ xs) ms l = trace-leaves xs ms (post (traced (resumed r)) l)
+trace-leaves (resumed c ∷ xs) ms l = trace-leaves xs ms (post (traced (resumed c)) l)
+trace-leaves (aborted r ∷ xs) ms l = trace-leaves xs ms (post (traced (aborted r)) l)
 trace-leaves (paid x s g ∷ xs) ms l = trace-leaves xs ms (post (traced (paid x s g)) l)
 
 call-leaves : (b : Bool) (c : Call) (tr : List Item) (ms : List Event) (l : Ledger)

@@ -15,7 +15,7 @@ use Rattle.model.specs.Rules.{nameOf, ruleNamed, ruleIndices}
 use Rattle.model.specs.declared.Step.{Step}
 use Rattle.model.specs.declared.Point.{Point}
 use Rattle.model.specs.declared.Step.the-variants.{Primitive, Wait, Branch, After, Fail}
-use Rattle.model.specs.Outcome.{Item, started, resumed, paid, defers}
+use Rattle.model.specs.Outcome.{Report, plain, disables, defers, Item, started, resumed, aborted, paid, Outcome}
 use Rattle.model.specs.declared.Pending.{Pending}
 use Rattle.model.specs.State.{Env, Rest, Volatile, RuleSet, withRest, isFull, strike, bump, continuationsFired}
 use Rattle.model.specs.Flat.{stepAt}
@@ -48,6 +48,26 @@ agedPending k c = record { entry = entryOf c; age = c .seq + k }
 
 abbrev pub agedPosting : ℕ → Posting → Aged
 agedPosting j h = record { entry = h .entry; age = h .age + j }
+
+-- WHAT THE TRACE SAYS OF A WAIT OR AN AFTER: it is dropped exactly if 32 stand ---------------------------------------------------------
+abbrev pub TellsReport : Standing → Report → Type 0
+TellsReport s plain = Unit {0}
+TellsReport s (disables q) = Unit {0}
+TellsReport s (defers d ms sp) = d ≡ eqb (length (s .postings)) 32
+
+abbrev pub Tells : Ledger → Item → Type 0
+Tells l (started r) = Unit {0}
+Tells l (resumed c) = Unit {0}
+Tells l (aborted r) = Unit {0}
+Tells l (paid x s g) = TellsReport (l .standing) s
+
+abbrev pub AllTell : Ledger → List Item → Type 0
+AllTell l [] = Unit {0}
+AllTell l (i ∷ is) = Tells l i × AllTell (postItem i l) is
+
+pub tell-append : (xs ys : List Item) (l : Ledger) → AllTell l xs → AllTell (postItems xs l) ys → AllTell l (xs ++ ys)
+tell-append [] ys l a b = b
+tell-append (x ∷ xs) ys l a b = (a .0, tell-append xs ys (postItem x l) (a .1) b)
 
 -- THE SIMULATION ---------------------------------------------------------------------------------------------------------------
 pub record Sim (o : Option RuleSet) (j k : ℕ) (v : Volatile) (s : Standing) : Type 0 where
@@ -83,10 +103,10 @@ module _ (o : Option RuleSet) (j k : ℕ) where
         known = all-keep (λ (c : Pending). knownTo o (c .rule)) (λ (c : Pending). not (eqb (c .rule) q)) (v .pending) (h .known);
       }
 
-  schedules : (e : Env) (w : Job) (b ms : ℕ) (sp : Point) (v : Volatile) (u : Payer) (s : Standing) → Sim o j k v s → u .rule ≡ w .rule → u .left ≡ b
-      → knownTo o (w .rule) ≡ true → Sim o j k ((schedule e w b ms sp v) .vol) (postReport (defers ms sp) (e .world .now) u s)
+  schedules : (e : Env) (w : Job) (b : ℕ) (d : Bool) (ms : ℕ) (sp : Point) (v : Volatile) (u : Payer) (s : Standing) → Sim o j k v s → u .rule ≡ w .rule → u .left ≡ b
+      → knownTo o (w .rule) ≡ true → Sim o j k ((schedule e w b ms sp v) .vol) (postReport (defers d ms sp) (e .world .now) u s)
   unfolding schedule isFull dropped accepted postReport accept entryOf
-  schedules e w b ms sp v u s h er eb kr =
+  schedules e w b d ms sp v u s h er eb kr =
       by (leb 32 (length (v .pending)))
       (λ full.
       let n : length (s .postings) ≡ 32 = omega (arith, leb-true 32 (length (v .pending)) full, same-length v s h, h .few) in
@@ -101,6 +121,36 @@ module _ (o : Option RuleSet) (j k : ℕ) where
         few = rw (length-append (v .pending)) (omega arith);
         known = all-append (λ (c : Pending). knownTo o (c .rule)) (v .pending) _ (h .known) (and-i (knownTo o (w .rule)) true kr refl);
       }))
+
+  schedules-tell : (e : Env) (w : Job) (b ms : ℕ) (sp : Point) (v : Volatile) (s : Standing) → Sim o j k v s
+      → (schedule e w b ms sp v) .isDropped ≡ eqb (length (s .postings)) 32
+  unfolding schedule isFull dropped accepted
+  schedules-tell e w b ms sp v s h =
+      by (leb 32 (length (v .pending)))
+      (λ full. rw full (sym (eq-eqb (length (s .postings)) 32 (omega (arith, leb-true 32 (length (v .pending)) full, same-length v s h, h .few)))))
+      (λ room.
+      let n : length (v .pending) < 32 = leb-false 32 (length (v .pending)) room in
+      rw room (sym (ne-eqb (length (s .postings)) 32 (λ eq. omega (arith, same-length v s h)))))
+
+  acts-tell : (a : PrimResult) (q : Option ℕ) (sp : Point) (v : Volatile) (s : Standing) → TellsReport s ((afterPrim q a sp v) .report)
+  unfolding afterPrim
+  acts-tell a none sp v s = tt
+  acts-tell a (some q) sp v s = tt
+
+  branches-tell : (x : Option Bool) (t n : ℕ) (sp : Point) (v : Volatile) (s : Standing) → TellsReport s ((runBranch x t n sp v) .report)
+  unfolding runBranch afterPrim
+  branches-tell (some true) t n sp v s = tt
+  branches-tell (some false) t n sp v s = tt
+  branches-tell none t n sp v s = tt
+
+  -- one step
+  execs-tell : (e : Env) (w : Job) (b : ℕ) (sp : Point) (x : Step) (v : Volatile) (s : Standing) → Sim o j k v s → TellsReport s ((exec e w b sp x v) .report)
+  unfolding exec
+  execs-tell e w b sp (Primitive i) v s h = acts-tell (primAt e w (v .rest) i) ((primAt e w (v .rest) i) .disables) _ v s
+  execs-tell e w b sp (Wait ms) v s h = schedules-tell e w b ms _ v s h
+  execs-tell e w b sp (After ms n) v s h = schedules-tell e w b ms _ v s h
+  execs-tell e w b sp (Branch c t n) v s h = branches-tell (conditionAt e (v .rest) c) t n sp v s
+  execs-tell e w b sp Fail v s h = unfold afterPrim in tt
 
   acts : (a : PrimResult) (q : Option ℕ) (sp : Point) (v : Volatile) (now : ℕ) (u : Payer) (s : Standing) → Sim o j k v s
       → Sim o j k ((afterPrim q a sp v) .vol) (postReport ((afterPrim q a sp v) .report) now u s)
@@ -120,8 +170,8 @@ module _ (o : Option RuleSet) (j k : ℕ) where
       → knownTo o (w .rule) ≡ true → Sim o j k ((exec e w b sp x v) .vol) (postReport ((exec e w b sp x v) .report) (e .world .now) u s)
   unfolding exec
   execs e w b sp (Primitive i) v u s h er eb kr = acts (primAt e w (v .rest) i) ((primAt e w (v .rest) i) .disables) _ v (e .world .now) u s h
-  execs e w b sp (Wait ms) v u s h er eb kr = schedules e w b ms _ v u s h er eb kr
-  execs e w b sp (After ms n) v u s h er eb kr = schedules e w b ms _ v u s h er eb kr
+  execs e w b sp (Wait ms) v u s h er eb kr = schedules e w b _ ms _ v u s h er eb kr
+  execs e w b sp (After ms n) v u s h er eb kr = schedules e w b _ ms _ v u s h er eb kr
   execs e w b sp (Branch c t n) v u s h er eb kr = branches (conditionAt e (v .rest) c) t n sp v (e .world .now) u s h
   execs e w b sp Fail v u s h er eb kr = unfold postReport afterPrim in any-rest _ v s h
 
@@ -149,6 +199,7 @@ module _ (o : Option RuleSet) (j k : ℕ) where
   pub record Ends (l : Ledger) (x : RunOutput) : Type 0 where
     pub sim : Sim o j k (x .vol) ((postItems (x .trace) l) .standing)
     pub kept : Kept l (postItems (x .trace) l)
+    pub told : AllTell l (x .trace)
 
   -- at the head of a run
   pub record Set (e : Env) (r b : ℕ) (v : Volatile) (l : Ledger) : Type 0 where
@@ -158,21 +209,21 @@ module _ (o : Option RuleSet) (j k : ℕ) where
     pub left : l .payer .left ≡ b
 
   continue-run : (e : Env) (r b : ℕ) (y : Step) (d : StepResult) (n : Option Point) (K : Point → Volatile → RunOutput) (l : Ledger)
-      → Set e r b (d .vol) (postItem (paid y (d .report) (d .effect)) l)
+      → Set e r b (d .vol) (postItem (paid y (d .report) (d .effect)) l) → TellsReport (l .standing) (d .report)
       → ((sp : Point) (v : Volatile) (m : Ledger) → Set e r b v m → Ends m (K sp v))
       → Ends l (continueRun y d n K)
   unfolding continueRun postItem
-  continue-run e r b y d none K l h ih = record { sim = h .sim; kept = record { now = refl; budget = refl; due = refl } }
-  continue-run e r b y d (some sp) K l h ih =
+  continue-run e r b y d none K l h tells ih = record { sim = h .sim; kept = record { now = refl; budget = refl; due = refl }; told = (tells, tt) }
+  continue-run e r b y d (some sp) K l h tells ih =
       let x = ih sp (d .vol) (postItem (paid y (d .report) (d .effect)) l) h in
-      record { sim = x .sim; kept = record { now = x .kept .now; budget = x .kept .budget; due = x .kept .due } }
+      record { sim = x .sim; kept = record { now = x .kept .now; budget = x .kept .budget; due = x .kept .due }; told = (tells, x .told) }
 
   -- the first step of a run, and the rest by `ih`
   with-step : (b : ℕ) (e : Env) (w : Job) (sp : Point) (v : Volatile) (l : Ledger) → knownTo o (w .rule) ≡ true → Set e (w .rule) (suc b) v l
       → ((sp′ : Point) (v′ : Volatile) (m : Ledger) → Set e (w .rule) b v′ m → Ends m (runSteps b e w sp′ v′)) → (x : Option Step)
       → Ends l (withStep x v (λ s. let d = exec e w b sp s v in continueRun s d (d .next) (λ sp′ v′. runSteps b e w sp′ v′)))
   unfolding withStep postItem
-  with-step b e w sp v l kr h ih none = record { sim = h .sim; kept = kept-refl }
+  with-step b e w sp v l kr h ih none = record { sim = h .sim; kept = kept-refl; told = tt }
   with-step b e w sp v l kr h ih (some x) =
       continue-run e (w .rule) b x (exec e w b sp x v) ((exec e w b sp x v) .next) (λ sp′ v′. runSteps b e w sp′ v′) l
       (record {
@@ -181,11 +232,11 @@ module _ (o : Option RuleSet) (j k : ℕ) where
         rule = h .rule;
         left = ap pred (h .left);
       })
-      ih
+      (execs-tell o j k e w b sp x v (l .standing) (h .sim)) ih
 
   pub runs : (b : ℕ) (e : Env) (w : Job) (sp : Point) (v : Volatile) (l : Ledger) → knownTo o (w .rule) ≡ true → Set e (w .rule) b v l → Ends l (runSteps b e w sp v)
   unfolding runSteps
-  runs zero e w sp v l kr h = record { sim = h .sim; kept = kept-refl }
+  runs zero e w sp v l kr h = record { sim = h .sim; kept = kept-refl; told = tt }
   runs (suc b) e w sp v l kr h = with-step b e w sp v l kr h (λ sp′ v′ m g. runs b e w sp′ v′ m kr g) (stepAt (e .set) (w .index) sp)
 
   -- a list of runs: the budget of the set and the call's time stay
@@ -193,9 +244,14 @@ module _ (o : Option RuleSet) (j k : ℕ) where
     pub sim : Sim o j k (x .vol) ((postItems (x .trace) l) .standing)
     pub now : (postItems (x .trace) l) .now ≡ l .now
     pub budget : (postItems (x .trace) l) .budget ≡ l .budget
+    pub told : AllTell l (x .trace)
 
   pub no-outcome : (v : Volatile) (l : Ledger) → Sim o j k v (l .standing) → Simulates l (noOutcome v)
-  no-outcome v l h = record { sim = h; now = refl; budget = refl }
+  no-outcome v l h = record { sim = h; now = refl; budget = refl; told = tt }
+
+  aborts : (v : Volatile) (os : List Outcome) (r : ℕ) (l : Ledger) → Sim o j k v (l .standing) → Simulates l (record { vol = v; outcomes = os; trace = aborted r ∷ [] })
+  unfolding postItem
+  aborts v os r l h = record { sim = h; now = refl; budget = refl; told = (tt, tt) }
 
   pub and-then : (l : Ledger) (x : Handled) (K : Volatile → Handled) → Simulates l x → Simulates (postItems (x .trace) l) (K (x .vol)) → Simulates l (andThen x K)
   and-then l x K p q =
@@ -204,6 +260,7 @@ module _ (o : Option RuleSet) (j k : ℕ) where
         sim = rw (post-append (x .trace) (y .trace) l) (q .sim);
         now = rw (post-append (x .trace) (y .trace) l) (q .now ∙ p .now);
         budget = rw (post-append (x .trace) (y .trace) l) (q .budget ∙ p .budget);
+        told = tell-append (x .trace) (y .trace) l (p .told) (q .told);
       }
 
   -- a wet activation
@@ -213,7 +270,7 @@ module _ (o : Option RuleSet) (j k : ℕ) where
   executes e w v l kr h hn hb =
       let x = runs (budget (e .set .image)) e w start _ (postItem (started (w .rule)) l) kr
       (record { sim = any-rest o j k _ v (l .standing) h; now = hn; rule = refl; left = hb }) in
-      record { sim = any-rest o j k _ _ _ (x .sim); now = x .kept .now; budget = x .kept .budget }
+      record { sim = any-rest o j k _ _ _ (x .sim); now = x .kept .now; budget = x .kept .budget; told = (tt, x .told) }
 
   wet-execute : (e : Env) (w : Job) (d : Bool) (v : Volatile) (l : Ledger) → d ≡ false → knownTo o (w .rule) ≡ true → Sim o j k v (l .standing)
       → l .now ≡ e .world .now → l .budget ≡ budget (e .set .image) → Simulates l (execute e w d v)
@@ -224,8 +281,8 @@ module _ (o : Option RuleSet) (j k : ℕ) where
       → l .now ≡ e .world .now → l .budget ≡ budget (e .set .image) → Simulates l (decided d e w v)
   decides e w (begins s) v l wet kr h hn hb = wet-execute e w (w .dry) (withRest s v) l wet kr (any-rest o j k s v (l .standing) h) hn hb
   decides e w (suppressed s) v l wet kr h hn hb = no-outcome (withRest s v) l (any-rest o j k s v (l .standing) h)
-  decides e w (tooDeep s) v l wet kr h hn hb = record { sim = any-rest o j k s v (l .standing) h; now = refl; budget = refl }
-  decides e w (unevaluable s) v l wet kr h hn hb = record { sim = any-rest o j k s v (l .standing) h; now = refl; budget = refl }
+  decides e w (tooDeep s) v l wet kr h hn hb = aborts (withRest s v) _ _ l (any-rest o j k s v (l .standing) h)
+  decides e w (unevaluable s) v l wet kr h hn hb = aborts (withRest s v) _ _ l (any-rest o j k s v (l .standing) h)
 
   pub activates : (e : Env) (i kind : ℕ) (m : Mode) (v : Volatile) (l : Ledger) → isDry m ≡ false → knownTo o (nameOf (e .set .image) i) ≡ true
       → Sim o j k v (l .standing) → l .now ≡ e .world .now → l .budget ≡ budget (e .set .image) → Simulates l (activate e i kind 0 m v)
@@ -281,13 +338,13 @@ module _ (o : Option RuleSet) (j k : ℕ) where
     all-resume (c ∷ cs) [] v l m d kn h hn = absurd (cons≢nil m)
     all-resume (c ∷ cs) (x ∷ xs) v l m d kn h hn =
         let q = runs (c .budget) e (jobOf e (c .rule) (orElse 0 (ruleNamed (e .set .image) (c .rule))) (c .trigger) false) (c .point)
-        (withRest (bump continuationsFired (v .rest)) v) (postItem (resumed (c .rule)) l) (and-l _ _ kn)
+        (withRest (bump continuationsFired (v .rest)) v) (postItem (resumed c) l) (and-l _ _ kn)
         (record {
           sim = any-rest o j k _ v (l .standing) h;
           now = hn;
           rule = ap (λ ds. (resumedPayer (c .rule) ds) .rule) d;
           left = ap (λ ds. (resumedPayer (c .rule) ds) .left) d ∙ sym (ap (λ (a : Aged). a .entry .budget) (head-eq-of-cons-eq m));
         }) in
-        let p : Simulates l (resume e c v) = record { sim = any-rest o j k _ _ _ (q .sim); now = q .kept .now; budget = q .kept .budget } in
+        let p : Simulates l (resume e c v) = record { sim = any-rest o j k _ _ _ (q .sim); now = q .kept .now; budget = q .kept .budget; told = (tt, q .told) } in
         and-then l (resume e c v) (λ v′. resumeAll e cs v′) p
         (all-resume cs xs ((resume e c v) .vol) _ (tail-eq-of-cons-eq m) (q .kept .due ∙ ap tail d) (and-r (knownTo o (c .rule)) _ kn) (p .sim) (p .now ∙ hn))

@@ -8,7 +8,7 @@ use mathlib.Core.Option.{none}
 use lib.Dec.{ltb, eqb}
 use lib.ListN.{length}
 use Rattle.model.specs.Lists.{all}
-use Rattle.model.specs.Outcome.{plain, disables, defers, started, resumed, paid}
+use Rattle.model.specs.Outcome.{plain, disables, defers, started, resumed, aborted, paid}
 use Rattle.model.specs.declared.Pending.{Pending}
 use Rattle.model.specs.State.{Store}
 use Rattle.model.specs.Calls.{Call, call}
@@ -38,10 +38,11 @@ distinct-post (disabled q) l b d = distinct-keep ageOf _ (l .standing .postings)
 distinct-post (ticked t) l b d = distinct-keep ageOf _ (l .standing .postings) d
 distinct-post (ran t) l b d = d
 distinct-post (traced (started r)) l b d = d
-distinct-post (traced (resumed r)) l b d = d
+distinct-post (traced (resumed c)) l b d = d
+distinct-post (traced (aborted r)) l b d = d
 distinct-post (traced (paid x plain g)) l b d = d
 distinct-post (traced (paid x (disables q) g)) l b d = distinct-keep ageOf _ (l .standing .postings) d
-distinct-post (traced (paid x (defers ms sp) g)) l b d = distinct-accept _ (l .standing) refl b d
+distinct-post (traced (paid x (defers w ms sp) g)) l b d = distinct-accept _ (l .standing) refl b d
 
 distinct-posts : (ms : List Event) (l : Ledger) → below l ≡ true → distinctBy ageOf (l .standing .postings) ≡ true → distinctBy ageOf ((postAll ms l) .standing .postings) ≡ true
 distinct-posts [] l b d = d

@@ -12,7 +12,7 @@ use Rattle.model.specs.Image as image
 use Rattle.model.specs.World.{nowOf}
 use Rattle.model.specs.declared.Point.{Point}
 use Rattle.model.specs.declared.Effect.{Effect}
-use Rattle.model.specs.Outcome.{Report, plain, disables, defers, Item, started, resumed, paid}
+use Rattle.model.specs.Outcome.{Report, plain, disables, defers, Item, started, resumed, aborted, paid}
 use Rattle.model.specs.declared.Pending.{Pending}
 use Rattle.model.specs.State.{RuleSet, Store}
 use Rattle.model.specs.Calls.{Call, new, load, unload, enable, tick, run, deadline, counters, Answer, done, refused, enabled, handled, due, counted, Done, call}
@@ -104,11 +104,11 @@ struck q hs = keep (λ (h : Posting). not (eqb (h .entry .rule) q)) hs
 unfoldable pub accept : Posting → Standing → Standing
 accept h s = cond (eqb (length (s .postings)) 32) s (record { postings = s .postings ++ (h ∷ []); next = suc (s .next) })
 
--- what a step reports, once it is paid; the due time is the "call's time plus its milliseconds, saturating"
+-- what a step reports, once it is paid; whether the engine says that it drops a wait or an after is not asked; the due time is the "call's time plus its milliseconds, saturating"
 unfoldable pub postReport : Report → ℕ → Payer → Standing → Standing
 postReport plain now u s = s
 postReport (disables q) now u s = record { postings = struck q (s .postings); next = s .next }
-postReport (defers ms sp) now u s =
+postReport (defers d ms sp) now u s =
     accept
     (record {
       entry = record { rule = u .rule; point = sp; due = saturatingAdd max64 now ms; budget = u .left };
@@ -126,7 +126,7 @@ countEffect none origin before = before
 countEffect (some x) none before = before
 countEffect (some x) (some a) before = a ∷ before
 
--- a resumption goes on with the budget and the origin of the first entry that is still to resume
+-- a resumption goes on with the budget and the origin of the first entry that is still to resume; of the record only the rule is asked
 abbrev pub resumedPayer : ℕ → List Posting → Payer
 resumedPayer r [] = record { rule = r; left = 0; origin = none }
 resumedPayer r (h ∷ hs) = record { rule = r; left = h .entry .budget; origin = h .origin }
@@ -143,8 +143,9 @@ postItem (started r) l =
       count = suc (l .count);
       effects = l .effects;
     }
-postItem (resumed r) l =
-    record { now = l .now; budget = l .budget; standing = l .standing; due = tail (l .due); payer = resumedPayer r (l .due); count = l .count; effects = l .effects }
+postItem (aborted r) l = l
+postItem (resumed c) l =
+    record { now = l .now; budget = l .budget; standing = l .standing; due = tail (l .due); payer = resumedPayer (c .rule) (l .due); count = l .count; effects = l .effects }
 postItem (paid x s g) l =
     record { now = l .now; budget = l .budget; standing = postReport s (l .now) (pay (l .payer)) (l .standing); due = l .due; payer = pay (l .payer); count = l .count; effects = countEffect g (l .payer .origin) (l .effects) }
 
@@ -213,8 +214,27 @@ isRefused (handled os) = false
 isRefused (due t) = false
 isRefused (counted cs) = false
 
+-- a store that is made new starts its sequence numbers again
+abbrev pub isNew : Call → Bool
+isNew (new t) = true
+isNew (load t img) = false
+isNew (unload t) = false
+isNew (enable rule on) = false
+isNew (tick snap os es) = false
+isNew (run rule dry snap os es) = false
+isNew deadline = false
+isNew counters = false
+
 abbrev pub noticeOf : Call → Done → Notice
 noticeOf c d = record { call = c; refused = isRefused (d .answer); trace = d .trace }
+
+-- the records that a call resumes, as its trace has them
+abbrev pub resumedIn : List Item → List Pending
+resumedIn [] = []
+resumedIn (resumed c ∷ ms) = c ∷ resumedIn ms
+resumedIn (started r ∷ ms) = resumedIn ms
+resumedIn (aborted r ∷ ms) = resumedIn ms
+resumedIn (paid x s g ∷ ms) = resumedIn ms
 
 -- the calls one after the other: what the ledger is told, the records that each resumes, and the store after them
 unfoldable pub notices : Store → List Call → List Notice
@@ -223,7 +243,7 @@ notices s (c ∷ cs) = noticeOf c (call c s) ∷ notices ((call c s) .store) cs
 
 unfoldable pub resumedAtEach : Store → List Call → List (List Entry)
 resumedAtEach s [] = []
-resumedAtEach s (c ∷ cs) = map entryOf ((call c s) .resumed) ∷ resumedAtEach ((call c s) .store) cs
+resumedAtEach s (c ∷ cs) = map entryOf (resumedIn ((call c s) .trace)) ∷ resumedAtEach ((call c s) .store) cs
 
 unfoldable pub finalStore : Store → List Call → Store
 finalStore s [] = s

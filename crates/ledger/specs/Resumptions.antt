@@ -7,7 +7,7 @@ use lib.Dec.{leb, eqb}
 use Rattle.model.specs.Lists.{keep}
 use Rattle.words.specs.Saturating.{saturatingAdd, max64}
 use Rattle.model.specs.declared.Point.{Point}
-use Rattle.model.specs.Outcome.{plain, disables, defers, started, resumed, paid}
+use Rattle.model.specs.Outcome.{plain, disables, defers, started, resumed, aborted, paid}
 use Rattle.ledger.specs.Ledger.{Event, cleared, disabled, ticked, ran, traced, Entry, Posting, Ledger, Notice, eventsOf, leaving, post}
 
 -- all that changes the ledger, in one list
@@ -25,10 +25,11 @@ changeAt e (disabled q) = cond (eqb (e .rule) q) struckOut stays
 changeAt e (ticked t) = cond (leb (e .due) t) leaves stays
 changeAt e (ran t) = stays
 changeAt e (traced (started r)) = stays
-changeAt e (traced (resumed r)) = stays
+changeAt e (traced (resumed c)) = stays
+changeAt e (traced (aborted r)) = stays
 changeAt e (traced (paid x plain g)) = stays
 changeAt e (traced (paid x (disables q) g)) = cond (eqb (e .rule) q) struckOut stays
-changeAt e (traced (paid x (defers ms sp) g)) = stays
+changeAt e (traced (paid x (defers d ms sp) g)) = stays
 
 -- a resumption: the number of its tick, and the continuation with its stored budget
 pub record Resumption : Type 0 where
@@ -41,7 +42,8 @@ tickNumber (disabled q) i = i
 tickNumber (ticked t) i = suc i
 tickNumber (ran t) i = i
 tickNumber (traced (started r)) i = i
-tickNumber (traced (resumed r)) i = i
+tickNumber (traced (resumed c)) i = i
+tickNumber (traced (aborted r)) i = i
 tickNumber (traced (paid x s g)) i = i
 
 -- the number of the next tick behind these events
@@ -66,7 +68,8 @@ leavingOn (disabled q) l = []
 leavingOn (ticked t) l = leaving t (l .standing .postings)
 leavingOn (ran t) l = []
 leavingOn (traced (started r)) l = []
-leavingOn (traced (resumed r)) l = []
+leavingOn (traced (resumed c)) l = []
+leavingOn (traced (aborted r)) l = []
 leavingOn (traced (paid x s g)) l = []
 
 -- all that leaves, whatever its age

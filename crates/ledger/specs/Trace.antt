@@ -1,10 +1,11 @@
--- What it means that a trace is the run of a rule's list: each item is the step that stands at its place, reports what that step says and
--- leads where that step leads; and a run stops only at the list's end, at budget 0, or behind a wait.
+-- What it means that a call's trace and its outcomes are runs of its rules' lists: each item is the step that stands at its place, reports
+-- what that step says and leads where that step leads; a run stops only at the list's end, at budget 0, or behind a wait; and each run has one
+-- outcome, which tells the run's rule, trigger, effects and reason.
 use mathlib.Core.Path.{_≡_}
 use mathlib.Core.Logic.{_⊎_}
 use Prim.Native.Nat.{ℕ, suc, _+_}
-use mathlib.Core.Bool.{cond}
-use mathlib.Core.List.{List, [], _∷_, _++_, map}
+use mathlib.Core.Bool.{Bool, true, false, cond}
+use mathlib.Core.List.{List, [], _∷_, _++_}
 use mathlib.Core.Option.{Option, none, some}
 use Rattle.model.specs.Lists.{orElse, toList, present}
 use Rattle.model.specs.Image.{budget}
@@ -16,20 +17,22 @@ use Rattle.model.specs.declared.Step.{Step}
 use Rattle.model.specs.declared.Point.{Point}
 use Rattle.model.specs.declared.Step.the-variants.{Primitive, Wait, Branch, After, Fail}
 use Rattle.model.specs.declared.Effect.{Effect}
-use Rattle.model.specs.Outcome.{Outcome, Report, plain, disables, defers, Item, started, resumed, paid}
+use Rattle.model.specs.declared.Pending.{Pending}
+use Rattle.model.specs.Outcome.{Outcome, Report, plain, disables, defers, Item, started, resumed, aborted, paid}
 use Rattle.model.specs.State.{RuleSet}
 use Rattle.model.specs.Flat.{stepAt}
-use Rattle.model.specs.Exec.{advance, enterThen, bodyStart}
+use Rattle.model.specs.Actions.{conditionUnevaluable}
+use Rattle.model.specs.Exec.{effectBudget, firstReason, advance, enterThen, bodyStart}
 use Rattle.model.specs.Steps.{start}
-use Rattle.model.specs.Calls.{Done}
+use Rattle.model.specs.Calls.{Call, new, load, unload, enable, tick, run, deadline, counters, Done}
 use Rattle.model.specs.Answers.{outcomesIn}
-use Rattle.ledger.specs.Ledger.{Entry, entryOf}
 
 -- the effects of the paid steps, in order: a step gives one at the most
 abbrev pub effectsIn : List Item → List Effect
 effectsIn [] = []
+effectsIn (resumed c ∷ ms) = effectsIn ms
 effectsIn (started r ∷ ms) = effectsIn ms
-effectsIn (resumed r ∷ ms) = effectsIn ms
+effectsIn (aborted r ∷ ms) = effectsIn ms
 effectsIn (paid x s g ∷ ms) = toList g ++ effectsIn ms
 
 -- what a wet action reports: RuleDisable of a rule of the set disables it, "off already or not"
@@ -59,13 +62,21 @@ reportOf img (Log t) = plain
 reportOf img (StatCount n) = plain
 reportOf img NoAction = plain
 
--- what a step reports at a point; only an action gives an effect. A wait is told apart below.
-abbrev pub Reports : RuleSet → Step → Point → Report → Option Effect → Type 0
-Reports set (Primitive i) sp s g = s ≡ reportOf (set .image) (actionOf (recordOf (set .image) actions i))
-Reports set (Wait ms) sp s g = ⊥
-Reports set (After ms n) sp s g = (s ≡ defers ms (bodyStart sp)) × (g ≡ none)
-Reports set (Branch c t n) sp s g = (s ≡ plain) × (g ≡ none)
-Reports set Fail sp s g = (s ≡ plain) × (g ≡ none)
+-- an action or a condition that cannot be evaluated notes reason 1
+abbrev pub MayFail : ℕ → Type 0
+MayFail q = (q ≡ 0) ⊎ (q ≡ conditionUnevaluable)
+
+-- a wait or an after that is dropped notes reason 2
+abbrev pub reasonIf : Bool → ℕ
+reasonIf dropped = cond dropped effectBudget 0
+
+-- what a step reports at a point, the effect that it gives (only an action gives one) and the reason that it notes. A wait is told apart below.
+abbrev pub Reports : RuleSet → Step → Point → Report → Option Effect → ℕ → Type 0
+Reports set (Primitive i) sp s g q = (s ≡ reportOf (set .image) (actionOf (recordOf (set .image) actions i))) × MayFail q
+Reports set (Wait ms) sp s g q = ⊥
+Reports set (After ms n) sp s g q = (d : Bool) × (s ≡ defers d ms (bodyStart sp)) × (g ≡ none) × (q ≡ reasonIf d)
+Reports set (Branch c t n) sp s g q = (s ≡ plain) × (g ≡ none) × MayFail q
+Reports set Fail sp s g q = (s ≡ plain) × (g ≡ none) × (q ≡ conditionUnevaluable)
 
 -- into the then-region, into the else-region, or past both
 abbrev pub Branches : ℕ → ℕ → Point → Point → Type 0
@@ -79,28 +90,73 @@ Leads (After ms n) sp to = to ≡ advance sp n
 Leads (Branch c t n) sp to = Branches t n sp to
 Leads Fail sp to = to ≡ advance sp 0
 
--- a run of rule i of the set, with a budget, from a point on
-pub data RunOf (set : RuleSet) (i : ℕ) : ℕ → Point → List Item → Type 0 where
-  ended : {b : ℕ} {sp : Point} → stepAt set i sp ≡ none → RunOf set i b sp []
-  spent : {sp : Point} → RunOf set i 0 sp []
-  waits : {b ms : ℕ} {sp : Point} → stepAt set i sp ≡ some (Wait ms) → RunOf set i (suc b) sp (paid (Wait ms) (defers ms (advance sp 0)) none ∷ [])
-  continues : {b : ℕ} {sp to : Point} {x : Step} {s : Report} {g : Option Effect} {ms : List Item} → stepAt set i sp ≡ some x → Reports set x sp s g → Leads x sp to
-      → RunOf set i b to ms → RunOf set i (suc b) sp (paid x s g ∷ ms)
+-- a run of rule i of the set, with a budget, from a point on: its paid steps, and its reason, the first that is noted. Reason 2 is noted by a
+-- wait or an after that is dropped, and by a step that is left when the budget is used up; by nothing else.
+pub data RunOf (set : RuleSet) (i : ℕ) : ℕ → Point → List Item → ℕ → Type 0 where
+  ended : {b : ℕ} {sp : Point} → stepAt set i sp ≡ none → RunOf set i b sp [] 0
+  exhausted : {sp : Point} {x : Step} → stepAt set i sp ≡ some x → RunOf set i 0 sp [] effectBudget
+  waits : {b ms : ℕ} {sp : Point} {d : Bool} → stepAt set i sp ≡ some (Wait ms)
+      → RunOf set i (suc b) sp (paid (Wait ms) (defers d ms (advance sp 0)) none ∷ []) (reasonIf d)
+  continues : {b r : ℕ} {sp to : Point} {x : Step} {s : Report} {g : Option Effect} {ms : List Item} (q : ℕ) → stepAt set i sp ≡ some x → Reports set x sp s g q → Leads x sp to
+      → RunOf set i b to ms r → RunOf set i (suc b) sp (paid x s g ∷ ms) (firstReason q r)
 
--- the trace of a call: the entries that leave resume in order, each at its place and with its budget; then come activations
-pub data TraceOf (set : RuleSet) : List Entry → List Item → Type 0 where
-  none-runs : TraceOf set [] []
-  resumption : {x : Entry} {xs : List Entry} {ms rest : List Item} → RunOf set (orElse 0 (ruleNamed (set .image) (x .rule))) (x .budget) (x .point) ms
-      → TraceOf set xs rest → TraceOf set (x ∷ xs) (resumed (x .rule) ∷ (ms ++ rest))
-  activation : {i : ℕ} {ms rest : List Item} → RunOf set i (budget (set .image)) start ms → TraceOf set [] rest
-      → TraceOf set [] (started (nameOf (set .image) i) ∷ (ms ++ rest))
+-- what a wet run's outcome tells: the rule, the trigger, the reason, and the effects of these paid steps
+abbrev pub wetOutcome : ℕ → ℕ → ℕ → List Item → Outcome
+wetOutcome rule kind reason ms = record { rule = rule; dry = 0; trigger = kind; reason = reason; effects = effectsIn ms }
 
--- the effects of a call's outcomes, in order
-abbrev pub given : List Outcome → List Effect
-given [] = []
-given (o ∷ os) = o .effects ++ given os
+-- activations one after the other, each with its outcome: a run of a rule's list from its start with the set's budget; or none, where the
+-- conditions cannot be evaluated
+pub data ActivationsOf (set : RuleSet) : List Item → List Outcome → Type 0 where
+  no-more : ActivationsOf set [] []
+  activation : {i kind reason : ℕ} {ms rest : List Item} {os : List Outcome} → RunOf set i (budget (set .image)) start ms reason → ActivationsOf set rest os
+      → ActivationsOf set (started (nameOf (set .image) i) ∷ (ms ++ rest)) (wetOutcome (nameOf (set .image) i) kind reason ms ∷ os)
+  unevaluable : {kind : ℕ} {rest : List Item} {os : List Outcome} (i : ℕ) → ActivationsOf set rest os
+      → ActivationsOf set (aborted (nameOf (set .image) i) ∷ rest) (wetOutcome (nameOf (set .image) i) kind conditionUnevaluable [] ∷ os)
 
--- of a call that runs steps, with the set in the store: its trace is made of such runs, and its effects are those of the paid steps
-pub record FaithfulTrace (set : RuleSet) (d : Done) : Type 0 where
-  pub runs : TraceOf set (map entryOf (d .resumed)) (d .trace)
-  pub effects : given (outcomesIn (d .answer)) ≡ effectsIn (d .trace)
+-- first resumptions, each with its outcome: a run of the record's rule from its point on with its budget; then activations
+pub data TraceOf (set : RuleSet) : List Item → List Outcome → Type 0 where
+  activations : {ms : List Item} {os : List Outcome} → ActivationsOf set ms os → TraceOf set ms os
+  resumption : {c : Pending} {reason : ℕ} {ms rest : List Item} {os : List Outcome}
+      → RunOf set (orElse 0 (ruleNamed (set .image) (c .rule))) (c .budget) (c .point) ms reason → TraceOf set rest os
+      → TraceOf set (resumed c ∷ (ms ++ rest)) (wetOutcome (c .rule) (c .trigger) reason ms ∷ os)
+
+-- A CALL: its trace and its outcomes, given the set in the store that it finds --------------------------------------------------------
+abbrev pub outcomesOf : Done → List Outcome
+outcomesOf d = outcomesIn (d .answer)
+
+-- nothing runs, and there is no outcome
+pub record NoOutput (d : Done) : Type 0 where
+  pub trace : d .trace ≡ []
+  pub outcomes : outcomesOf d ≡ []
+
+-- without a set nothing runs
+abbrev pub Ticks : Option RuleSet → Done → Type 0
+Ticks none d = NoOutput d
+Ticks (some set) d = TraceOf set (d .trace) (outcomesOf d)
+
+-- no outcome, or one: of this rule, with trigger 0
+abbrev pub OnlyOf : ℕ → List Outcome → Type 0
+OnlyOf r [] = Unit {0}
+OnlyOf r (o ∷ []) = (o .rule ≡ r) × (o .trigger ≡ 0)
+OnlyOf r (o ∷ p ∷ os) = ⊥
+
+-- a wet run activates the rule that it names, once at the most
+pub record WetRunOf (set : RuleSet) (r : ℕ) (d : Done) : Type 0 where
+  pub runs : ActivationsOf set (d .trace) (outcomesOf d)
+  pub only : OnlyOf r (outcomesOf d)
+
+abbrev pub RunsWet : ℕ → Option RuleSet → Done → Type 0
+RunsWet r none d = NoOutput d
+RunsWet r (some set) d = WetRunOf set r d
+
+-- only ticks and runs have a trace and outcomes. A dry run's are not demand 3's.
+abbrev pub Conforms : Call → Option RuleSet → Done → Type 0
+Conforms (new t) o d = NoOutput d
+Conforms (load t img) o d = NoOutput d
+Conforms (unload t) o d = NoOutput d
+Conforms (enable r on) o d = NoOutput d
+Conforms (tick snap os es) o d = Ticks o d
+Conforms (run r false snap os es) o d = RunsWet r o d
+Conforms (run r true snap os es) o d = Unit {0}
+Conforms deadline o d = NoOutput d
+Conforms counters o d = NoOutput d

@@ -9,7 +9,7 @@ use Rattle.model.specs.Lists.{orElse}
 use Rattle.model.specs.Image.{budget}
 use Rattle.model.specs.Rules.{nameOf, holdHclOf, cooldownOf, conditionsOfRule, ruleNamed}
 use Rattle.model.specs.Steps.{Point, start}
-use Rattle.model.specs.Outcome.{Effect, Outcome, Item, started, resumed}
+use Rattle.model.specs.Outcome.{Effect, Outcome, Item, started, resumed, aborted}
 use Rattle.model.specs.State.{Env, Rest, Volatile, Pending, withRest, withLastActivation, bump, bumpBy, lastActivationAt, activationsTotal, activationsDry, suppressedCooldown, conditionsRejected, partialOutcomes, chainDepthExceeded, effectsEmitted, continuationsFired}
 use Rattle.model.specs.Eval.{conditionsHold}
 use Rattle.model.specs.Actions.{Job, conditionUnevaluable}
@@ -106,8 +106,8 @@ execute e j false v = executeWet e j v
 abbrev pub decided : Decision → Env → Job → Volatile → Handled
 decided (begins s) e j v = execute e j (j .dry) (withRest s v)
 decided (suppressed s) e j v = noOutcome (withRest s v)
-decided (tooDeep s) e j v = record { vol = withRest s v; outcomes = outcome j [] chainDepth ∷ []; trace = [] }
-decided (unevaluable s) e j v = record { vol = withRest s v; outcomes = outcome j [] conditionUnevaluable ∷ []; trace = [] }
+decided (tooDeep s) e j v = record { vol = withRest s v; outcomes = outcome j [] chainDepth ∷ []; trace = aborted (j .rule) ∷ [] }
+decided (unevaluable s) e j v = record { vol = withRest s v; outcomes = outcome j [] conditionUnevaluable ∷ []; trace = aborted (j .rule) ∷ [] }
 
 -- rule i of the set, by a trigger kind of an outcome, at a depth
 unfoldable pub activate : Env → ℕ → ℕ → ℕ → Mode → Volatile → Handled
@@ -117,4 +117,4 @@ activate e i kind depth m v = decided (decide e i depth m (v .rest)) e (jobOf e 
 unfoldable pub resume : Env → Pending → Volatile → Handled
 resume e c v =
     let j = jobOf e (c .rule) (orElse 0 (ruleNamed (e .set .image) (c .rule))) (c .trigger) false in
-    finished j (resumed (c .rule)) (runSteps (c .budget) e j (c .point) (withRest (bump continuationsFired (v .rest)) v))
+    finished j (resumed c) (runSteps (c .budget) e j (c .point) (withRest (bump continuationsFired (v .rest)) v))

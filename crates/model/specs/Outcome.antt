@@ -1,9 +1,11 @@
 -- Outcomes, effects, and the trace: document 01, "Outcomes and effects" and demand 3.
 use Prim.Native.Nat.{ℕ}
+use mathlib.Core.Bool.{Bool}
 use mathlib.Core.List.{List, [], _∷_}
 use mathlib.Core.Option.{Option, none, some}
 pub use Rattle.model.specs.declared.Effect.{Effect}
 use Rattle.model.specs.Steps.{Step, Point}
+use Rattle.model.specs.declared.Pending.{Pending}
 
 -- dry is 0 or 1; trigger: 0 HttpTrigger, 1 TimerFires, 2 Every, 3 AtTime, 4 AtSolar;
 -- reason: 0 none, 1 ConditionUnevaluable, 2 EffectBudget, 3 ChainDepth
@@ -18,10 +20,12 @@ pub record Outcome : Type 0 where
 pub data Report : Type 0 where
   plain : Report
   disables : ℕ → Report  -- it disabled this rule
-  defers : ℕ → Point → Report  -- a wait or an after: its milliseconds, and where its continuation starts
+  defers : Bool → ℕ → Point → Report  -- a wait or an after: whether it is dropped, its milliseconds, and where its continuation starts
 
--- the trace of a call, in order: the steps behind `started` and `resumed` are that activation's or resumption's own
+-- the trace of a call, in order: the steps behind `started` and `resumed` are that activation's or resumption's own. Each item but a
+-- paid step begins what one outcome tells of.
 pub data Item : Type 0 where
-  started : ℕ → Item
-  resumed : ℕ → Item
+  resumed : Pending → Item  -- this record resumes
+  started : ℕ → Item  -- the rule of this name starts
+  aborted : ℕ → Item  -- it would start, but its conditions cannot be evaluated (or the chain is too deep): no step runs
   paid : Step → Report → Option Effect → Item

@@ -1,0 +1,177 @@
+-- What follows from the claim alone, in plain numbers: effects with each outcome, reason 2, and the waits of a flat list.
+use mathlib.Core.Path.{_≡_, refl, sym, _∙_, ap, ap₂}
+use mathlib.Core.Logic.{_⊎_, inl, inr}
+use Prim.Native.Nat.{ℕ, zero, suc, _+_, _≤_}
+use native.Mathlib.Omega.{arith}
+use mathlib.Core.Bool.{Bool, true, false, _||_, false≢true}
+use mathlib.Core.List.{List, [], _∷_, _++_, map}
+use mathlib.Core.Option.{Option}
+use lib.ListN.{length, length-append}
+use Rattle.model.specs.Lists.{toList}
+use Rattle.model.specs.Image.{budget}
+use Rattle.model.specs.declared.Point.{Point}
+use Rattle.model.specs.declared.Effect.{Effect}
+use Rattle.model.specs.declared.Pending.{Pending}
+use Rattle.model.specs.declared.Step.{Step}
+use Rattle.model.specs.declared.Step.the-variants.{Primitive, Wait, Branch, After, Fail}
+use Rattle.model.specs.declared.FlowAction.{FlowAction}
+use Rattle.model.specs.declared.FlowAction.the-variants.{Wait as WaitAction, After as AfterAction, Call, Repeat, Conditional, Plain}
+use Rattle.model.specs.Outcome.{Outcome, Item, started, resumed, aborted, paid}
+use Rattle.model.specs.State.{RuleSet}
+use Rattle.ledger.specs.Trace.{effectsIn, RunOf, ended, exhausted, waits, continues, ActivationsOf, no-more, activation, unevaluable, TraceOf, activations, resumption}
+use Rattle.ledger.specs.FlatForm.{flowAt, ListForm, at-end, action, cut-off, ActionForm, is-plain, is-wait, is-after, is-call, is-repeat, is-branch, fails}
+use Rattle.ledger.proofs.Reasons.{isDrop, dropsOne, reason-two}
+
+-- EFFECTS WITH EACH OUTCOME --------------------------------------------------------------------------------------------------------
+-- the effects of the paid steps up to the next beginning; and of each beginning
+abbrev pub own : List Item → ℕ
+own [] = 0
+own (started r ∷ ms) = 0
+own (resumed c ∷ ms) = 0
+own (aborted r ∷ ms) = 0
+own (paid x s g ∷ ms) = length (toList g) + own ms
+
+abbrev pub counts : List Item → List ℕ
+counts [] = []
+counts (started r ∷ ms) = own ms ∷ counts ms
+counts (resumed c ∷ ms) = own ms ∷ counts ms
+counts (aborted r ∷ ms) = own ms ∷ counts ms
+counts (paid x s g ∷ ms) = counts ms
+
+run-own : {set : RuleSet} {i b reason : ℕ} {sp : Point} {ms : List Item} (rest : List Item) → RunOf set i b sp ms reason → own (ms ++ rest) ≡ length (effectsIn ms) + own rest
+run-own rest (ended h) = omega arith
+run-own rest (exhausted h) = omega arith
+run-own rest (waits h) = omega arith
+run-own rest (continues {g = g} {ms = ms} q h r to w) = let i = run-own rest w in let l = length-append (toList g) (effectsIn ms) in omega arith
+
+run-counts : {set : RuleSet} {i b reason : ℕ} {sp : Point} {ms : List Item} (rest : List Item) → RunOf set i b sp ms reason → counts (ms ++ rest) ≡ counts rest
+run-counts rest (ended h) = refl
+run-counts rest (exhausted h) = refl
+run-counts rest (waits h) = refl
+run-counts rest (continues q h r to w) = run-counts rest w
+
+own-none : {set : RuleSet} {ms : List Item} {os : List Outcome} → ActivationsOf set ms os → own ms ≡ 0
+own-none no-more = refl
+own-none (activation w p) = refl
+own-none (unevaluable i p) = refl
+
+own-none-first : {set : RuleSet} {ms : List Item} {os : List Outcome} → TraceOf set ms os → own ms ≡ 0
+own-none-first (activations p) = own-none p
+own-none-first (resumption w p) = refl
+
+abbrev pub effectCount : Outcome → ℕ
+effectCount o = length (o .effects)
+
+activations-count : {set : RuleSet} {ms : List Item} {os : List Outcome} → ActivationsOf set ms os → map effectCount os ≡ counts ms
+activations-count no-more = refl
+activations-count (activation {ms = ms} {rest = rest} w p) =
+    let o = run-own rest w in
+    let z = own-none p in
+    let e : length (effectsIn ms) ≡ own (ms ++ rest) = omega arith in
+    ap₂ _∷_ e (activations-count p ∙ sym (run-counts rest w))
+activations-count (unevaluable i p) = ap₂ _∷_ (sym (own-none p)) (activations-count p)
+
+pub trace-count : {set : RuleSet} {ms : List Item} {os : List Outcome} → TraceOf set ms os → map effectCount os ≡ counts ms
+trace-count (activations p) = activations-count p
+trace-count (resumption {ms = ms} {rest = rest} w p) =
+    let o = run-own rest w in
+    let z = own-none-first p in
+    let e : length (effectsIn ms) ≡ own (ms ++ rest) = omega arith in
+    ap₂ _∷_ e (trace-count p ∙ sym (run-counts rest w))
+
+-- REASON 2 OF A WET RUN'S OUTCOME ----------------------------------------------------------------------------------------------------
+abbrev pub firstReasonIn : List Outcome → ℕ
+firstReasonIn [] = 0
+firstReasonIn (o ∷ os) = o .reason
+
+drops-front : (ms rest : List Item) → dropsOne ms ≡ true → dropsOne (ms ++ rest) ≡ true
+drops-front [] rest h = absurd (false≢true h)
+drops-front (started r ∷ ms) rest h = drops-front ms rest h
+drops-front (resumed r ∷ ms) rest h = drops-front ms rest h
+drops-front (aborted r ∷ ms) rest h = drops-front ms rest h
+drops-front (paid x s g ∷ ms) rest h = go (isDrop s) (dropsOne ms) (dropsOne (ms ++ rest)) h (drops-front ms rest)
+  where
+    go : (a b c : Bool) → a || b ≡ true → (b ≡ true → c ≡ true) → a || c ≡ true
+    go true b c h k = refl
+    go false b c h k = k h
+
+pub run-reason : {set : RuleSet} {ms : List Item} {os : List Outcome} → ActivationsOf set ms os → firstReasonIn os ≡ 2 → (dropsOne ms ≡ true) ⊎ (budget (set .image) ≤ length ms)
+run-reason no-more e = absurd (omega arith)
+run-reason {set} (activation {ms = ms} {rest = rest} w p) e = go (reason-two w e)
+  where
+    go : (dropsOne ms ≡ true) ⊎ (length ms ≡ budget (set .image)) → (dropsOne (ms ++ rest) ≡ true) ⊎ (budget (set .image) ≤ suc (length (ms ++ rest)))
+    go (inl h) = inl (drops-front ms rest h)
+    go (inr n) = inr (let l = length-append ms rest in omega arith)
+run-reason (unevaluable i p) e = absurd (omega arith)
+
+-- THE WAITS OF A FLAT LIST -----------------------------------------------------------------------------------------------------------
+abbrev pub waitStep : Step → ℕ
+waitStep (Primitive i) = 0
+waitStep (Wait ms) = 1
+waitStep (Branch c t n) = 0
+waitStep (After ms n) = 0
+waitStep Fail = 1
+
+-- waits, and Fails that may stand for them
+abbrev pub waitSteps : List Step → ℕ
+waitSteps [] = 0
+waitSteps (x ∷ xs) = waitStep x + waitSteps xs
+
+abbrev pub waitAction : FlowAction → ℕ
+waitAction (WaitAction ms) = 1
+waitAction (AfterAction ms f k) = 0
+waitAction (Call b) = 0
+waitAction (Repeat t f k) = 0
+waitAction (Conditional q yf yk ef ek) = 0
+waitAction Plain = 0
+
+waits-append : (xs ys : List Step) → waitSteps (xs ++ ys) ≡ waitSteps xs + waitSteps ys
+waits-append [] ys = omega arith
+waits-append (x ∷ xs) ys = let i = waits-append xs ys in omega arith
+
+action-waits : {img : List ℕ} {i : ℕ} {xs : List Step} → ActionForm img i xs → waitAction (flowAt img i) ≤ waitSteps xs
+action-waits (is-plain e) = let z = ap waitAction e in omega arith
+action-waits (is-wait e) = let z = ap waitAction e in omega arith
+action-waits (is-after e p) = let z = ap waitAction e in omega arith
+action-waits (is-call e q p) = let z = ap waitAction e in omega arith
+action-waits (is-repeat e p c) = let z = ap waitAction e in omega arith
+action-waits (is-branch e p q) = let z = ap waitAction e in omega arith
+action-waits {img} {i} (fails e) = go (flowAt img i)
+  where
+    go : (a : FlowAction) → waitAction a ≤ 1 + 0
+    go (WaitAction ms) = omega arith
+    go (AfterAction ms f k) = omega arith
+    go (Call b) = omega arith
+    go (Repeat t f k) = omega arith
+    go (Conditional q yf yk ef ek) = omega arith
+    go Plain = omega arith
+
+abbrev pub waitActions : List ℕ → List ℕ → ℕ
+waitActions img [] = 0
+waitActions img (i ∷ is) = waitAction (flowAt img i) + waitActions img is
+
+abbrev pub noFail : List Step → Bool
+noFail [] = true
+noFail (Primitive i ∷ xs) = noFail xs
+noFail (Wait ms ∷ xs) = noFail xs
+noFail (Branch c t n ∷ xs) = noFail xs
+noFail (After ms n ∷ xs) = noFail xs
+noFail (Fail ∷ xs) = false
+
+no-fail-back : (xs ys : List Step) → noFail (xs ++ ys) ≡ true → noFail ys ≡ true
+no-fail-back [] ys h = h
+no-fail-back (Primitive i ∷ xs) ys h = no-fail-back xs ys h
+no-fail-back (Wait ms ∷ xs) ys h = no-fail-back xs ys h
+no-fail-back (Branch c t n ∷ xs) ys h = no-fail-back xs ys h
+no-fail-back (After ms n ∷ xs) ys h = no-fail-back xs ys h
+no-fail-back (Fail ∷ xs) ys h = absurd (false≢true h)
+
+-- where nothing failed, every wait of the list is a wait of its flat form
+pub list-waits : {img is : List ℕ} {xs : List Step} → ListForm img is xs → noFail xs ≡ true → waitActions img is ≤ waitSteps xs
+list-waits at-end h = omega arith
+list-waits (action {xs = xs} {ys = ys} p q) h =
+    let a = action-waits p in
+    let b = list-waits q (no-fail-back xs ys h) in
+    let e = waits-append xs ys in
+    omega arith
+list-waits cut-off h = absurd (false≢true h)
