@@ -10,10 +10,9 @@
  *   slices    A lent store is a pointer and its number of words. The pointer is aligned for uint32_t; with 0 words it may be anything.
  *             Stores of one call do not overlap. A store that is not const is written within its words only.
  *   threads   Two calls may run at once if they share no store that either of them writes.
- *   stack     In bytes, as examples/c/stack.c prints it on x86-64 for a rule of most kinds of action: tick 192,679, run 159,239, dry run 118,839,
- *             load 36,407, enable 32,791, unload 28,047, next_deadline 26,543, counters 21,023, new 3,191. Flattening goes as deep as an image's
- *             lists and calls go, and every call but new flattens the loaded image, to check the store: with the deepest image that was found (506
- *             calls in a list, eight levels down) a tick needs 2,679,359, and the others little less. These are measured, not proved.
+ *   stack     In bytes, at most, for every input, on x86-64: tick 192,632, run 159,176, load 41,016, enable 32,776, unload 26,856, next_deadline
+ *             25,352, counters 19,832, new 40. The gate computes them from the machine code. The return address is in; not in: what memcpy, memmove
+ *             and memset use, the arguments that the caller pushes, the dynamic linker, interrupts (docs/PERFORMANCE.md, "Stack").
  *   refusals  Each call returns 0, or the number of a refusal: the lowest that applies. A refused call has changed nothing: the store is as
  *             it was, and every word of the outcomes, the effects and the answer is 0.
  *   answers   Values go into the lent `answer`. Values past its end are not written; words behind the values are 0. Fewer words than a call has

@@ -1,6 +1,9 @@
 /*
  * The stack that each call needs, measured: every call runs on a thread that fills its stack with a pattern first; what is no longer the pattern was
- * used. With a rule that has an action of most kinds, and with an image whose flattening recurses as deep as any that was found.
+ * used. With a rule that has an action of most kinds; with the image that takes the most actions one behind the other and inside each other; and with
+ * one that opens as many lists inside each other as any image can: 12. What every call needs at most, for every input, is computed from the machine
+ * code (docs/PERFORMANCE.md, "Stack").
+ * Then every call but run and tick is made with these images on a thread that has 64 KB of stack, above pages that must not be touched.
  *
  *   cc -std=c99 -O2 -Iinclude examples/c/stack.c target/staticlib/libcerambiu.a -lpthread -o stack && ./stack
  */
@@ -15,6 +18,7 @@
 
 #define COUNT(words) (sizeof(words) / sizeof((words)[0]))
 #define STACK_BYTES (16u << 20)
+#define SMALL_STACK_BYTES (64u << 10)
 #define PATTERN 0xa5
 #define OWN_BYTES 256 /* for the frame that measures */
 
@@ -81,6 +85,37 @@ static size_t needs(enum call which)
     return used;
 }
 
+static void *call(void *which)
+{
+    make(*(enum call *)which);
+    return NULL;
+}
+
+/* A call on a thread with 64 KB of stack. The 16 MB below them cannot be read or written: a call that needs more ends the program. */
+static void fits(enum call which)
+{
+    static unsigned char *pages;
+    pthread_attr_t attributes;
+    pthread_t thread;
+    if (pages == NULL) {
+        pages = mmap(NULL, STACK_BYTES + SMALL_STACK_BYTES, PROT_NONE, MAP_PRIVATE | MAP_ANONYMOUS, -1, 0);
+        if (pages == MAP_FAILED || mprotect(pages + STACK_BYTES, SMALL_STACK_BYTES, PROT_READ | PROT_WRITE)) {
+            perror("pages");
+            exit(1);
+        }
+    }
+    if (pthread_attr_init(&attributes) || pthread_attr_setstack(&attributes, pages + STACK_BYTES, SMALL_STACK_BYTES) ||
+        pthread_create(&thread, &attributes, call, &which) || pthread_join(thread, NULL)) {
+        perror("thread");
+        exit(1);
+    }
+    pthread_attr_destroy(&attributes);
+    if (refusal != CERAMBIU_OK) {
+        printf("%s refused %u\n", names[which], (unsigned)refusal);
+        exit(1);
+    }
+}
+
 static void put(const uint32_t *words, size_t count)
 {
     memcpy(image + image_words, words, count * sizeof(uint32_t));
@@ -134,6 +169,24 @@ static void deep_image(void)
     put(trailer, 13);
 }
 
+/* Rule 5: an After with a Repeat, which has a Conditional, which has a Call of a block that calls itself, eight levels down. */
+static void nested_image(void)
+{
+    static const uint32_t rule[16] = { 5, 1, 0, 0, 0, 0, 0, 0, 0, 1 };
+    static const uint32_t block[8] = { 1, 3, 1 };
+    static const uint32_t condition[8] = { CERAMBIU_CONTROLLER_ACTIVE };
+    static const uint32_t actions[4][8] = {
+        { CERAMBIU_AFTER, 500, 1, 1 }, { CERAMBIU_REPEAT, 2, 2, 1 }, { CERAMBIU_CONDITIONAL, 0, 3, 1, 3, 0 }, { CERAMBIU_CALL, 1 }
+    };
+    static const uint32_t trailer[13] = { 256, 8, 255, 255, 255, 0, 16, 24, 24, 32, 64, 64, 64 };
+    image_words = 0;
+    put(rule, 16);
+    put(block, 8);
+    put(condition, 8);
+    put(&actions[0][0], 32);
+    put(trailer, 13);
+}
+
 /* What the bus driver sees: no rows, the sun, a minute of the day. */
 static void look(uint32_t now, uint32_t minute)
 {
@@ -156,21 +209,41 @@ static void measure_all(size_t bytes[])
     }
 }
 
+/* Every call but run and tick, on 64 KB. */
+static void all_fit(void)
+{
+    fits(NEW);
+    fits(LOAD);
+    fits(LOAD);
+    fits(ENABLE);
+    fits(NEXT_DEADLINE);
+    fits(COUNTERS);
+    fits(UNLOAD);
+}
+
 int main(void)
 {
-    size_t usual[COUNT(names)], deep[COUNT(names)];
+    static void (*const images[])(void) = { usual_image, deep_image, nested_image };
+    size_t bytes[COUNT(images)][COUNT(names)];
     stack = mmap(NULL, STACK_BYTES, PROT_READ | PROT_WRITE, MAP_PRIVATE | MAP_ANONYMOUS, -1, 0);
     if (stack == MAP_FAILED) {
         perror("mmap");
         return 1;
     }
-    usual_image();
-    measure_all(usual);
-    deep_image();
-    measure_all(deep);
-    printf("%-14s %12s %12s\n", "bytes of stack", "usual image", "deep image");
-    for (size_t which = 0; which < COUNT(names); which++) {
-        printf("%-14s %12zu %12zu\n", names[which], usual[which], deep[which]);
+    for (size_t i = 0; i < COUNT(images); i++) {
+        images[i]();
+        measure_all(bytes[i]);
     }
+    printf("%-14s %12s %12s %12s\n", "bytes of stack", "usual image", "deep image", "nested image");
+    for (size_t which = 0; which < COUNT(names); which++) {
+        printf("%-14s %12zu %12zu %12zu\n", names[which], bytes[0][which], bytes[1][which], bytes[2][which]);
+    }
+    printf("on 64 KB of stack, with each image: new, load, load again, enable, next_deadline, counters, unload .. ");
+    fflush(stdout);
+    for (size_t i = 0; i < COUNT(images); i++) {
+        images[i]();
+        all_fit();
+    }
+    printf("done\n");
     return 0;
 }
