@@ -18,7 +18,7 @@ pub fn is_enabled(v: Volatile, i: usize) -> bool
     if i < v.rules { v.enabled[i] } else { false }
 }
 
-// The bit alone, as an action sets it: the run strikes the continuations of a rule that was disabled.
+// The bit alone: `set_enabled` strikes the continuations too.
 pub fn put_bit(v: Volatile, i: usize, on: bool) -> Volatile
     requires { ⌜ Sound v ⌝ }
     ensures { λ r. ⌜ Means r (v .«next_seq») (withRest (withEnabled (set (meaning v .rest .enabled) i on) (meaning v .rest)) (meaning v)) ⌝ }
