@@ -31,6 +31,11 @@ impl Player {
         answer
     }
 
+    /// Whether a tick's clock was set back: from then on the house has the wheel's variant for request 5 of document 02.
+    pub fn is_set_back(&self) -> bool {
+        self.house.is_set_back()
+    }
+
     /// The store that the house would have; None where its size is not a store's. A pending record whose place is not found
     /// gets a list that no rule has.
     pub fn store(&mut self) -> Option<Store> {

@@ -70,6 +70,8 @@ pub struct House {
     size: u32,
     outcome_words: u32,
     effect_words: u32,
+    /// Whether a tick's clock was set back.
+    set_back: bool,
 }
 
 impl Default for House {
@@ -89,6 +91,25 @@ impl House {
             size: STORE_WORDS,
             outcome_words: OUTCOME_WORDS * 4_096,
             effect_words: EFFECT_WORDS * 65_536,
+            set_back: false,
+        }
+    }
+
+    /// Whether a tick's clock was set back (request 5 of document 02): up to there the wheel is the published one, from then on its
+    /// variant stands for the definition.
+    #[must_use]
+    pub fn is_set_back(&self) -> bool {
+        self.set_back
+    }
+
+    /// How many minutes the clock of a tick is behind the remembered minute, round the week; None where it is not asked for.
+    #[must_use]
+    pub fn minutes_behind(&self, call: &Call) -> Option<u32> {
+        match call {
+            Call::Tick { snapshot } if check::snapshot_refusal(snapshot).is_none() => {
+                self.engine.minutes_behind(&decode::world(snapshot))
+            }
+            _ => None,
         }
     }
 
@@ -165,7 +186,8 @@ impl House {
         limits::set(self.limits);
         let mut engine = self.engine.clone();
         let before = engine.counters().continuations_scheduled;
-        let outcomes = engine.handle(input, &world);
+        self.set_back |= engine.is_set_back(&input, &world);
+        let outcomes = engine.handle_set_back(input, &world);
         let after = engine.counters().continuations_scheduled;
         if !self.room_for(&outcomes) {
             return Answer::Refused(30);

@@ -2,6 +2,7 @@
 //!
 //! - Edges: every script of the folder EDGES.
 //! - Histories: so many generated ones from SEED on, valid and hostile; behind each, its store with random words.
+//! - Clocks set back: as many histories around the ticks that document 02's request 5 changes.
 //! - Lists: every list of up to LENGTH of the small actions, as a rule.
 //! - Stores: every word of good stores to VALUES other values; a store for each rule that is broken.
 //!
@@ -48,6 +49,7 @@ pub fn command() -> Option<ExitCode> {
     let mut calls = Calls::default();
     calls.edges(Path::new(edges));
     calls.histories(histories, seed);
+    calls.set_backs(histories, seed);
     calls.lists(length as u32);
     calls.stores(values as usize, seed);
     Some(ExitCode::from(u8::from(!calls.report())))
@@ -119,6 +121,14 @@ impl Calls {
         self.part("histories", count as usize, before);
     }
 
+    fn set_backs(&mut self, count: u64, seed: u64) {
+        let before = self.tally.calls;
+        for seed in seed..seed + count {
+            self.play(&format!("clocks set back, history {seed}"), seed, &generate::set_back::history(seed));
+        }
+        self.part("clocks set back", count as usize, before);
+    }
+
     fn lists(&mut self, length: u32) {
         let before = self.tally.calls;
         for (at, list) in lists::all(length).enumerate() {
@@ -140,7 +150,7 @@ impl Calls {
 
     fn report(&self) -> bool {
         let whole = self.tally.report() && !self.empty;
-        println!("calls: {} calls, {} differences", self.tally.calls, self.differences);
+        println!("calls: {} calls, {} differences; {}", self.tally.calls, self.differences, self.tally.wheels());
         whole && self.differences == 0
     }
 }

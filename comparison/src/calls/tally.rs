@@ -23,6 +23,8 @@ const EFFECTS: [&str; 12] = [
 ];
 const TRIGGERS: [&str; 5] = ["HttpTrigger", "TimerFires", "Every", "AtTime", "AtSolar"];
 const SAID: [&str; 4] = ["enable yes", "enable no", "deadline at a time", "deadline none"];
+/// What the calls of a history are compared with: document 02's request 5 changes ticks whose clock was set back.
+const WHEELS: [&str; 2] = ["the Rust, up to the first clock set back", "its variant for the definition, from there on"];
 /// Tables of a store, and how many each can hold.
 const TABLES: [&str; 5] = ["rules", "pending", "timers", "variables", "Every slots"];
 const FULL: [usize; 5] = [RULES, MOST_PENDING, MOST_TIMERS, MOST_VARIABLES, MOST_SLOTS];
@@ -57,6 +59,8 @@ pub fn place(call: &Call) -> usize {
 #[derive(Default)]
 pub struct Tally {
     pub calls: u64,
+    /// Of the calls of histories: those up to a tick whose clock was set back, and those from it on.
+    wheels: [u64; 2],
     answers: BTreeMap<(usize, u32), u64>,
     /// Of what a call said yes, no, a time or none.
     said: BTreeMap<&'static str, u64>,
@@ -91,6 +95,17 @@ impl Tally {
         }
     }
 
+    /// Which wheel the Rust had: its own, or the variant for clocks that were set back.
+    pub fn wheel(&mut self, set_back: bool) {
+        self.wheels[usize::from(set_back)] += 1;
+    }
+
+    /// Both counts.
+    pub fn wheels(&self) -> String {
+        let [published, variant] = self.wheels;
+        format!("{published} compared with the Rust, {variant} behind a clock set back with its variant for the definition")
+    }
+
     /// An answer with no values: a refusal.
     pub fn count(&mut self, call: usize, number: u32) {
         self.calls += 1;
@@ -123,6 +138,7 @@ impl Tally {
         let said = |what: &&str| (what.to_string(), self.said.get(what).copied().unwrap_or(0));
         empty += row("said", SAID.iter().map(said));
         empty += row("outcomes", [("all".to_owned(), self.outcomes), ("dry".to_owned(), self.dry)].into_iter());
+        empty += named_row("wheel", &WHEELS, &self.wheels);
         let most: Vec<u64> = self.most.iter().map(|count| *count as u64).collect();
         named_row("most", &TABLES, &most);
         empty += self.most.iter().zip(FULL).filter(|(most, full)| *most != full).count();

@@ -2,3 +2,4 @@ pub mod Definitions
 pub mod Edges
 pub mod Examples
 pub mod Play
+pub mod SetBack

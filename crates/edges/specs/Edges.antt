@@ -60,6 +60,13 @@ clock =
     ((2 ∷ 4 ∷ 0 ∷ 127 ∷ []) ∷ (2 ∷ 4 ∷ 1 ∷ 127 ∷ []) ∷ (2 ∷ 5 ∷ 0 ∷ 127 ∷ []) ∷ (2 ∷ 5 ∷ 1 ∷ 127 ∷ []) ∷ (2 ∷ 0 ∷ 0 ∷ 127 ∷ []) ∷ [])
     [] (logs 1) []
 
+-- rules 1 to 4 at 3:39, 3:40, 4:39 and 4:40, on every day
+unfoldable pub back : List ℕ
+back =
+    imageOf 8 (rule 1 0 0 1 0 0 0 1 ∷ rule 2 0 1 1 0 0 0 1 ∷ rule 3 0 2 1 0 0 0 1 ∷ rule 4 0 3 1 0 0 0 1 ∷ [])
+    ((2 ∷ 3 ∷ 39 ∷ 127 ∷ []) ∷ (2 ∷ 3 ∷ 40 ∷ 127 ∷ []) ∷ (2 ∷ 4 ∷ 39 ∷ 127 ∷ []) ∷ (2 ∷ 4 ∷ 40 ∷ 127 ∷ []) ∷ [])
+    [] (logs 1) []
+
 -- rule 5 runs from 22:00 to 6:00
 unfoldable pub night : List ℕ
 night = imageOf 8 (rule 5 0 0 0 0 1 0 1 ∷ []) [] ((0 ∷ 0 ∷ 1 ∷ []) ∷ []) (logs 1) ((0 ∷ 22 ∷ 0 ∷ []) ∷ (0 ∷ 6 ∷ 0 ∷ []) ∷ [])
@@ -105,9 +112,9 @@ table =
     -- 100 then 300: 241 to 300
     edge (history clock (tickAtMinute 1 0 100 ∷ tickAtMinute 2 0 300 ∷ []))
     ([] ∷ [] ∷ ((2 ∷ 0 ∷ 7 ∷ []) ∷ (3 ∷ 0 ∷ 7 ∷ []) ∷ []) ∷ []) ∷
-    -- "the same rule covers a clock set back": 300 then 241 is the last hour before 241, 182 to 241
-    edge (history clock (tickAtMinute 1 0 300 ∷ tickAtMinute 2 0 241 ∷ []))
-    ([] ∷ [] ∷ ((1 ∷ 0 ∷ 7 ∷ []) ∷ (2 ∷ 0 ∷ 7 ∷ []) ∷ []) ∷ []) ∷
+    -- "the same rule covers a clock set back", by more than the 120 minutes of request 5: 400 then 279 is the last hour before 279, 220 to 279
+    edge (history back (tickAtMinute 1 0 400 ∷ tickAtMinute 2 0 279 ∷ []))
+    ([] ∷ [] ∷ ((2 ∷ 0 ∷ 7 ∷ []) ∷ (3 ∷ 0 ∷ 7 ∷ []) ∷ []) ∷ []) ∷
     -- sunrise 10, offset -90,000: minute 9; -900,000: 1,435
     edge (number (solarMinute 10 (minus 90000))) (number 9) ∷
     edge (number (solarMinute 10 (minus 900000))) (number 1435) ∷
@@ -119,5 +126,5 @@ table =
 
 -- one name that opens them all
 unfoldable pub rows : ℕ
-unfolding samples isFail sum last steps number minus repeat128 afters cooled older clock night runAtMinute atSunrise sunrise sunriseEarlier runInSun table
+unfolding samples isFail sum last steps number minus repeat128 afters cooled older clock back night runAtMinute atSunrise sunrise sunriseEarlier runInSun table
 rows = 0

@@ -2,3 +2,4 @@ pub mod Samples
 pub mod Edges
 pub mod Examples
 pub mod Play
+pub mod SetBack

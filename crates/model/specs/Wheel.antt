@@ -189,9 +189,18 @@ fireWindow e now window v =
     (fireDueWallRules e ((now + weekMinutes - window) % weekMinutes) window false (nameOrder (e .set .image)) v)
     (noOutcome v)
 
+-- document 01's rule for every jump of the clock
+unfoldable pub makeUp : Env → ℕ → ℕ → Volatile → Handled
+makeUp e now prev v = fireWindow e now (windowOf prev now) v
+
+-- request 5 of document 02: the clock was set back, "1 to 120 minutes behind the previous one, round the week"
+unfoldable pub isSetBack : ℕ → ℕ → Bool
+isSetBack prev now = inWindow now 120 prev
+
+-- such a tick "starts no wall rule"
 abbrev pub catchUp : Env → ℕ → Option ℕ → Volatile → Handled
 catchUp e now none v = noOutcome v
-catchUp e now (some prev) v = fireWindow e now (windowOf prev now) v
+catchUp e now (some prev) v = cond (isSetBack prev now) (noOutcome v) (makeUp e now prev v)
 
 -- without a wall clock the minute before is forgotten
 abbrev pub withoutClock : Env → Rest → Rest

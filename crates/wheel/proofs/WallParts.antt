@@ -13,7 +13,7 @@ use Rattle.model.specs.Rules.{triggersOf}
 use Rattle.model.specs.State as model-state
 use Rattle.model.specs.State.{Env, isEnabled, withRest, withPrevWeekMin, bumpBy, ticksTimeUnsynced}
 use Rattle.model.specs.Wheel as wheel
-use Rattle.model.specs.Wheel.{startWall, dueWallKind, hasWallTriggers, weekMinute, windowOf, fireWindow, fireWallAt, fireWallSchedules}
+use Rattle.model.specs.Wheel.{startWall, dueWallKind, hasWallTriggers, weekMinute, windowOf, fireWindow, makeUp, isSetBack, fireWallAt, fireWallSchedules}
 use Rattle.model.specs.World as model-world
 use Rattle.model.specs.World.{worldOf}
 use Rattle.state.specs.Meaning.{Means, Sound, meaning, option32}
@@ -90,10 +90,16 @@ module _ (snapshot image : List ℕ) (w : model-world.WallTime) (x h : Handled) 
         same-part 64 (λ v. noOutcome (remembering value v)) (fireWallAt (some w) env-at) (rw (← minute, ← before, not-true (prev .present) n))
         (more-part 0 64 (omega arith) (changed (remembering value) c refl ow ew))
 
-    pub catches-up : (window : ℕ) {r : Handled} {ow ew ow′ ew′ : List ℕ} → not (prev .present) ≡ false → window ≡ windowOf (prev .value) value
-        → Fires 64 (fireWindow env-at value window) h ow ew r ow′ ew′ → Fires 64 (fireWallAt (some w) env-at) x ow ew r ow′ ew′
-    catches-up window n e f =
-        same-part 64 (λ v. fireWindow env-at value window (remembering value v)) (fireWallAt (some w) env-at) (rw (e, ← minute, ← before, not-false (prev .present) n))
+    pub set-back : (set : Bool) (ow ew : List ℕ) → not (prev .present) ≡ false → set ≡ isSetBack (prev .value) value → set ≡ true → Fires 64 (fireWallAt (some w) env-at) x ow ew h ow ew
+    set-back set ow ew n is b =
+        same-part 64 (λ v. noOutcome (remembering value v)) (fireWallAt (some w) env-at) (rw (← minute, ← before, not-false (prev .present) n, ← is, b))
+        (more-part 0 64 (omega arith) (changed (remembering value) c refl ow ew))
+
+    pub catches-up : (set : Bool) (window : ℕ) {r : Handled} {ow ew ow′ ew′ : List ℕ} → not (prev .present) ≡ false → set ≡ isSetBack (prev .value) value → set ≡ false
+        → window ≡ windowOf (prev .value) value → Fires 64 (fireWindow env-at value window) h ow ew r ow′ ew′ → Fires 64 (fireWallAt (some w) env-at) x ow ew r ow′ ew′
+    unfolding makeUp
+    catches-up set window n is b e f =
+        same-part 64 (λ v. fireWindow env-at value window (remembering value v)) (fireWallAt (some w) env-at) (rw (e, ← minute, ← before, not-false (prev .present) n, ← is, b))
         (after-change (remembering value) c refl 64 (fireWindow env-at value window) f)
 
 pub remember-room : (x h : Handled) (value n : ℕ) → Changes (remembering value) x h → Room n x → Room n h

@@ -32,7 +32,7 @@ pub fn cyclic_dist(from: u64, to: u64) -> u64
 }
 
 // Behind the base, and no further than the window.
-fn in_window(base: u64, window: u64, target: u64) -> bool
+pub fn in_window(base: u64, window: u64, target: u64) -> bool
     requires { ⌜ target ≤ 100 * max32 ⌝ }
     ensures { λ r. ⌜ r ≡ inWindow base window target ⌝ }
 {

@@ -1,6 +1,8 @@
-// The wall schedules: what has become due since the minute of the tick before, at most an hour of it. Document 01, "Tick".
+// The wall schedules: what has become due since the minute of the tick before, at most an hour of it; nothing where the clock was set back by
+// up to two hours. Document 01, "Tick"; document 02, request 5.
 use crate::minutes::WEEK_MINUTES;
 use crate::minutes::cyclic_dist;
+use crate::minutes::in_window;
 use crate::minutes::week_minute;
 use crate::rules::activate_rule;
 use crate::wall::due_wall_kind;
@@ -20,7 +22,7 @@ ghost use Rattle.model.specs.Image.{sizeOf};
 ghost use Rattle.model.specs.Rows.{rules};
 ghost use Rattle.model.specs.Rules.{nameOrder};
 ghost use Rattle.model.specs.Snapshot.{snapshotRefusal};
-ghost use Rattle.model.specs.Wheel.{startWall, fireDueWallRules, windowOf, fireWindow, fireWallAt, fireWallSchedules};
+ghost use Rattle.model.specs.Wheel.{startWall, fireDueWallRules, windowOf, fireWindow, isSetBack, fireWallAt, fireWallSchedules};
 ghost use Rattle.image.specs.Accepted.{Accepted};
 ghost use Rattle.state.specs.Meaning.{Sound, Means, meaning, option32};
 ghost use Rattle.world.specs.Ranges.{WallInRange};
@@ -31,6 +33,9 @@ ghost use Rattle.wheel.specs.Turns.{Turns};
 
 // At most so many minutes are made up for.
 const CATCH_UP_MINUTES: u64 = 60;
+
+// A clock set back by so many minutes at most starts nothing.
+const SET_BACK_MINUTES: u64 = 120;
 
 // A rule's turn: the state after it, and whether a sun was missed so far.
 pub struct WallTurn {
@@ -166,6 +171,13 @@ fn window_of(prev: u64, minute: u64) -> u64
     }
 }
 
+// The clock was set back: the minute lies 1 to 120 minutes behind the one before, round the week.
+fn is_set_back(prev: u32, minute: u64) -> bool
+    ensures { λ r. ⌜ r ≡ isSetBack prev minute ⌝ }
+{
+    in_window(minute, SET_BACK_MINUTES, prev as u64)
+}
+
 fn fire_window(
     snapshot: &[u32],
     image: &[u32],
@@ -219,7 +231,7 @@ fn remember(x: Handled, minute: u32) -> Handled
     }
 }
 
-// The minute of this tick is remembered, and what has become due since the one before starts.
+// The minute of this tick is remembered, and what has become due since the one before starts, unless the clock was set back.
 fn fire_wall_at(
     snapshot: &[u32],
     image: &[u32],
@@ -242,6 +254,9 @@ fn fire_wall_at(
         return h;
     }
     let to = minute as u64;
+    if is_set_back(prev.value, to) {
+        return h;
+    }
     let window = window_of(prev.value as u64, to);
     fire_window(
         snapshot,

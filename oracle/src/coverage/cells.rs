@@ -19,8 +19,9 @@ pub(super) const COUNTERS: usize = 8;
 pub(super) const REFUSALS: usize = 9;
 pub(super) const EVENTS: usize = 10;
 pub(super) const SATURATIONS: usize = 11;
+pub(super) const SET_BACKS: usize = 12;
 
-pub(super) const PARTS: [Part; 12] = [
+pub(super) const PARTS: [Part; 13] = [
     Part {
         name: "action",
         rows: &[
@@ -102,6 +103,11 @@ pub(super) const PARTS: [Part; 12] = [
         name: "saturation",
         rows: &["VarAdd up", "VarAdd down", "offset up", "offset down"],
         columns: &["seen"],
+    },
+    Part {
+        name: "clock behind",
+        rows: &["0 minutes", "1 minute", "2 to 119 minutes", "120 minutes", "121 minutes"],
+        columns: &["tick", "sun missed", "wall start"],
     },
 ];
 
@@ -192,6 +198,14 @@ pub(super) const UNREACHABLE: &[(usize, &str, &str, &str)] = &[
     (VALUES, "clock bound", "unevaluable", "a clock bound is a minute"),
     (TRIGGERS, "*", "reason 3", "chain depth is 0 for ticks and runs"),
     (COUNTERS, "chain_depth_exceeded", "moved", "chain depth is 0 for ticks and runs"),
+    (SET_BACKS, "0 minutes", "sun missed", "no minute has passed"),
+    (SET_BACKS, "0 minutes", "wall start", "no minute has passed"),
+    (SET_BACKS, "1 minute", "sun missed", "a clock set back counts nothing"),
+    (SET_BACKS, "1 minute", "wall start", "a clock set back starts nothing"),
+    (SET_BACKS, "2 to 119 minutes", "sun missed", "a clock set back counts nothing"),
+    (SET_BACKS, "2 to 119 minutes", "wall start", "a clock set back starts nothing"),
+    (SET_BACKS, "120 minutes", "sun missed", "a clock set back counts nothing"),
+    (SET_BACKS, "120 minutes", "wall start", "a clock set back starts nothing"),
     (REFUSALS, "10", "*", "only load is given an image"),
     (REFUSALS, "11", "*", "only load is given an image"),
     (REFUSALS, "12", "*", "only load is given an image"),

@@ -5,6 +5,7 @@ pub mod evaluation;
 mod hostile;
 mod parts;
 pub mod probe;
+pub mod set_back;
 mod world;
 
 use crate::build::{Action, Block, Image, Limits, Rule, Trigger};

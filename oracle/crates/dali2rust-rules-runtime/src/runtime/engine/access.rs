@@ -10,6 +10,8 @@ use super::state::{Continuation, EventCtx, NamedTimer, Volatile};
 use super::world::WorldSnapshot;
 use super::Engine;
 
+mod set_back;
+
 /// What a store keeps of an engine, but for the set and the counters.
 #[derive(Clone, Debug, Default, PartialEq)]
 pub struct Kept {
