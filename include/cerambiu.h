@@ -6,7 +6,8 @@
  * of 16,384 words, which the caller keeps.
  *
  *   words     A word is a uint32_t in the machine's byte order. A 64-bit value in a table is two words, low first. A signed word is two's
- *             complement. A mark is 0 or 1. A time is in milliseconds, from any start, 64 bits; a clock that goes back is no error.
+ *             complement. A mark is 0 or 1. A time is in milliseconds, 64 bits, from a start that stays for the
+ *             life of a store (docs/FOR-FIRMWARE.md, "Time and power"); a clock that goes back is no error.
  *   slices    A lent store is a pointer and its number of words. The pointer is aligned for uint32_t; with 0 words it may be anything.
  *             Stores of one call do not overlap. A store that is not const is written within its words only.
  *   threads   Two calls may run at once if they share no store that either of them writes.
