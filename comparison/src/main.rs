@@ -7,7 +7,7 @@
 //!
 //! Prints the counts, the slowest images, and each difference; its status is 1 if there is one, or if a cell of the table is empty.
 //!
-//! `comparison calls ..` compares the eight calls (`calls`), `comparison speed ..` times them (`speed`).
+//! `comparison calls ..` compares the eight calls (`calls`), `comparison speed ..` times them and `comparison once ..` makes each check once (`speed`).
 
 mod calls;
 mod cells;

@@ -1,9 +1,11 @@
 //! The proved functions. Each takes a slice as a pointer and a length, demands nothing of its words, and keeps nothing.
 
 extern "C" {
+    fn cerambiu_tables_refusal(words: *const u32, count: usize) -> u32;
     fn cerambiu_image_refusal(words: *const u32, count: usize) -> u32;
     fn cerambiu_flat_steps(words: *const u32, count: usize) -> usize;
     fn cerambiu_snapshot_refusal(words: *const u32, count: usize) -> u32;
+    fn cerambiu_store_shaped(words: *const u32, count: usize) -> bool;
     fn cerambiu_store_check(words: *const u32, count: usize) -> bool;
     fn cerambiu_condition(
         snapshot: *const u32,
@@ -31,6 +33,12 @@ pub fn image_refusal(image: &[u32]) -> u32 {
     unsafe { cerambiu_image_refusal(image.as_ptr(), image.len()) }
 }
 
+/// 10 to 15.
+pub fn tables_refusal(image: &[u32]) -> u32 {
+    // SAFETY: as above.
+    unsafe { cerambiu_tables_refusal(image.as_ptr(), image.len()) }
+}
+
 pub fn flat_steps(image: &[u32]) -> usize {
     // SAFETY: as above.
     unsafe { cerambiu_flat_steps(image.as_ptr(), image.len()) }
@@ -39,6 +47,11 @@ pub fn flat_steps(image: &[u32]) -> usize {
 pub fn snapshot_refusal(snapshot: &[u32]) -> u32 {
     // SAFETY: as above.
     unsafe { cerambiu_snapshot_refusal(snapshot.as_ptr(), snapshot.len()) }
+}
+
+pub fn store_shaped(store: &[u32]) -> bool {
+    // SAFETY: as above.
+    unsafe { cerambiu_store_shaped(store.as_ptr(), store.len()) }
 }
 
 pub fn store_check(store: &[u32]) -> bool {

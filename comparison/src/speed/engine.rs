@@ -1,7 +1,6 @@
 //! The published engine alone, on values: no words, no checks, no transaction.
 
-use std::hint::black_box;
-use std::time::{Duration, Instant};
+use std::time::Duration;
 
 use dali2rust_rules_runtime::runtime::engine::{
     ActivationOutcome, Engine, EngineCountersSnapshot, EngineInput, WorldSnapshot,
@@ -10,7 +9,7 @@ use oracle::decode;
 use oracle::house::Call;
 use oracle::model::{limits, RuleSet};
 
-use super::middle;
+use super::clock::Clock;
 
 pub struct Bare {
     engine: Engine,
@@ -83,24 +82,20 @@ impl Bare {
         make(&mut self.engine, &mut given(call));
     }
 
-    /// The middle time of a call from the engine's state.
-    pub fn time(&self, call: &Call, times: usize) -> Duration {
-        middle(times, || (self.engine.clone(), given(call)), |(engine, given)| make(engine, given))
+    /// The least time of a call from the engine's state.
+    pub fn time(&self, call: &Call, clock: &Clock, times: usize) -> Duration {
+        clock.least(times, || (self.engine.clone(), given(call)), |(engine, given)| make(engine, given))
     }
 
     /// The calls one after the other, on a copy; the time of one of them, on the average.
-    pub fn average(&self, calls: &[Call]) -> Duration {
+    pub fn average(&self, calls: &[Call], clock: &Clock) -> Duration {
         let mut engine = self.engine.clone();
-        let took: Duration = calls.iter().map(|call| once(&mut engine, call)).sum();
+        let took: Duration = calls.iter().map(|call| once(&mut engine, call, clock)).sum();
         took / calls.len() as u32
     }
 }
 
-fn once(engine: &mut Engine, call: &Call) -> Duration {
+fn once(engine: &mut Engine, call: &Call, clock: &Clock) -> Duration {
     let mut given = given(call);
-    let start = Instant::now();
-    let gave = black_box(make(engine, &mut given));
-    let took = start.elapsed();
-    drop(gave);
-    took
+    clock.time(|| make(engine, &mut given))
 }

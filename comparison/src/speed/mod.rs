@@ -1,15 +1,17 @@
 //! `comparison speed TIMES`: the time of each call, proved and in Rust, from the same state and on the same words.
 //!
-//! Each call is made so many times from one state, and the middle time counts. Bringing the state back is not timed. The Rust is timed twice: with all
-//! that a call on words asks of it (the oracle: checks, decoding, a copy of the engine for the transaction), and the published engine alone, on
-//! values that are decoded already. Beside it stands a plain sum over the store's 16,384 words, timed in the same run.
+//! Each call is made so many times from one state, and the least processor time of the thread counts. Bringing the state back is not timed. The Rust is
+//! timed twice: with all that a call on words asks of it (the oracle: checks, decoding, a copy of the engine for the transaction), and the published
+//! engine alone, on values that are decoded already. Each check also stands by itself, beside a plain sum over the store's 16,384 words (`checks`).
 
+mod checks;
+mod clock;
 mod engine;
 mod houses;
 
 use std::hint::black_box;
 use std::process::ExitCode;
-use std::time::{Duration, Instant};
+use std::time::Duration;
 
 use cerambiu::{EFFECT_WORDS, OUTCOME_WORDS};
 use oracle::house::{Answer, Call};
@@ -17,6 +19,8 @@ use oracle::house::{Answer, Call};
 use crate::calls::house::{expected, made, number, Lent};
 use crate::store::WORDS;
 use crate::worst;
+use checks::Words;
+use clock::Clock;
 use engine::Bare;
 use houses::House;
 
@@ -29,6 +33,9 @@ pub fn command() -> Option<ExitCode> {
     let [first, times] = args.as_slice() else {
         return None;
     };
+    if first == "once" {
+        return Some(checks::once(times));
+    }
     if first != "speed" {
         return None;
     }
@@ -42,24 +49,9 @@ pub fn command() -> Option<ExitCode> {
         houses::timers(),
         houses::flattening("worst case of flattening: 40,430 actions taken, no step", worst::accepted_actions()),
     ];
-    let alike = houses.iter().fold(true, |alike, house| time_house(house, times) && alike);
+    let clock = Clock::new();
+    let alike = houses.iter().fold(true, |alike, house| time_house(house, &clock, times) && alike);
     Some(ExitCode::from(u8::from(!alike)))
-}
-
-/// The middle time of a call, which is made on what is prepared for it.
-pub fn middle<T, R>(times: usize, mut prepare: impl FnMut() -> T, mut call: impl FnMut(&mut T) -> R) -> Duration {
-    let mut took: Vec<Duration> = (0..times)
-        .map(|_| {
-            let mut state = prepare();
-            let start = Instant::now();
-            let result = black_box(call(black_box(&mut state)));
-            let took = start.elapsed();
-            drop(result);
-            took
-        })
-        .collect();
-    took.sort();
-    took[times / 2]
 }
 
 /// A house in its three forms, each in the same state.
@@ -99,26 +91,26 @@ impl Three {
         alike
     }
 
-    fn time(&mut self, name: &str, call: &Call, times: usize) {
+    fn time(&mut self, name: &str, call: &Call, clock: &Clock, times: usize) {
         let mut lent = Lending::of(self.lent);
-        let proved = middle(times, || self.store.clone(), |store| lent.call(store, call));
-        let rust = middle(times, || self.oracle.clone(), |oracle| oracle.call(call));
-        print_line(name, proved, rust, self.bare.time(call, times));
+        let proved = clock.least(times, || self.store.clone(), |store| lent.call(store, call));
+        let rust = clock.least(times, || self.oracle.clone(), |oracle| oracle.call(call));
+        print_line(name, proved, rust, self.bare.time(call, clock, times));
     }
 
     /// The calls one after the other: the time of one of them, on the average, in the quickest of some turns.
-    fn time_history(&mut self, calls: &[Call]) {
+    fn time_history(&mut self, calls: &[Call], clock: &Clock) {
         let mut lent = Lending::of(self.lent);
         let turns = |turn: &mut dyn FnMut() -> Duration| (0..TURNS).map(|_| turn()).min().unwrap_or_default();
         let proved = turns(&mut || {
             let mut store = self.store.clone();
-            average(calls, |call| lent.call(&mut store, call))
+            average(calls, clock, |call| lent.call(&mut store, call))
         });
         let rust = turns(&mut || {
             let mut oracle = self.oracle.clone();
-            average(calls, |call| oracle.call(call))
+            average(calls, clock, |call| oracle.call(call))
         });
-        let engine = turns(&mut || self.bare.average(calls));
+        let engine = turns(&mut || self.bare.average(calls, clock));
         print_line("a call of a quarter of an hour", proved, rust, engine);
     }
 }
@@ -141,31 +133,32 @@ impl Lending {
 }
 
 /// Prints a line for each timed call; whether both answered alike.
-fn time_house(house: &House, times: usize) -> bool {
+fn time_house(house: &House, clock: &Clock, times: usize) -> bool {
     let Some(mut three) = Three::of(house) else {
         return false;
     };
-    let sum = middle(times, || (), |()| three.store.iter().fold(0u32, |sum, word| sum.wrapping_add(*word)));
+    let sum = clock.least_of_batch(times, || checks::comparison_sum(black_box(&three.store)));
     println!("{}; a sum over the store's words takes {}", house.name, micros(sum));
+    let mut alike = Words::of(house, &three.store).is_none_or(|words| words.time(clock, times));
     println!("{:42} {:>10} {:>16} {:>7} {:>12} {:>7}", "", "proved", "Rust from words", "ratio", "Rust engine", "ratio");
-    let mut alike = true;
     for (name, call) in &house.calls {
         alike &= three.alike(name, call);
-        three.time(name, call, times);
+        three.time(name, call, clock, times);
     }
     if !house.history.is_empty() {
-        three.time_history(&house.history);
+        three.time_history(&house.history, clock);
     }
     println!();
     alike
 }
 
-fn average<R>(calls: &[Call], mut make: impl FnMut(&Call) -> R) -> Duration {
-    let start = Instant::now();
-    for call in calls {
-        black_box(make(call));
-    }
-    start.elapsed() / calls.len() as u32
+fn average<R>(calls: &[Call], clock: &Clock, mut make: impl FnMut(&Call) -> R) -> Duration {
+    let all = || {
+        for call in calls {
+            black_box(make(call));
+        }
+    };
+    clock.time(all) / calls.len() as u32
 }
 
 fn print_line(name: &str, proved: Duration, rust: Duration, engine: Duration) {

@@ -1,15 +1,26 @@
 // Functions of the proved crates under C names: what `comparison/` calls from Rust and holds against the oracle.
 use flat::Loaded;
 ghost use mathlib.Core.Path.{_≡_};
-ghost use mathlib.Core.Bool.{cond};
+ghost use mathlib.Core.Bool.{cond, _&&_};
 ghost use lib.Dec.{eqb};
-ghost use Rattle.model.specs.Load.{imageRefusal};
+ghost use lib.ListN.{length};
+ghost use Rattle.model.specs.Layout.{partsFit};
+ghost use Rattle.model.specs.Load.{tablesRefusal, imageRefusal};
 ghost use Rattle.model.specs.Flat.{flattenRules, stepsIn};
 ghost use Rattle.model.specs.Lists.{present};
+ghost use Rattle.model.specs.Parts.{layout};
 ghost use Rattle.model.specs.Snapshot.{snapshotRefusal};
 ghost use Rattle.model.specs.Store.{read};
 
 pub mod evaluation;
+
+// 10 to 15, 0 for none: the checks that do not flatten.
+#[no_mangle]
+pub extern "C" fn cerambiu_tables_refusal(img: &[u32]) -> u32
+    ensures { λ r. ⌜ r ≡ tablesRefusal (now (img .entry)) 0 ⌝ }
+{
+    image::refusal(img)
+}
 
 // 10 to 17, 0 for none.
 #[no_mangle]
@@ -41,6 +52,14 @@ pub extern "C" fn cerambiu_snapshot_refusal(snapshot: &[u32]) -> u32
     ensures { λ r. ⌜ r ≡ snapshotRefusal (now (snapshot .entry)) ⌝ }
 {
     world::refusal(snapshot)
+}
+
+// Whether the words are as many as a store has, and fit its layout.
+#[no_mangle]
+pub extern "C" fn cerambiu_store_shaped(store: &[u32]) -> bool
+    ensures { λ r. ⌜ r ≡ eqb (length (now (store .entry))) 16384 && partsFit (layout .parts) (now (store .entry)) ⌝ }
+{
+    store::shaped(store)
 }
 
 // Whether the words are those of a store that keeps the rules.
