@@ -35,10 +35,8 @@ pub enum Mode {
     Dry,
 }
 
-// The reasons of an outcome.
-const CONDITION_UNEVALUABLE: u32 = 1;
-
-const CHAIN_DEPTH: u32 = 3;
+// The words of an outcome in a lent store.
+pub const OUTCOME_WORDS: usize = 6;
 
 fn is_dry(mode: Mode) -> bool
     ensures { λ r. ⌜ r ≡ isDry mode ⌝ }
@@ -91,11 +89,11 @@ pub fn activate(
         Decision::Rejected => count(x, counters::CONDITIONS_REJECTED),
         Decision::TooDeep => {
             let y = count(x, counters::CHAIN_DEPTH_EXCEEDED);
-            refusal(outcomes, y, job, CHAIN_DEPTH)
+            refusal(outcomes, y, job, state::reasons::CHAIN_DEPTH)
         }
         Decision::Unevaluable => {
             let y = execute::note_wet_partial(x, dry);
-            refusal(outcomes, y, job, CONDITION_UNEVALUABLE)
+            refusal(outcomes, y, job, state::reasons::CONDITION_UNEVALUABLE)
         }
     }
 }

@@ -1,6 +1,7 @@
-// Outcomes go into words that the caller lends, six words each, in order. Where there is no room for one it is counted, and no
+// Outcomes go into words that the caller lends, in order. Where there is no room for one it is counted, and no
 // word is written.
 use crate::Handled;
+use crate::OUTCOME_WORDS;
 use exec::Job;
 use state::Volatile;
 ghost use mathlib.Core.Path.{_≡_};
@@ -20,9 +21,9 @@ fn dry_word(dry: bool) -> u32
 fn put_outcome(words: &mut [u32], n: u32, job: Job, reason: u32, first: u32, count: u32)
     ensures { λ r. ⌜ Puts (now (words .entry)) n job reason first count (now (words .exit)) ⌝ }
 {
-    let k = n as usize * 6;
+    let k = n as usize * OUTCOME_WORDS;
     let dry = dry_word(job.dry);
-    if k + 6 <= words.len() {
+    if k + OUTCOME_WORDS <= words.len() {
         words[k] = job.rule;
         words[k + 1] = dry;
         words[k + 2] = job.trigger;

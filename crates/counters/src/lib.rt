@@ -3,7 +3,6 @@
 // the record by value counts by `with_bump`, and needs no walk.
 use words::saturating_add_u32 as add;
 ghost use mathlib.Core.Path.{_≡_};
-ghost use lib.ListN.{replicate};
 ghost use Rattle.counters.specs.Counters.{countersOf, raisedAt};
 
 pub const ACTIVATIONS_TOTAL: u32 = 0;
@@ -46,27 +45,6 @@ pub struct Counters {
     pub continuations_fired: u32,
     pub continuations_dropped: u32,
     pub ticks_time_unsynced: u32,
-}
-
-// The counters of a new store: all 0.
-pub fn none_counted() -> Counters
-    ensures { λ r. ⌜ countersOf r ≡ replicate 13 0 ⌝ }
-{
-    Counters {
-        activations_total: 0,
-        activations_dry: 0,
-        suppressed_cooldown: 0,
-        suppressed_disabled: 0,
-        conditions_rejected: 0,
-        partial_outcomes: 0,
-        chain_depth_exceeded: 0,
-        effects_emitted: 0,
-        actions_failed: 0,
-        continuations_scheduled: 0,
-        continuations_fired: 0,
-        continuations_dropped: 0,
-        ticks_time_unsynced: 0,
-    }
 }
 
 // The counter at place `which` goes up by `by`, and stops at 2^32 - 1. A place past the last changes nothing.

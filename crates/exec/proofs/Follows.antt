@@ -31,7 +31,6 @@ follows f v w r s m d =
           subst (λ (n : ℕ). Means (r .vol) n (struck (f s .disables) (withRest (f s .rest) (meaning v)))) (m .based)
           (subst (λ (x : model-state.Volatile). Means (r .vol) (w .«next_seq») (struck (f (x .rest) .disables) (withRest (f (x .rest) .rest) x))) (m .says) (d .state));
       effect = d .effect ∙ ap (λ (x : model-state.Volatile). f (x .rest) .effect) (m .says);
-      disables = d .disables ∙ ap (λ (x : model-state.Volatile). f (x .rest) .disables) (m .says);
       reason = d .reason ∙ ap (λ (x : model-state.Volatile). f (x .rest) .reason) (m .says);
     }
 

@@ -20,17 +20,11 @@ use Rattle.eval.specs.Answers.{envOf}
 use Rattle.exec.specs.declared.Job.{Job}
 use Rattle.exec.specs.declared.MaybeEffect.{MaybeEffect}
 use Rattle.exec.specs.declared.MaybeEffect.the-variants.{Nothing, One}
-use Rattle.exec.specs.declared.MaybeRule.{MaybeRule}
-use Rattle.exec.specs.declared.MaybeRule.the-variants.{NoRule, Rule}
 use Rattle.exec.specs.declared.PrimResult.{PrimResult}
 
 abbrev pub effectOption : MaybeEffect → Option Effect
 effectOption Nothing = none
 effectOption (One x) = some x
-
-abbrev pub ruleOption : MaybeRule → Option ℕ
-ruleOption NoRule = none
-ruleOption (Rule q) = some q
 
 abbrev pub jobOf : Job → model.Job
 jobOf j = record { rule = j .rule; index = j .index; hold = j .hold; trigger = j .trigger; dry = j .dry }
@@ -44,7 +38,6 @@ struck (some q) v = strike q v
 pub record Does (v : Volatile) (r : PrimResult) (a : model.PrimResult) : Type 0 where
   pub state : Means (r .vol) (v .«next_seq») (struck (a .disables) (withRest (a .rest) (meaning v)))
   pub effect : effectOption (r .effect) ≡ a .effect
-  pub disables : ruleOption (r .disables) ≡ a .disables
   pub reason : r .reason ≡ a .reason
 
 -- an action, in every environment; and in every environment of a snapshot and an image

@@ -1,14 +1,11 @@
 // What an action answers: `Ok(Some(effect))`, `Ok(None)`, `Err(Unevaluable)`.
 use crate::MaybeEffect;
-use crate::MaybeRule;
 use crate::PrimResult;
 use model::Effect;
 use state::Volatile;
 ghost use Rattle.model.specs.Actions as model_actions;
 ghost use Rattle.state.specs.Meaning.{Sound, meaning};
 ghost use Rattle.exec.specs.Results.{Does};
-
-const CONDITION_UNEVALUABLE: u32 = 1;
 
 pub fn emits(v: Volatile, kind: u32, a: u32, b: u32, c: u32, d: u32) -> PrimResult
     requires { ⌜ Sound v ⌝ }
@@ -18,7 +15,6 @@ pub fn emits(v: Volatile, kind: u32, a: u32, b: u32, c: u32, d: u32) -> PrimResu
     PrimResult {
         vol: v,
         effect: MaybeEffect::One(x),
-        disables: MaybeRule::NoRule,
         reason: 0,
     }
 }
@@ -30,7 +26,6 @@ pub fn no_effect(v: Volatile) -> PrimResult
     PrimResult {
         vol: v,
         effect: MaybeEffect::Nothing,
-        disables: MaybeRule::NoRule,
         reason: 0,
     }
 }
@@ -43,7 +38,6 @@ pub fn fails(v: Volatile) -> PrimResult
     PrimResult {
         vol: w,
         effect: MaybeEffect::Nothing,
-        disables: MaybeRule::NoRule,
-        reason: CONDITION_UNEVALUABLE,
+        reason: state::reasons::CONDITION_UNEVALUABLE,
     }
 }

@@ -25,8 +25,6 @@ ghost use Rattle.exec.specs.Lists.{FlatWords};
 ghost use Rattle.exec.specs.Paid.{reach};
 ghost use Rattle.exec.specs.DryRuns.{DryStepsIn, Queues, HasStep, Moved, DryTaken, DryTurned, DryFinishes, DryReady, RunsDry};
 
-const EFFECT_BUDGET: u32 = 2;
-
 fn exec_dry(
     snapshot: &[u32],
     image: &[u32],
@@ -170,7 +168,7 @@ fn finish_dry(rule: &[u32], run: DryRun) -> RunResult
     if has_step(rule, point) {
         return RunResult {
             vol,
-            reason: first_reason(run.reason, EFFECT_BUDGET),
+            reason: first_reason(run.reason, state::reasons::EFFECT_BUDGET),
             count: run.count,
         };
     }

@@ -1,5 +1,6 @@
-// Effects go into words that the caller lends, five words each, in order. Where there is no room for one it is counted, and no
+// Effects go into words that the caller lends, in order. Where there is no room for one it is counted, and no
 // word is written.
+use crate::EFFECT_WORDS;
 use crate::MaybeEffect;
 use model::Effect;
 ghost use mathlib.Core.Path.{_≡_};
@@ -13,8 +14,8 @@ ghost use Rattle.exec.specs.PutEffects.{putEffect, putEffects};
 fn write_effect(words: &mut [u32], count: u32, x: Effect)
     ensures { λ r. ⌜ now (words .exit) ≡ putEffect (now (words .entry)) count x ⌝ }
 {
-    let n = count as usize * 5;
-    if n + 5 <= words.len() {
+    let n = count as usize * EFFECT_WORDS;
+    if n + EFFECT_WORDS <= words.len() {
         words[n] = x.kind;
         words[n + 1] = x.a;
         words[n + 2] = x.b;

@@ -27,23 +27,19 @@ pub struct Job {
     pub dry: bool,
 }
 
+// The words of an effect in a lent store.
+pub const EFFECT_WORDS: usize = 5;
+
 // A step gives at most one effect.
 pub enum MaybeEffect {
     Nothing,
     One(Effect),
 }
 
-// The rule that an action disabled.
-pub enum MaybeRule {
-    NoRule,
-    Rule(u32),
-}
-
-// What an action did: the state after it, its effect, the rule that it disabled, the reason that it notes.
+// What an action did: the state after it, without the continuations of a rule that it disabled, its effect, the reason that it notes.
 pub struct PrimResult {
     pub vol: Volatile,
     pub effect: MaybeEffect,
-    pub disables: MaybeRule,
     pub reason: u32,
 }
 

@@ -1,7 +1,6 @@
 // The bits of rules. Who disables a rule also strikes its continuations.
 use crate::Job;
 use crate::MaybeEffect;
-use crate::MaybeRule;
 use crate::PrimResult;
 use crate::answers::fails;
 use crate::answers::no_effect;
@@ -27,7 +26,6 @@ fn set_bit_at(v: Volatile, job: Job, rule: u32, i: u32, on: bool) -> PrimResult
     PrimResult {
         vol: w,
         effect: MaybeEffect::Nothing,
-        disables: MaybeRule::Rule(rule),
         reason: 0,
     }
 }

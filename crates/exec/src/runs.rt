@@ -20,8 +20,6 @@ ghost use Rattle.state.specs.Meaning.{Sound};
 ghost use Rattle.exec.specs.Lists.{FlatWords};
 ghost use Rattle.exec.specs.Runs.{Taken, Turned, Finishes, Ready, Runs};
 
-const EFFECT_BUDGET: u32 = 2;
-
 // `note_partial`: the first reason stays.
 pub fn first_reason(a: u32, b: u32) -> u32
     ensures { λ r. ⌜ r ≡ firstReason a b ⌝ }
@@ -109,7 +107,7 @@ fn finish(list: &[u32], run: Run) -> RunResult
         },
         MaybeStep::One(_) => RunResult {
             vol,
-            reason: first_reason(run.reason, EFFECT_BUDGET),
+            reason: first_reason(run.reason, state::reasons::EFFECT_BUDGET),
             count: run.count,
         },
     }

@@ -6,6 +6,31 @@ ghost use lib.ListN.{length, getD};
 ghost use Rattle.script.specs.Script.{largestOf, takesList, lineOf};
 use crate::Line;
 
+// The calls, by the numbers of their names.
+pub const NEW: u32 = 0;
+
+pub const LOAD: u32 = 1;
+
+pub const UNLOAD: u32 = 2;
+
+pub const ENABLE: u32 = 3;
+
+pub const TICK: u32 = 4;
+
+pub const RUN: u32 = 5;
+
+pub const DEADLINE: u32 = 6;
+
+pub const COUNTERS: u32 = 7;
+
+pub const LEND: u32 = 8;
+
+pub const SIZE: u32 = 9;
+
+pub const POKE: u32 = 10;
+
+pub const PEEK: u32 = 11;
+
 const CALLS: u32 = 12;
 
 const WORD: u64 = 4294967295;
@@ -89,31 +114,31 @@ pub fn line_of(call: u32, a: u64, b: u64, count: usize) -> Line
     ensures { λ r. ⌜ r ≡ lineOf call a b count ⌝ }
 {
     match call {
-        0 => Line::New { time: a },
-        1 => Line::Load { time: a, count },
-        2 => Line::Unload { time: a },
-        3 => Line::Enable {
+        NEW => Line::New { time: a },
+        LOAD => Line::Load { time: a, count },
+        UNLOAD => Line::Unload { time: a },
+        ENABLE => Line::Enable {
             rule: a as u32,
             on: b == 1,
         },
-        4 => Line::Tick { count },
-        5 => Line::Run {
+        TICK => Line::Tick { count },
+        RUN => Line::Run {
             rule: a as u32,
             dry: b == 1,
             count,
         },
-        6 => Line::Deadline,
-        7 => Line::Counters,
-        8 => Line::Lend {
+        DEADLINE => Line::Deadline,
+        COUNTERS => Line::Counters,
+        LEND => Line::Lend {
             outcomes: a as u32,
             effects: b as u32,
         },
-        9 => Line::Size { words: a as u32 },
-        10 => Line::Poke {
+        SIZE => Line::Size { words: a as u32 },
+        POKE => Line::Poke {
             place: a as u32,
             word: b as u32,
         },
-        11 => Line::Peek { place: a as u32 },
+        PEEK => Line::Peek { place: a as u32 },
         _ => Line::Blank,
     }
 }

@@ -39,8 +39,6 @@ const LINE: u32 = 32;
 
 const COLON: u32 = 33;
 
-const END: u32 = 39;
-
 // A call's name and a colon.
 fn of_call(buf: &mut [u8], at: usize, call: u32) -> usize
     requires { ⌜ at + 64 ≤ length (now buf) ⌝ }
@@ -138,5 +136,5 @@ pub fn wrong_line(buf: &mut [u8], line: u64, w: Wrong) -> usize
     let b = put::number(buf, a, line);
     let c = put::text(buf, b, COLON);
     let d = message(buf, c, w);
-    put::text(buf, d, END)
+    put::text(buf, d, names::END)
 }

@@ -1,5 +1,5 @@
 // The script language of the player: a line of bytes and the call that it is. One line is one call; a '#' starts a comment.
-mod calls;
+pub mod calls;
 pub mod complain;
 mod names;
 mod number;

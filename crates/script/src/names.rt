@@ -61,6 +61,9 @@ const STARTS: [u32; 41] = [
 
 pub const TEXTS: u32 = 40;
 
+// The end of a line.
+pub const END: u32 = 39;
+
 // The texts that name the first and the second parameter of each call.
 const FIRST: [u32; 12] = [12, 12, 12, 13, 40, 13, 40, 40, 16, 18, 19, 19];
 

@@ -8,16 +8,9 @@ ghost use Rattle.script.specs.Text.{textOf, bytesOf};
 ghost use Rattle.script.specs.Script.{pick};
 ghost use Rattle.script.specs.Print.{numbers, handledLine, outcomeLine, effectLine, enabledLine, deadlineLine, countersLine, peekLine, refusedLine};
 ghost use Rattle.script.specs.Put.{Puts, Prints};
+use crate::calls;
 use crate::names;
 use crate::put;
-
-const ENABLE: u32 = 3;
-
-const DEADLINE: u32 = 6;
-
-const COUNTERS: u32 = 7;
-
-const PEEK: u32 = 11;
 
 const RULE: u32 = 13;
 
@@ -31,8 +24,6 @@ const NONE: u32 = 37;
 
 const EFFECT: u32 = 38;
 
-const END: u32 = 39;
-
 // A text, words behind it and the line's end.
 fn words_line(buf: &mut [u8], k: u32, ws: &[u32]) -> usize
     requires { ⌜ (1024 ≤ length (now buf)) × (length (now ws) ≤ 17) ⌝ }
@@ -40,7 +31,7 @@ fn words_line(buf: &mut [u8], k: u32, ws: &[u32]) -> usize
 {
     let a = put::text(buf, 0, k);
     let b = put::words(buf, a, ws);
-    put::text(buf, b, END)
+    put::text(buf, b, names::END)
 }
 
 // A tick or a run that was handled.
@@ -51,7 +42,7 @@ pub fn handled(buf: &mut [u8], call: u32, time: u64, count: u32) -> usize
     let a = put::text(buf, 0, names::call_text(call));
     let b = put::number(buf, a, time);
     let c = put::number(buf, b, count as u64);
-    put::text(buf, c, END)
+    put::text(buf, c, names::END)
 }
 
 pub fn outcome(buf: &mut [u8], rule: u32, dry: u32, trigger: u32, reason: u32, count: u32) -> usize
@@ -74,10 +65,10 @@ pub fn enabled(buf: &mut [u8], rule: u32, found: bool) -> usize
     requires { ⌜ 1024 ≤ length (now buf) ⌝ }
     ensures { λ r. ⌜ Prints (enabledLine rule found) (now (buf .exit)) r ⌝ }
 {
-    let a = put::text(buf, 0, ENABLE);
+    let a = put::text(buf, 0, calls::ENABLE);
     let b = put::number(buf, a, rule as u64);
     let c = put::text(buf, b, answer_text(found));
-    put::text(buf, c, END)
+    put::text(buf, c, names::END)
 }
 
 fn answer_text(found: bool) -> u32
@@ -90,25 +81,25 @@ pub fn deadline(buf: &mut [u8], time: u64) -> usize
     requires { ⌜ 1024 ≤ length (now buf) ⌝ }
     ensures { λ r. ⌜ Prints (deadlineLine (some time)) (now (buf .exit)) r ⌝ }
 {
-    let a = put::text(buf, 0, DEADLINE);
+    let a = put::text(buf, 0, calls::DEADLINE);
     let b = put::number(buf, a, time);
-    put::text(buf, b, END)
+    put::text(buf, b, names::END)
 }
 
 pub fn no_deadline(buf: &mut [u8]) -> usize
     requires { ⌜ 1024 ≤ length (now buf) ⌝ }
     ensures { λ r. ⌜ Prints (deadlineLine none) (now (buf .exit)) r ⌝ }
 {
-    let a = put::text(buf, 0, DEADLINE);
+    let a = put::text(buf, 0, calls::DEADLINE);
     let b = put::text(buf, a, NONE);
-    put::text(buf, b, END)
+    put::text(buf, b, names::END)
 }
 
 pub fn counters(buf: &mut [u8], ws: &[u32; 17]) -> usize
     requires { ⌜ 1024 ≤ length (now buf) ⌝ }
     ensures { λ r. ⌜ Prints (countersLine (now (ws .entry))) (now (buf .exit)) r ⌝ }
 {
-    words_line(buf, COUNTERS, ws)
+    words_line(buf, calls::COUNTERS, ws)
 }
 
 pub fn peeked(buf: &mut [u8], place: u32, word: u32) -> usize
@@ -116,7 +107,7 @@ pub fn peeked(buf: &mut [u8], place: u32, word: u32) -> usize
     ensures { λ r. ⌜ Prints (peekLine place word) (now (buf .exit)) r ⌝ }
 {
     let ws = [place, word];
-    words_line(buf, PEEK, &ws)
+    words_line(buf, calls::PEEK, &ws)
 }
 
 pub fn refused(buf: &mut [u8], call: u32, number: u32) -> usize
@@ -126,5 +117,5 @@ pub fn refused(buf: &mut [u8], call: u32, number: u32) -> usize
     let a = put::text(buf, 0, names::call_text(call));
     let b = put::text(buf, a, REFUSED);
     let c = put::number(buf, b, number as u64);
-    put::text(buf, c, END)
+    put::text(buf, c, names::END)
 }

@@ -17,8 +17,8 @@ ghost use mathlib.Core.Path.{_≡_};
 ghost use Rattle.model.specs.State.{withRest, bumpBy, withPrevWeekMin};
 ghost use Rattle.state.specs.Meaning.{Sound, Means, meaning, option32};
 
-pub mod fresh;
 pub mod pending;
+pub mod reasons;
 pub mod rules;
 pub mod selection;
 pub mod sequence;

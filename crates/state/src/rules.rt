@@ -19,7 +19,7 @@ pub fn is_enabled(v: Volatile, i: usize) -> bool
 }
 
 // The bit alone: `set_enabled` strikes the continuations too.
-pub fn put_bit(v: Volatile, i: usize, on: bool) -> Volatile
+fn put_bit(v: Volatile, i: usize, on: bool) -> Volatile
     requires { ⌜ Sound v ⌝ }
     ensures { λ r. ⌜ Means r (v .«next_seq») (withRest (withEnabled (set (meaning v .rest .enabled) i on) (meaning v .rest)) (meaning v)) ⌝ }
 {

@@ -13,7 +13,7 @@ returns-2 : tie.Need-returns-2
 returns-2 c e = rw (c .before .before .before .if1 .left, c .before .if2 .taken) (follows noEffect _ _ _ _ (rw (c .before .if2 .taken) at (c .before .before .set-enabled .ensures)) (c .no-effect2 .ensures))
 
 returns-3 : tie.Need-returns-3
-returns-3 c e = rw (c .before .before .if1 .left, c .if2 .left) (record { state = rw (c .if2 .left) at (c .before .set-enabled .ensures); effect = refl; disables = refl; reason = refl })
+returns-3 c e = rw (c .before .before .if1 .left, c .if2 .left) (record { state = rw (c .if2 .left) at (c .before .set-enabled .ensures); effect = refl; reason = refl })
 
 pub set-bit-at-spec : {M : Type 1} → statement M
 set-bit-at-spec = tie.close (tie.spec (λ c κs. search needs) returns (λ c κs. search needs) (λ c κs. search needs) returns-2 returns-3)
