@@ -57,10 +57,10 @@ fn commit(
     requires { ⌜ (present (read (now store)) ≡ true) × Sound (x .vol) ⌝ }
     ensures { λ r. ⌜ Commits x time (now (store .entry)) (now (outcomes .entry)) (now (effects .entry)) r (now (store .exit)) (now (outcomes .exit)) (now (effects .exit)) ⌝ }
 {
-    if outcomes.len() / 6 < x.outcomes as usize {
+    if outcomes.len() / activate::OUTCOME_WORDS < x.outcomes as usize {
         return refuse(outcomes, effects, 30);
     }
-    if effects.len() / 5 < x.effects as usize {
+    if effects.len() / exec::EFFECT_WORDS < x.effects as usize {
         return refuse(outcomes, effects, 30);
     }
     let v = x.vol;

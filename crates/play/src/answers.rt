@@ -68,7 +68,7 @@ fn effect_at(o: Stream, out: &mut [u8], first: u32, i: u32, effects: &[u32]) -> 
     requires { ⌜ 1024 ≤ length (now out) ⌝ }
     ensures { λ r. ⌜ Gathers (now (out .entry)) o (effectAt (now (effects .entry)) (first + i)) (now (out .exit)) r ⌝ }
 {
-    let at = 5 * (first as usize + i as usize);
+    let at = exec::EFFECT_WORDS * (first as usize + i as usize);
     let kind = fields::word(effects, at);
     let a = fields::word(effects, at + 1);
     let b = fields::word(effects, at + 2);
@@ -95,7 +95,7 @@ fn outcome_line(o: Stream, out: &mut [u8], i: u32, outcomes: &[u32]) -> Stream
     requires { ⌜ 1024 ≤ length (now out) ⌝ }
     ensures { λ r. ⌜ Gathers (now (out .entry)) o (outcomeAt (now (outcomes .entry)) i) (now (out .exit)) r ⌝ }
 {
-    let at = 6 * i as usize;
+    let at = activate::OUTCOME_WORDS * i as usize;
     let rule = fields::word(outcomes, at);
     let dry = fields::word(outcomes, at + 1);
     let trigger = fields::word(outcomes, at + 2);
@@ -110,7 +110,7 @@ fn outcome_at(o: Stream, out: &mut [u8], i: u32, outcomes: &[u32], effects: &[u3
     ensures { λ r. ⌜ Gathers (now (out .entry)) o (outcomeWith (now (outcomes .entry)) (now (effects .entry)) i) (now (out .exit)) r ⌝ }
 {
     let t = outcome_line(o, out, i, outcomes);
-    let at = 6 * i as usize;
+    let at = activate::OUTCOME_WORDS * i as usize;
     let first = fields::word(outcomes, at + 4);
     let count = fields::word(outcomes, at + 5);
     effects_of(t, out, first, count, effects)

@@ -11,23 +11,7 @@ use crate::Stream;
 use crate::answers;
 use crate::output;
 use script::Line;
-
-// The numbers of the calls' names.
-const NEW: u32 = 0;
-
-const LOAD: u32 = 1;
-
-const UNLOAD: u32 = 2;
-
-const ENABLE: u32 = 3;
-
-const TICK: u32 = 4;
-
-const RUN: u32 = 5;
-
-const DEADLINE: u32 = 6;
-
-const COUNTERS: u32 = 7;
+use script::calls;
 
 // How many of the words are lent where n are asked for.
 pub fn within(n: usize, words: &[u32]) -> usize
@@ -59,7 +43,7 @@ fn new(o: Stream, size: usize, time: u64, store: &mut [u32], out: &mut [u8]) -> 
 {
     let n = within(size, store);
     let number = cerambiu::cerambiu_new(&mut store[..n], time);
-    answers::done(o, out, NEW, number)
+    answers::done(o, out, calls::NEW, number)
 }
 
 fn load(
@@ -75,7 +59,7 @@ fn load(
 {
     let n = within(size, store);
     let number = cerambiu::cerambiu_load(&mut store[..n], time, image);
-    answers::done(o, out, LOAD, number)
+    answers::done(o, out, calls::LOAD, number)
 }
 
 fn unload(o: Stream, size: usize, time: u64, store: &mut [u32], out: &mut [u8]) -> Stream
@@ -84,7 +68,7 @@ fn unload(o: Stream, size: usize, time: u64, store: &mut [u32], out: &mut [u8]) 
 {
     let n = within(size, store);
     let number = cerambiu::cerambiu_unload(&mut store[..n], time);
-    answers::done(o, out, UNLOAD, number)
+    answers::done(o, out, calls::UNLOAD, number)
 }
 
 fn enable(o: Stream, size: usize, rule: u32, on: bool, store: &mut [u32], out: &mut [u8]) -> Stream
@@ -94,7 +78,7 @@ fn enable(o: Stream, size: usize, rule: u32, on: bool, store: &mut [u32], out: &
     let n = within(size, store);
     let mut answer = [0u32; 17];
     let number = cerambiu::cerambiu_enable(&mut store[..n], rule, on, &mut answer);
-    answers::enabled(o, out, ENABLE, number, rule, &answer)
+    answers::enabled(o, out, calls::ENABLE, number, rule, &answer)
 }
 
 fn deadline(o: Stream, size: usize, store: &[u32], out: &mut [u8]) -> Stream
@@ -104,7 +88,7 @@ fn deadline(o: Stream, size: usize, store: &[u32], out: &mut [u8]) -> Stream
     let n = within(size, store);
     let mut answer = [0u32; 17];
     let number = cerambiu::cerambiu_next_deadline(&store[..n], &mut answer);
-    answers::deadline(o, out, DEADLINE, number, &answer)
+    answers::deadline(o, out, calls::DEADLINE, number, &answer)
 }
 
 fn counters(o: Stream, size: usize, store: &[u32], out: &mut [u8]) -> Stream
@@ -114,7 +98,7 @@ fn counters(o: Stream, size: usize, store: &[u32], out: &mut [u8]) -> Stream
     let n = within(size, store);
     let mut answer = [0u32; 17];
     let number = cerambiu::cerambiu_counters(&store[..n], &mut answer);
-    answers::counters(o, out, COUNTERS, number, &answer)
+    answers::counters(o, out, calls::COUNTERS, number, &answer)
 }
 
 fn tick(
@@ -143,7 +127,7 @@ fn tick(
     answers::handled(
         o,
         out,
-        TICK,
+        calls::TICK,
         number,
         snapshot,
         &answer,
@@ -182,7 +166,7 @@ fn run(
     answers::handled(
         o,
         out,
-        RUN,
+        calls::RUN,
         number,
         snapshot,
         &answer,
