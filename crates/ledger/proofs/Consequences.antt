@@ -1,11 +1,13 @@
--- What follows from the claim alone, in plain numbers: effects with each outcome, reason 2, and the waits of a flat list.
+-- What follows from the claim alone, in plain numbers: effects with each outcome, reason 2, the waits of a flat list, and the steps of a list that
+-- nests nothing.
 use mathlib.Core.Path.{_≡_, refl, sym, _∙_, ap, ap₂}
 use mathlib.Core.Logic.{_⊎_, inl, inr}
 use Prim.Native.Nat.{ℕ, zero, suc, _+_, _≤_}
 use native.Mathlib.Omega.{arith}
 use mathlib.Core.Bool.{Bool, true, false, _||_, false≢true}
-use mathlib.Core.List.{List, [], _∷_, _++_, map}
-use mathlib.Core.Option.{Option}
+use mathlib.Core.List.{List, [], _∷_, _++_, map, nil≢cons, cons≢nil, head-eq-of-cons-eq, tail-eq-of-cons-eq}
+use mathlib.Core.Option.{Option, none, some, Option·none-ne-some, Option·some-injective}
+use borrow.Author.Tests.{leb-true}
 use lib.ListN.{length, length-append}
 use Rattle.model.specs.Lists.{toList}
 use Rattle.model.specs.Image.{budget}
@@ -19,7 +21,7 @@ use Rattle.model.specs.declared.FlowAction.the-variants.{Wait as WaitAction, Af
 use Rattle.model.specs.Outcome.{Outcome, Item, started, resumed, aborted, paid}
 use Rattle.model.specs.State.{RuleSet}
 use Rattle.ledger.specs.Trace.{effectsIn, RunOf, ended, exhausted, waits, continues, ActivationsOf, no-more, activation, unevaluable, TraceOf, activations, resumption}
-use Rattle.ledger.specs.FlatForm.{flowAt, ListForm, at-end, action, cut-off, ActionForm, is-plain, is-wait, is-after, is-call, is-repeat, is-branch, fails}
+use Rattle.ledger.specs.FlatForm.{flowAt, Context, ListForm, at-end, action, cut-off, ActionForm, is-plain, is-wait, is-after, after-in-after, is-call, call-too-deep, call-unknown, is-repeat, repeat-refused, is-branch, branch-in-branch}
 use Rattle.ledger.proofs.Reasons.{isDrop, dropsOne, reason-two}
 
 -- EFFECTS WITH EACH OUTCOME --------------------------------------------------------------------------------------------------------
@@ -129,22 +131,18 @@ waits-append : (xs ys : List Step) → waitSteps (xs ++ ys) ≡ waitSteps xs + w
 waits-append [] ys = omega arith
 waits-append (x ∷ xs) ys = let i = waits-append xs ys in omega arith
 
-action-waits : {img : List ℕ} {i : ℕ} {xs : List Step} → ActionForm img i xs → waitAction (flowAt img i) ≤ waitSteps xs
+action-waits : {img : List ℕ} {p : Context} {n i k : ℕ} {xs : List Step} → ActionForm img p n i xs k → waitAction (flowAt img i) ≤ waitSteps xs
 action-waits (is-plain e) = let z = ap waitAction e in omega arith
 action-waits (is-wait e) = let z = ap waitAction e in omega arith
-action-waits (is-after e p) = let z = ap waitAction e in omega arith
-action-waits (is-call e q p) = let z = ap waitAction e in omega arith
-action-waits (is-repeat e p c) = let z = ap waitAction e in omega arith
-action-waits (is-branch e p q) = let z = ap waitAction e in omega arith
-action-waits {img} {i} (fails e) = go (flowAt img i)
-  where
-    go : (a : FlowAction) → waitAction a ≤ 1 + 0
-    go (WaitAction ms) = omega arith
-    go (AfterAction ms f k) = omega arith
-    go (Call b) = omega arith
-    go (Repeat t f k) = omega arith
-    go (Conditional q yf yk ef ek) = omega arith
-    go Plain = omega arith
+action-waits (is-after e q h) = let z = ap waitAction e in omega arith
+action-waits (after-in-after e q) = let z = ap waitAction e in omega arith
+action-waits (is-call e d q h) = let z = ap waitAction e in omega arith
+action-waits (call-too-deep e d) = let z = ap waitAction e in omega arith
+action-waits (call-unknown e d q) = let z = ap waitAction e in omega arith
+action-waits (is-repeat e q h c) = let z = ap waitAction e in omega arith
+action-waits (repeat-refused e q) = let z = ap waitAction e in omega arith
+action-waits (is-branch e q h g) = let z = ap waitAction e in omega arith
+action-waits (branch-in-branch e q) = let z = ap waitAction e in omega arith
 
 abbrev pub waitActions : List ℕ → List ℕ → ℕ
 waitActions img [] = 0
@@ -167,11 +165,49 @@ no-fail-back (After ms n ∷ xs) ys h = no-fail-back xs ys h
 no-fail-back (Fail ∷ xs) ys h = absurd (false≢true h)
 
 -- where nothing failed, every wait of the list is a wait of its flat form
-pub list-waits : {img is : List ℕ} {xs : List Step} → ListForm img is xs → noFail xs ≡ true → waitActions img is ≤ waitSteps xs
+pub list-waits : {img is : List ℕ} {p : Context} {n k : ℕ} {xs : List Step} → ListForm img p n is xs k → noFail xs ≡ true → waitActions img is ≤ waitSteps xs
 list-waits at-end h = omega arith
-list-waits (action {xs = xs} {ys = ys} p q) h =
-    let a = action-waits p in
+list-waits (action {xs = xs} {ys = ys} u a q) h =
+    let w = action-waits a in
     let b = list-waits q (no-fail-back xs ys h) in
     let e = waits-append xs ys in
     omega arith
-list-waits cut-off h = absurd (false≢true h)
+list-waits (cut-off u) h = absurd (false≢true h)
+
+-- LISTS OF PLAIN ACTIONS AND WAITS ALONE ---------------------------------------------------------------------------------------------
+-- the step that is the action of record i, if it nests nothing
+abbrev pub ownStep : ℕ → FlowAction → Option Step
+ownStep i Plain = some (Primitive i)
+ownStep i (WaitAction ms) = some (Wait ms)
+ownStep i (AfterAction ms f k) = none
+ownStep i (Call b) = none
+ownStep i (Repeat t f k) = none
+ownStep i (Conditional q yf yk ef ek) = none
+
+none-some : {A : Type 0} {B : Type 0} {x : A} {o : Option A} → o ≡ none → o ≡ some x → B
+none-some {x = x} u v = absurd (Option·none-ne-some x (sym u ∙ v))
+
+own-action : {img : List ℕ} {p : Context} {n i k : ℕ} {s : Step} {xs : List Step} → ActionForm img p n i xs k → ownStep i (flowAt img i) ≡ some s → (xs ≡ s ∷ []) × (k ≡ 1)
+own-action {i = i} {s = s} (is-plain e) o = (ap (λ x. x ∷ []) (Option·some-injective _ s (sym (ap (ownStep i) e) ∙ o)), refl)
+own-action {i = i} {s = s} (is-wait e) o = (ap (λ x. x ∷ []) (Option·some-injective _ s (sym (ap (ownStep i) e) ∙ o)), refl)
+own-action {i = i} (is-after e q h) o = none-some (ap (ownStep i) e) o
+own-action {i = i} (after-in-after e q) o = none-some (ap (ownStep i) e) o
+own-action {i = i} (is-call e d q h) o = none-some (ap (ownStep i) e) o
+own-action {i = i} (call-too-deep e d) o = none-some (ap (ownStep i) e) o
+own-action {i = i} (call-unknown e d q) o = none-some (ap (ownStep i) e) o
+own-action {i = i} (is-repeat e q h c) o = none-some (ap (ownStep i) e) o
+own-action {i = i} (repeat-refused e q) o = none-some (ap (ownStep i) e) o
+own-action {i = i} (is-branch e q h g) o = none-some (ap (ownStep i) e) o
+own-action {i = i} (branch-in-branch e q) o = none-some (ap (ownStep i) e) o
+
+-- of such a list that fits behind the steps before it the steps are its own, in order: no cut, no Fail
+pub own-steps : {img is : List ℕ} {p : Context} {n k : ℕ} {xs : List Step} → ListForm img p n is xs k → (ss : List Step)
+    → map (λ i. ownStep i (flowAt img i)) is ≡ map some ss → n + length is ≤ 256 → xs ≡ ss
+own-steps at-end [] e h = refl
+own-steps at-end (s ∷ ss) e h = absurd (nil≢cons e)
+own-steps (action u a q) [] e h = absurd (cons≢nil e)
+own-steps (action {xs = xs} {ys = ys} u a q) (s ∷ ss) e h =
+    let o = own-action a (head-eq-of-cons-eq e) in
+    let c = o .1 in
+    ap₂ (λ (x y : List Step). x ++ y) (o .0) (own-steps q ss (tail-eq-of-cons-eq e) (omega arith))
+own-steps (cut-off {n = n} u) ss e h = let t = leb-true 256 n u in absurd (omega arith)

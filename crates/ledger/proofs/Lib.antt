@@ -36,5 +36,6 @@ pub mod Consequences
 pub mod Shown
 pub mod Sets
 pub mod FlatForms
+pub mod FlatOnce
 pub mod Demand3
 pub mod OnWords
