@@ -1,14 +1,14 @@
 #!/usr/bin/env python3
 """The stack that each exported function of a static library needs at most, for every input, computed from its machine code (x86-64).
 
-    stack_bound.py LIBRARY [--levels FUNCTION=N ..] [--page FILE [--cited FILE]] [--most FUNCTION=BYTES ..] [--paths]
+    stack_bound.py LIBRARY [--levels FUNCTION=N ..] [--page FILE [--cited FILE ..]] [--most FUNCTION=BYTES ..] [--paths]
 
 The depth of the stack pointer is followed along the code of every function, through jumps, jump tables and probe loops, so that it is known at
 each call. The bound of an exported function is the greatest sum of depths over the graph of calls. Calls must be direct.
 
     --levels FUNCTION=N   at most N activations of FUNCTION are on the stack at once: a cycle of calls must pass through such a function
     --page FILE           the rows "| `function` | bytes |" of a page of documentation: each exported function must have one, and stay within it
-    --cited FILE          another page that must have each of these figures
+    --cited FILE          another page that must have each of these figures behind the function's name (without cerambiu_)
     --most FUNCTION=BYTES the same for one function
     --paths               print the worst path of each exported function
 
@@ -146,6 +146,7 @@ class Flow:
         self.targets = [self.index[at] for at in sorted(targets)]
         self.depth = {}
         self.calls, self.work = [], []
+        self.ends_of_probes = set()  # the instructions that set where a probe loop ends: they touch nothing
         self.reach(0, 0)
         while self.work:
             self.step(self.work.pop())
@@ -186,7 +187,7 @@ class Flow:
     def below(self, one):
         """How far below the stack pointer an instruction may read or write. A function that makes no call may use RED_ZONE bytes there:
         they count as a whole where an index, or a register that was set from the stack pointer, leads to a place that is not known."""
-        if one.operands[-1:] in (["%r11"], ["%rsp"]):  # the end of a probe loop, or the stack pointer itself
+        if one.at in self.ends_of_probes or one.operands[-1:] == ["%rsp"]:
             return 0
         places = [int(found, 16) for operand in one.operands for found in re.findall(r"^-0x([0-9a-f]+)\(%rsp\)$", operand)]
         if places:
@@ -194,7 +195,7 @@ class Flow:
                 self.unknown(one, "far below the stack pointer")
             return max(places)
         hidden = one.operands[:1] == ["%rsp"] and one.name == "mov" or any(re.match(r"^-0x[0-9a-f]+\(%rsp,", operand) for operand in one.operands)
-        return RED_ZONE if hidden and not self.calls else 0
+        return RED_ZONE if hidden and not any(depth for depth, _ in self.calls) else 0  # a call in tail position leaves the bytes below as they are
 
     def callee(self, one):
         if one.symbol and one.symbol[1] == -4:
@@ -250,6 +251,7 @@ class Flow:
         found = led or taken
         if goal < 2 or not found or int(found.group(1), 16) % PAGE != 0:
             self.unknown(self.code[goal], "a probe loop with no known end")
+        self.ends_of_probes.update(one.at for one in self.code[goal - (2 if taken else 1) : goal])
         return int(found.group(1), 16)
 
     def table_targets(self, i):
@@ -353,10 +355,12 @@ def report(options):
         for name in sorted(set(exported) ^ set(figures)):
             raise Unknown("%s: %s" % (options.page, ("no row of " if name in exported else "a row of no exported function, ") + name))
         most.update(figures)
-        cited = open(options.cited, encoding="utf-8").read() if options.cited else None
-        for name, figure in figures.items():
-            if cited is not None and not re.search(r"(?<![0-9,])%s(?![0-9]|,[0-9])" % format(figure, ","), cited):
-                raise Unknown("%s does not have the figure of %s: %s" % (options.cited, name, format(figure, ",")))
+        for page in options.cited:
+            text = re.sub(r"\s*\n[ *]*", " ", open(page, encoding="utf-8").read())  # a figure may stand on the next line of a comment
+            for name, figure in figures.items():
+                said = "%s %s" % (name.replace("cerambiu_", ""), format(figure, ","))
+                if not re.search(r"\b%s(?![0-9]|,[0-9])" % re.escape(said), text):
+                    raise Unknown("%s does not say '%s'" % (page, said))
     over = 0
     for name in exported:
         cost, path = bound.worst(name)
@@ -374,7 +378,7 @@ def main():
     options.add_argument("library")
     options.add_argument("--levels", action="append", default=[])
     options.add_argument("--page")
-    options.add_argument("--cited")
+    options.add_argument("--cited", action="append", default=[])
     options.add_argument("--most", action="append", default=[])
     options.add_argument("--paths", action="store_true")
     try:

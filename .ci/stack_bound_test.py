@@ -125,6 +125,8 @@ def expect_cited(archive, folder, rows, bounds):
     open(page, "w", encoding="utf-8").write("".join(rows))
     words = ", ".join("{} {:,}".format(name, bounds[name]) for name in bounds)
     texts = (("all figures", words + ".", 0), ("a figure too few", words.rsplit(" ", 1)[0], 2))
+    swapped = words.replace("both", "other").replace("one", "both").replace("other", "one")
+    texts += (("figures over two lines of a comment", words.replace(" ", "\n *  "), 0), ("two figures exchanged", swapped, 2))
     texts += (("digits before", words.replace(" ", " 1"), 2), ("digits behind", words.replace(", ", "1, ") + "1", 2))
     for what, text, status in texts:
         open(cited, "w", encoding="utf-8").write(text)
@@ -154,6 +156,8 @@ def assembly(folder):
     bound_of(folder, function("indexed", "push %rbx; mov %rax, -0x4008(%rsp,%rdi,4); pop %rbx; ret"), "indexed", 8 + 8 + 128)
     bound_of(folder, function("hidden", "push %rbp; mov %rsp, %rbp; mov %rax, -0x10(%rbp); pop %rbp; ret"), "hidden", 8 + 8 + 128)
     bound_of(folder, function("probed", PROBED), "probed", 8 + 8 + 0x5000 + 0x10)
+    bound_of(folder, function("led", "lea -0x60(%rsp), %r11; mov %rax, (%r11); ret"), "led", 8 + 0x60)
+    bound_of(folder, function("g", "ret", False) + function("hidden_tail", "mov %rsp, %rbx; mov %rax, -0x40(%rbx); jmp g"), "hidden_tail", 8 + 128)
     bound_of(folder, function("copies", "sub $0x18, %rsp; call memcpy@PLT; add $0x18, %rsp; ret"), "copies", 8 + 24 + 8)
     inner = function("inner", "sub $0x100, %rsp; add $0x100, %rsp; ret", False)
     bound_of(folder, inner + function("tail", "push %rbx; pop %rbx; jmp inner"), "tail", 8 + 0x100)
