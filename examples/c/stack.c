@@ -67,13 +67,13 @@ static void *measure(void *which)
     return NULL;
 }
 
-/* Bytes of stack that a call needs. */
-static size_t needs(enum call which)
+/* Makes a call on a thread whose stack is these bytes. It must not be refused. */
+static void on_stack(void *bytes, size_t count, void *(*makes)(void *), enum call which)
 {
     pthread_attr_t attributes;
     pthread_t thread;
-    if (pthread_attr_init(&attributes) || pthread_attr_setstack(&attributes, (void *)stack, STACK_BYTES) ||
-        pthread_create(&thread, &attributes, measure, &which) || pthread_join(thread, NULL)) {
+    if (pthread_attr_init(&attributes) || pthread_attr_setstack(&attributes, bytes, count) ||
+        pthread_create(&thread, &attributes, makes, &which) || pthread_join(thread, NULL)) {
         perror("thread");
         exit(1);
     }
@@ -82,6 +82,12 @@ static size_t needs(enum call which)
         printf("%s refused %u\n", names[which], (unsigned)refusal);
         exit(1);
     }
+}
+
+/* Bytes of stack that a call needs. */
+static size_t needs(enum call which)
+{
+    on_stack((void *)stack, STACK_BYTES, measure, which);
     return used;
 }
 
@@ -95,8 +101,6 @@ static void *call(void *which)
 static void fits(enum call which)
 {
     static unsigned char *pages;
-    pthread_attr_t attributes;
-    pthread_t thread;
     if (pages == NULL) {
         pages = mmap(NULL, STACK_BYTES + SMALL_STACK_BYTES, PROT_NONE, MAP_PRIVATE | MAP_ANONYMOUS, -1, 0);
         if (pages == MAP_FAILED || mprotect(pages + STACK_BYTES, SMALL_STACK_BYTES, PROT_READ | PROT_WRITE)) {
@@ -104,16 +108,7 @@ static void fits(enum call which)
             exit(1);
         }
     }
-    if (pthread_attr_init(&attributes) || pthread_attr_setstack(&attributes, pages + STACK_BYTES, SMALL_STACK_BYTES) ||
-        pthread_create(&thread, &attributes, call, &which) || pthread_join(thread, NULL)) {
-        perror("thread");
-        exit(1);
-    }
-    pthread_attr_destroy(&attributes);
-    if (refusal != CERAMBIU_OK) {
-        printf("%s refused %u\n", names[which], (unsigned)refusal);
-        exit(1);
-    }
+    on_stack(pages + STACK_BYTES, SMALL_STACK_BYTES, call, which);
 }
 
 static void put(const uint32_t *words, size_t count)
