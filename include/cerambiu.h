@@ -11,7 +11,7 @@
  *   slices    A lent store is a pointer and its number of words. The pointer is aligned for uint32_t; with 0 words it may be anything.
  *             Stores of one call do not overlap. A store that is not const is written within its words only.
  *   threads   Two calls may run at once if they share no store that either of them writes.
- *   stack     In bytes, at most, for every input, on x86-64: tick 192,632, run 159,176, load 41,016, enable 32,776, unload 26,856, next_deadline
+ *   stack     In bytes, at most, for every input, on x86-64: tick 198,024, run 164,568, load 41,016, enable 32,776, unload 26,856, next_deadline
  *             25,352, counters 19,832, new 40. The gate computes them from the machine code. The return address is in; not in: what memcpy, memmove
  *             and memset use, the arguments that the caller pushes, the dynamic linker, interrupts (docs/PERFORMANCE.md, "Stack").
  *   refusals  Each call returns 0, or the number of a refusal: the lowest that applies. A refused call has changed nothing: the store is as
@@ -26,7 +26,7 @@
  *   lighting  The engine hands these words on and does not look into them, but for their range: a light target (a lamp, a group ..), a verb (what a
  *             target is to do: on, off, a level, a colour ..), a scene (a stored setting of lights, by number), a schedule. HCL, human centric
  *             lighting, drives targets by schedules of the day, outside the engine; the hold mark of an effect asks HCL to leave its target alone.
- *             A rule has a hold mark for its effects; a Light may have its own.
+ *             A rule has a hold mark for its effects; a Light or a Percent may have its own.
  *
  * Each function's contract in crates/cerambiu/src/lib.rt is one equation with the definitions of crates/model/specs, proved for all arguments.
  */
@@ -149,8 +149,13 @@ enum cerambiu_action {
     CERAMBIU_AFTER = 24,          /* ms, actions: these become a continuation, the run goes on */
     CERAMBIU_CALL = 25,           /* block name; unknown or too deep: a step that fails */
     CERAMBIU_REPEAT = 26,         /* count byte, actions; 0 or over the repeat limit: a step that fails */
-    CERAMBIU_CONDITIONAL = 27     /* condition, actions of then, actions of else */
+    CERAMBIU_CONDITIONAL = 27,    /* condition, actions of then, actions of else */
+    CERAMBIU_PERCENT = 28         /* target, hold (0, 1, 2 the rule's), value: parts per million of full light */
 };
+
+/* A value in parts per million has a level of the bus: 0 is level 0; 1,000 to 1,000,000 the level of 1 to 254 that lies nearest on the dimming curve
+ * of IEC 62386-102, the lower of two that lie equally near (500,000, half light, is level 229). Any other value, and one that cannot be evaluated, has
+ * none: the step fails, and the run goes on. */
 
 /* An After in an After, a Repeat in a Repeat, a Conditional in a Conditional, through calls too, is a step that fails. A list that has 256 steps and
  * an action left takes one more step, which fails, and ends. */
@@ -296,7 +301,8 @@ enum cerambiu_effect {
     CERAMBIU_EFFECT_CANCEL_HOLD = 8,    /* adapter, address, instance */
     CERAMBIU_EFFECT_CATCH_MOVEMENT = 9, /* adapter, address, instance */
     CERAMBIU_EFFECT_MQTT_PUBLISH = 10,  /* topic, payload, retain mark */
-    CERAMBIU_EFFECT_LOG = 11            /* text */
+    CERAMBIU_EFFECT_LOG = 11,           /* text */
+    CERAMBIU_EFFECT_LEVEL = 12          /* target, level 0 to 254, hold mark */
 };
 
 /* COUNTERS: 13, each of which stops at 2^32 - 1, then four gauges ------------------------------------------------------------------ */

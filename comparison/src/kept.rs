@@ -9,7 +9,9 @@ use oracle::model::{Text, VarValue};
 
 use crate::flat_form::{self, Step, AFTER};
 use crate::store::{Pending, Slot, Store, Timer, Value, Variable};
-use crate::tables::Tables;
+use crate::tables::{Tables, ACTIONS};
+
+const PERCENT: u32 = 28;
 
 /// A house with the image of its loaded set, which it does not keep itself.
 #[derive(Default)]
@@ -34,6 +36,12 @@ impl Player {
     /// Whether a tick's clock was set back: from then on the house has the wheel's variant for request 5 of document 02.
     pub fn is_set_back(&self) -> bool {
         self.house.is_set_back()
+    }
+
+    /// Whether the loaded set has an action of kind 28, which the published engine does not know: what runs then is the stand-in.
+    pub fn has_percent(&self) -> bool {
+        let image = self.image.as_deref();
+        image.is_some_and(|image| Tables::of(image).records(ACTIONS).any(|record| record[0] == PERCENT))
     }
 
     /// The store that the house would have; None where its size is not a store's. A pending record whose place is not found

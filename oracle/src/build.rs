@@ -91,6 +91,8 @@ pub enum Action {
     FeedbackOff(InputRef),
     /// Adapter, group, selected.
     PanelSelect(u32, u32, Value),
+    /// Target, hold (0, 1, 2 absent), parts per million.
+    Percent(u32, u32, Value),
     CancelHold(InputRef),
     CatchMovement(InputRef),
     TimerStart(u32, u32),

@@ -282,6 +282,10 @@ pub fn trigger_code(kind: &str) -> u32 {
 
 fn effect_words(effect: &Effect) -> [u32; 5] {
     match effect {
+        // Only action kind 28 gives a level.
+        Effect::Light { target, verb: LightVerb::Level { level }, hold_hcl } => {
+            [12, target_word(target), u32::from(*level), u32::from(*hold_hcl), 0]
+        }
         Effect::Light { target, verb, hold_hcl } => {
             [0, target_word(target), verb_word(verb), u32::from(*hold_hcl), 0]
         }
@@ -328,7 +332,7 @@ fn target_word(target: &LightTarget) -> u32 {
     target.number().unwrap_or(0)
 }
 
-/// `light_verb` gives stored verbs only.
+/// `light_verb` gives stored verbs and levels only.
 fn verb_word(verb: &LightVerb) -> u32 {
     match verb {
         LightVerb::Stored(word) => *word,

@@ -117,7 +117,11 @@ impl<'a> Both<'a> {
         let seen = self.house.call(call, lent);
         let wanted = expected(call, answer, lent);
         self.tally.add(call, answer);
-        self.tally.wheel(self.player.is_set_back());
+        if matches!(answer, Answer::Outcomes { .. }) && self.player.has_percent() {
+            self.tally.percents += 1;
+        } else {
+            self.tally.wheel(self.player.is_set_back());
+        }
         ask(seen == wanted, || first_difference(call, &seen, &wanted))?;
         if matches!(answer, Answer::Refused(_) | Answer::Deadline(_) | Answer::Counters(_)) {
             return ask(self.house.store == before, || format!("{call:?}: the store is changed"));

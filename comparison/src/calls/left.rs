@@ -7,6 +7,7 @@ use crate::tables::{Tables, ACTIONS, CONDITION_RECORDS, VALUE_RECORDS};
 const PRIMITIVE: u32 = 0;
 const CYCLE: u32 = 3;
 const PANEL_SELECT: u32 = 10;
+const PERCENT: u32 = 28;
 const VAR_SET: u32 = 16;
 const VAR_ADD: u32 = 17;
 const BOUND_RECORDS: usize = 6;
@@ -53,7 +54,7 @@ fn action(tables: Tables<'_>, index: u32) -> Vec<u32> {
             let pool: Vec<u32> = (0..words[2]).map(|at| tables.record(POOL, words[1] + at)[0]).collect();
             [[CYCLE].as_slice(), &pool].concat()
         }
-        PANEL_SELECT => [&words[..3], tables.record(VALUE_RECORDS, words[3])].concat(),
+        PANEL_SELECT | PERCENT => [&words[..3], tables.record(VALUE_RECORDS, words[3])].concat(),
         VAR_ADD => [&words[..2], tables.record(VALUE_RECORDS, words[2])].concat(),
         VAR_SET if words[2] == 1 => {
             // The oracle's texts are equal if their numbers are.

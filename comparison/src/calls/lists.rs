@@ -14,7 +14,7 @@ const LAMP: [u32; 2] = [1, 4];
 const READ_VARIABLE: u32 = 18;
 const READ_LEVEL: u32 = 0;
 
-/// One or more for each of the 28 kinds; those that depend on each other share a timer, a variable, a rule.
+/// One or more for each of the 29 kinds; those that depend on each other share a timer, a variable, a rule.
 pub fn small_actions() -> Vec<Action> {
     let known = Condition::RuleEnabled(RULE);
     let unknown = Condition::LampIs([9, 9], 1);
@@ -34,6 +34,8 @@ pub fn small_actions() -> Vec<Action> {
         Action::FeedbackOn(INPUT),
         Action::FeedbackOff(INPUT),
         Action::PanelSelect(1, 2, Value::Reading(READ_LEVEL, [LAMP[0], LAMP[1], 0])),
+        Action::Percent(1, 2, Value::Literal(500_000)),
+        Action::Percent(2, 0, Value::Reading(READ_VARIABLE, [VARIABLE, 0, 0])),
         Action::CancelHold(INPUT),
         Action::CatchMovement(INPUT),
         Action::TimerStart(TIMER, 1_000),

@@ -4,6 +4,7 @@
 //! - Histories: so many generated ones from SEED on, valid and hostile; behind each, its store with random words.
 //! - Clocks set back: as many histories around the ticks that document 02's request 5 changes.
 //! - Lists: every list of up to LENGTH of the small actions, as a rule.
+//! - Levels: action kind 28 on every entry and every middle of the dimming curve and their neighbours, and on values without a level.
 //! - Stores: every word of good stores to VALUES other values; a store for each rule that is broken.
 //!
 //! Of each call: number, values, outcomes, effects, all words of the store, and that a refusal changed nothing and left zeros. Prints each
@@ -12,6 +13,7 @@
 mod both;
 pub mod house;
 mod left;
+mod levels;
 mod lists;
 mod stores;
 mod tally;
@@ -51,6 +53,7 @@ pub fn command() -> Option<ExitCode> {
     calls.histories(histories, seed);
     calls.set_backs(histories, seed);
     calls.lists(length as u32);
+    calls.levels();
     calls.stores(values as usize, seed);
     Some(ExitCode::from(u8::from(!calls.report())))
 }
@@ -137,6 +140,15 @@ impl Calls {
         self.part("lists of small actions", lists::count(length) as usize, before);
     }
 
+    fn levels(&mut self) {
+        let before = self.tally.calls;
+        let values = levels::values();
+        for (at, history) in levels::histories(&values).enumerate() {
+            self.play(&format!("levels, part {at}"), at as u64, &history);
+        }
+        self.part("values in parts per million", values.len(), before);
+    }
+
     fn stores(&mut self, values: usize, seed: u64) {
         let before = self.tally.calls;
         let mut found = Vec::new();
@@ -150,7 +162,8 @@ impl Calls {
 
     fn report(&self) -> bool {
         let whole = self.tally.report() && !self.empty;
-        println!("calls: {} calls, {} differences; {}", self.tally.calls, self.differences, self.tally.wheels());
+        let calls = format!("calls: {} calls, {} differences", self.tally.calls, self.differences);
+        println!("{calls}; {}; {}", self.tally.wheels(), self.tally.percents());
         whole && self.differences == 0
     }
 }

@@ -7,7 +7,7 @@ use oracle::house::{Answer, Call};
 use crate::store::{Store, MOST_PENDING, MOST_SLOTS, MOST_TIMERS, MOST_VARIABLES, RULES};
 
 const CALLS: [&str; 8] = ["new", "load", "unload", "enable", "tick", "run", "deadline", "counters"];
-const EFFECTS: [&str; 12] = [
+const EFFECTS: [&str; 13] = [
     "Light",
     "SceneRecall",
     "SceneApply",
@@ -20,6 +20,7 @@ const EFFECTS: [&str; 12] = [
     "CatchMovement",
     "MqttPublish",
     "Log",
+    "Level",
 ];
 const TRIGGERS: [&str; 5] = ["HttpTrigger", "TimerFires", "Every", "AtTime", "AtSolar"];
 const SAID: [&str; 4] = ["enable yes", "enable no", "deadline at a time", "deadline none"];
@@ -61,10 +62,12 @@ pub struct Tally {
     pub calls: u64,
     /// Of the calls of histories: those up to a tick whose clock was set back, and those from it on.
     wheels: [u64; 2],
+    /// Beside them, ticks and runs on sets with action kind 28: the Rust has no such kind, so they are compared with the definition only.
+    pub percents: u64,
     answers: BTreeMap<(usize, u32), u64>,
     /// Of what a call said yes, no, a time or none.
     said: BTreeMap<&'static str, u64>,
-    effects: [u64; 12],
+    effects: [u64; 13],
     triggers: [u64; 5],
     reasons: [u64; 3],
     outcomes: u64,
@@ -106,6 +109,10 @@ impl Tally {
         format!("{published} compared with the Rust, {variant} behind a clock set back with its variant for the definition")
     }
 
+    pub fn percents(&self) -> String {
+        format!("{} ticks and runs with action kind 28 with the definition only", self.percents)
+    }
+
     /// An answer with no values: a refusal.
     pub fn count(&mut self, call: usize, number: u32) {
         self.calls += 1;
@@ -139,6 +146,7 @@ impl Tally {
         empty += row("said", SAID.iter().map(said));
         empty += row("outcomes", [("all".to_owned(), self.outcomes), ("dry".to_owned(), self.dry)].into_iter());
         empty += named_row("wheel", &WHEELS, &self.wheels);
+        empty += usize::from(self.percents == 0);
         let most: Vec<u64> = self.most.iter().map(|count| *count as u64).collect();
         named_row("most", &TABLES, &most);
         empty += self.most.iter().zip(FULL).filter(|(most, full)| *most != full).count();

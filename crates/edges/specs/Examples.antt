@@ -6,7 +6,7 @@ use lib.ListN.{replicate}
 use Rattle.model.specs.Lists.{upFrom}
 use Rattle.model.specs.State.{Store}
 use Rattle.model.specs.Calls.{Call, load, unload, enable, run, deadline, counters, fresh, answers, call}
-use Rattle.edges.specs.Samples.{imageOf, rule, log, logs, wait, after, doing, snapshot, absent, tickAt, tickAtMinute, runWet, runDry, seen, force, history, Edge, edge, samples}
+use Rattle.edges.specs.Samples.{imageOf, rule, log, logs, wait, after, percent, literal, doing, valued, snapshot, absent, tickAt, tickAtMinute, runWet, runDry, seen, force, history, Edge, edge, samples}
 
 -- a Wait of 0 and a Log, every millisecond
 unfoldable pub zeroWait : List ℕ
@@ -49,6 +49,14 @@ periodic = imageOf 8 (rule 5 0 0 1 0 0 0 1 ∷ []) ((1 ∷ 100 ∷ []) ∷ []) [
 -- at 4:00
 unfoldable pub early : List ℕ
 early = imageOf 8 (rule 5 0 0 1 0 0 0 1 ∷ []) ((2 ∷ 4 ∷ 0 ∷ 127 ∷ []) ∷ []) [] (logs 1) []
+
+-- lights 1, 2 and 3 at the least value that has a level, at one less, and at 0
+unfoldable pub dimmed : List ℕ
+dimmed = valued 8 3 (percent 1 2 0 ∷ percent 2 2 1 ∷ percent 3 2 2 ∷ []) (literal 1000 ∷ literal 999 ∷ literal 0 ∷ [])
+
+-- an action that no rule meets
+unfoldable pub unmet : List ℕ → List ℕ
+unmet action = valued 8 0 (action ∷ []) (literal 0 ∷ [])
 
 -- a run of rule 5 with little room
 unfoldable pub narrow : ℕ → ℕ → Call
@@ -95,6 +103,11 @@ examples =
     -- without a wall clock the minute before is forgotten
     edge (history early (tickAtMinute 1 0 239 ∷ tickAt 2 ∷ tickAtMinute 3 0 240 ∷ tickAtMinute 4 0 239 ∷ tickAtMinute 5 0 240 ∷ []))
     ([] ∷ [] ∷ [] ∷ [] ∷ [] ∷ ((5 ∷ 0 ∷ 7 ∷ []) ∷ []) ∷ []) ∷
+    -- change request 1: a value without a level gives no effect and reason 1, and the run goes on; dry too
+    edge (history dimmed (runWet 5 0 ∷ runDry 5 0 ∷ [])) ([] ∷ ((5 ∷ 1 ∷ 1 ∷ 3 ∷ []) ∷ []) ∷ ((5 ∷ 1 ∷ 1 ∷ 3 ∷ []) ∷ []) ∷ []) ∷
+    -- the same: kind 28, kind 29, hold 3, an index outside the values, a fourth field
+    edge (map seen (answers (fresh 0) (map (λ (a : List ℕ). load 0 (unmet a)) (percent 1 2 0 ∷ (29 ∷ []) ∷ percent 1 3 0 ∷ percent 1 2 1 ∷ (28 ∷ 1 ∷ 2 ∷ 0 ∷ 1 ∷ []) ∷ []))))
+    ([] ∷ ((13 ∷ []) ∷ []) ∷ ((13 ∷ []) ∷ []) ∷ ((14 ∷ []) ∷ []) ∷ ((13 ∷ []) ∷ []) ∷ []) ∷
     -- 30: more outcomes or effects than the lent stores hold
     edge (history (doing 8 2 (logs 2)) (narrow 5 10 ∷ narrow 6 9 ∷ narrow 6 10 ∷ [])) ([] ∷ ((30 ∷ []) ∷ []) ∷ ((30 ∷ []) ∷ []) ∷ ((5 ∷ 0 ∷ 7 ∷ 7 ∷ []) ∷ []) ∷ []) ∷
     -- 31: the next sequence number past 2^64 - 1
@@ -103,5 +116,5 @@ examples =
 
 -- one name that opens them all
 unfoldable pub rows : ℕ
-unfolding samples zeroWait twoRules cooled skipping timers empty many notDue periodic early narrow late examples
+unfolding samples zeroWait twoRules cooled skipping timers empty many notDue periodic early dimmed unmet narrow late examples
 rows = 0

@@ -45,9 +45,22 @@ after ms first count = 24 ∷ ms ∷ first ∷ count ∷ []
 unfoldable pub logs : ℕ → List (List ℕ)
 logs n = replicate n (log 7)
 
+unfoldable pub percent : ℕ → ℕ → ℕ → List ℕ
+percent target hold value = 28 ∷ target ∷ hold ∷ value ∷ []
+
+-- a value
+unfoldable pub literal : ℕ → List ℕ
+literal n = 0 ∷ n ∷ 0 ∷ []
+
 -- rule 5 does these actions of the table, the first n of them as its own
 unfoldable pub doing : ℕ → ℕ → List (List ℕ) → List ℕ
 doing b n actions = imageOf b (rule 5 0 0 0 0 0 0 n ∷ []) [] [] actions []
+
+-- the same with values
+unfoldable pub valued : ℕ → ℕ → List (List ℕ) → List (List ℕ) → List ℕ
+valued b n actions values =
+    let tables : List (List ℕ) = tabled 16 (rule 5 0 0 0 0 0 0 n ∷ []) ∷ [] ∷ [] ∷ [] ∷ tabled 8 actions ∷ tabled 8 values ∷ [] ∷ [] ∷ [] in
+    flatten tables ++ (b ∷ 0 ∷ 255 ∷ 255 ∷ 255 ∷ []) ++ starts 0 tables
 
 unfoldable pub snapshot : ℕ → List ℕ → List ℕ → List ℕ
 snapshot now wall sun = (now ∷ 0 ∷ []) ++ wall ++ sun ++ replicate 6 0
@@ -103,5 +116,5 @@ edge is says = record { is = is; says = says }
 
 -- one name that opens them all
 unfoldable pub samples : ℕ
-unfolding padded tabled starts imageOf rule log wait after doing logs snapshot absent tickAt tickAtMinute runWet runDry shown seen force history edge
+unfolding padded tabled starts imageOf rule log wait after doing logs percent literal valued snapshot absent tickAt tickAtMinute runWet runDry shown seen force history edge
 samples = 0

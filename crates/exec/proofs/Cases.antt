@@ -21,8 +21,12 @@ use Rattle.model.specs.Image.{wordAt, textLimit, groupLimit}
 use Rattle.model.specs.Rows.{pool}
 use Rattle.model.specs.State.{Env, Rest, cyclePosAt, timerNamed, varNamed, cancelTimer, addTimer, withCyclePos, withVars, putVar}
 use Rattle.model.specs.Eval.{valueAt}
-use Rattle.model.specs.Actions.{Job, emits, noEffect, fails, holdOr, primLight, primRecall, primApply, primCycle, cycleEffect, selects, armTimer, varSet, primVarSet, varAdd, setRuleBit, runPrim}
-use Rattle.model.specs.declared.Action.the-variants.{Light, Recall, Apply, Cycle, PanelSelect, TimerStart, TimerRestart, TimerCancel, VarSet, VarAdd}
+use Rattle.model.specs.Actions.{Job, emits, noEffect, fails, holdOr, primLight, primRecall, primApply, primCycle, cycleEffect, levelAt, selects, dims, armTimer, varSet, primVarSet, varAdd, setRuleBit, runPrim}
+use Rattle.model.specs.declared.Action.the-variants.{Light, Recall, Apply, Cycle, Percent, PanelSelect, TimerStart, TimerRestart, TimerCancel, VarSet, VarAdd}
+use Rattle.curve.specs.Curve.{levelOf}
+use Rattle.curve.specs.Level.{levelIn}
+use Rattle.curve.specs.declared.Level.{Level}
+use Rattle.curve.specs.declared.Level.the-variants.{At, Nothing}
 use Rattle.state.specs.Named.{foundValue}
 use Rattle.state.specs.declared.variables.VarFound.{VarFound}
 use Rattle.state.specs.declared.variables.VarFound.the-variants.{Absent, Found}
@@ -39,6 +43,9 @@ stored-sum y step z f g e = e ∙ ap (λ (x : ℤ). saturatingAddI64 x (signed64
 pub stored-some : (z : ℤ) (o : Option ℤ) → SFits w64 z → some z ≡ o → some (signed64 (bits64 z)) ≡ o
 stored-some z o f e = ap some (signed-bits z f) ∙ e
 
+pub stored-level : (z : ℤ) (o : Option ℤ) (level : Option ℕ) → SFits w64 z → some z ≡ o → level ≡ levelOf (signed64 (bits64 z)) → level ≡ levelAt o
+stored-level z o level f e p = p ∙ ap levelOf (signed-bits z f) ∙ ap levelAt e
+
 module _ (e : Env) (j : Job) (s : Rest) where
   -- ---- lights and scenes
   module _ (target hold answer verb : ℕ) where
@@ -53,6 +60,18 @@ module _ (e : Env) (j : Job) (s : Rest) where
     pub light-fails : (answer ≡ 0 → ⊥) → (answer ≡ 1 → ⊥) → fails s ≡ runPrim e j s (Light target hold answer verb)
     unfolding runPrim primLight
     light-fails n m = simp (ne-eqb answer 0 n, ne-eqb answer 1 m)
+
+  -- a value in parts per million
+  module _ (target hold : ℕ) where
+    pub percent : (v : ℕ) (level : Option ℕ) → level ≡ levelAt (valueAt e s v) → dims e j s target hold level ≡ runPrim e j s (Percent target hold v)
+    unfolding runPrim
+    percent v level p = rw p
+
+    pub dim-at : (level : Level) (n h : ℕ) → level ≡ At n → h ≡ holdOr hold (j .hold) → emits s 12 target n h 0 ≡ dims e j s target hold (levelIn level)
+    dim-at level n h p q = rw (p, q)
+
+    pub dim-none : (level : Level) → level ≡ Nothing → fails s ≡ dims e j s target hold (levelIn level)
+    dim-none level p = rw p
 
   module _ (answer scene : ℕ) where
     pub recall-scene : (mark target : ℕ) → answer ≡ 0 → emits s 1 scene mark target (j .hold) ≡ runPrim e j s (Recall answer scene mark target)

@@ -11,9 +11,9 @@ use Rattle.model.specs.Image.{groupLimit, textLimit}
 use Rattle.model.specs.Lists.{present}
 use Rattle.model.specs.World.{isOne}
 use Rattle.model.specs.Actions as actions
-use Rattle.model.specs.Actions.{Job, PrimResult, primLight, primRecall, primApply, primCycle, cycleEffect, selects, armTimer, varSet, primVarSet, varAdd, setRuleBit, runPrim, fails}
+use Rattle.model.specs.Actions.{Job, PrimResult, primLight, primRecall, primApply, primCycle, cycleEffect, levelAt, selects, dims, armTimer, varSet, primVarSet, varAdd, setRuleBit, runPrim, fails}
 use Rattle.model.specs.declared.Action.{Action}
-use Rattle.model.specs.declared.Action.the-variants.{Light, Recall, Apply, Cycle, HclResume, HclHold, HclEnable, HclDisable, FeedbackOn, FeedbackOff, PanelSelect, CancelHold, CatchMovement, TimerStart, TimerRestart, TimerCancel, VarSet, VarAdd, RuleEnable, RuleDisable, MqttPublish, Log, StatCount, NoAction}
+use Rattle.model.specs.declared.Action.the-variants.{Light, Recall, Apply, Cycle, HclResume, HclHold, HclEnable, HclDisable, FeedbackOn, FeedbackOff, PanelSelect, CancelHold, CatchMovement, TimerStart, TimerRestart, TimerCancel, VarSet, VarAdd, RuleEnable, RuleDisable, MqttPublish, Log, StatCount, Percent, NoAction}
 use Rattle.model.specs.declared.VarValue.{VarValue}
 use Rattle.model.specs.declared.VarValue.the-variants.{Int, Text}
 use Rattle.model.specs.Dry.{dryStep, dryBranch}
@@ -55,6 +55,11 @@ module _ (e : Env) (j : Job) (s : Rest) (dry : j .dry ≡ true) where
   select-none adapter group (some (negsuc n)) = refl
   select-none adapter group (some (pos n)) = either (leb n (groupLimit (e .set .image))) (actions.emits s 7 adapter group n 0) (fails s) refl refl
 
+  dims-none : (target hold : ℕ) (level : Option ℕ) → dims e j s target hold level .disables ≡ none
+  unfolding fails
+  dims-none target hold none = refl
+  dims-none target hold (some n) = refl
+
   add-none : (name : ℕ) (step : Option ℤ) (held : Option VarValue) → varAdd e j s name step held .disables ≡ none
   unfolding fails
   add-none name none held = refl
@@ -92,6 +97,7 @@ module _ (e : Env) (j : Job) (s : Rest) (dry : j .dry ≡ true) where
   dry-none (MqttPublish topic payload retain) = refl
   dry-none (Log t) = refl
   dry-none (StatCount name) = refl
+  dry-none (Percent target hold v) = dims-none target hold (levelAt (valueAt e s v))
   dry-none NoAction = refl
 
 -- ---- the steps

@@ -14,6 +14,9 @@ use Rattle.model.proofs.Action.{the-type}
 use Rattle.model.specs.declared.Effect.{Effect}
 use Rattle.model.specs.declared.Step.{Step}
 use Rattle.model.specs.declared.VarValue.{VarValue}
+use Rattle.model.specs.Eval.{valueAt}
+use Rattle.curve.specs.Level.{levelIn}
+use Rattle.curve.specs.declared.Level.{Level}
 use Rattle.state.specs.Meaning.{Means, meaning}
 use Rattle.state.specs.declared.Volatile.{Volatile}
 use Rattle.eval.specs.Answers.{envOf}
@@ -67,9 +70,16 @@ abbrev pub Selects : List ℕ → Job → Volatile → ℕ → ℕ → Option �
 Selects image j v adapter group n r =
     (snapshot : List ℕ) (flat : List (List Step)) → Does v r (model.selects (envOf snapshot image flat) (jobOf j) (meaning v .rest) adapter group n)
 
+-- the level of value i
+abbrev pub LevelAt : List ℕ → List ℕ → Rest → ℕ → Level → Type 0
+LevelAt snapshot image s i r = (flat : List (List Step)) → levelIn r ≡ model.levelAt (valueAt (envOf snapshot image flat) s i)
+
+abbrev pub Dims : Job → Volatile → ℕ → ℕ → Option ℕ → PrimResult → Type 0
+Dims j v target hold level r = (e : Env) → Does v r (model.dims e (jobOf j) (meaning v .rest) target hold level)
+
 abbrev pub SetsBit : Job → Volatile → ℕ → Bool → Option ℕ → PrimResult → Type 0
 SetsBit j v rule on i r = (e : Env) → Does v r (model.setRuleBit e (jobOf j) (meaning v .rest) rule on i)
 
--- the kind of an action: the place of its constructor
-abbrev pub kindOf : Action → ℕ
-kindOf x = tagOf the-type x
+-- the place of an action's constructor in `model::Action`
+abbrev pub variantOf : Action → ℕ
+variantOf x = tagOf the-type x

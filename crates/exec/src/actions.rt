@@ -13,7 +13,7 @@ use state::Volatile;
 ghost use Prim.Native.Nat.{_≤_};
 ghost use Rattle.image.specs.Sized.{Sized};
 ghost use Rattle.state.specs.Meaning.{Sound};
-ghost use Rattle.exec.specs.Results.{PerformsIn, PerformsAt, kindOf};
+ghost use Rattle.exec.specs.Results.{PerformsIn, PerformsAt, variantOf};
 
 const HCL_RESUME: u32 = 3;
 
@@ -34,7 +34,7 @@ const LOG: u32 = 11;
 // The table of actions.
 const ACTIONS: u32 = 4;
 
-// Kinds 16 on: variables, rules, messages.
+// Variables, rules, messages.
 fn run_variable(
     snapshot: &[u32],
     image: &[u32],
@@ -43,7 +43,7 @@ fn run_variable(
     action: Action,
 ) -> PrimResult
     requires { ⌜ Sized (now image) × Sound v ⌝ }
-    requires { ⌜ 16 ≤ kindOf action ⌝ }
+    requires { ⌜ 17 ≤ variantOf action ⌝ }
     ensures { λ r. ⌜ PerformsIn (now (snapshot .entry)) (now (image .entry)) job v action r ⌝ }
 {
     match action {
@@ -69,10 +69,10 @@ fn run_variable(
     }
 }
 
-// Kinds 13 on: first those of timers.
+// First timers, then what `run_variable` runs.
 fn run_timer(snapshot: &[u32], image: &[u32], v: Volatile, job: Job, action: Action) -> PrimResult
     requires { ⌜ Sized (now image) × Sound v ⌝ }
-    requires { ⌜ 13 ≤ kindOf action ⌝ }
+    requires { ⌜ 14 ≤ variantOf action ⌝ }
     ensures { λ r. ⌜ PerformsIn (now (snapshot .entry)) (now (image .entry)) job v action r ⌝ }
 {
     match action {
@@ -95,10 +95,10 @@ fn run_timer(snapshot: &[u32], image: &[u32], v: Volatile, job: Job, action: Act
     }
 }
 
-// Kinds 8 on: first those of inputs and panels.
+// First inputs and panels, then what `run_timer` runs.
 fn run_input(snapshot: &[u32], image: &[u32], v: Volatile, job: Job, action: Action) -> PrimResult
     requires { ⌜ Sized (now image) × Sound v ⌝ }
-    requires { ⌜ 8 ≤ kindOf action ⌝ }
+    requires { ⌜ 9 ≤ variantOf action ⌝ }
     ensures { λ r. ⌜ PerformsIn (now (snapshot .entry)) (now (image .entry)) job v action r ⌝ }
 {
     match action {
@@ -131,7 +131,7 @@ fn run_input(snapshot: &[u32], image: &[u32], v: Volatile, job: Job, action: Act
     }
 }
 
-// Kinds 0 on: first lights, scenes and schedules.
+// First lights, scenes and schedules, then what `run_input` runs.
 pub fn run_prim(
     snapshot: &[u32],
     image: &[u32],
@@ -157,6 +157,11 @@ pub fn run_prim(
         } => lights::recall(v, job, answer, scene, present, target),
         Action::Apply { answer, scene } => lights::apply(v, job, answer, scene),
         Action::Cycle { first, count } => lights::cycle(image, v, job, first, count),
+        Action::Percent {
+            target,
+            hold,
+            value,
+        } => lights::percent(snapshot, image, v, job, target, hold, value),
         Action::HclResume { target } => emits(v, HCL_RESUME, target, 0, 0, 0),
         Action::HclHold { target } => emits(v, HCL_HOLD, target, 0, 0, 0),
         Action::HclEnable { schedule } => emits(v, HCL_SCHEDULE, schedule, 1, 0, 0),

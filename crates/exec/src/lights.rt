@@ -4,6 +4,9 @@ use crate::PrimResult;
 use crate::answers::emits;
 use crate::answers::fails;
 use crate::answers::no_effect;
+use curve::Level;
+use eval::Number;
+use eval::values::value_at;
 use state::OptionU32;
 use state::Volatile;
 ghost use mathlib.Core.Path.{_≡_};
@@ -12,16 +15,19 @@ ghost use Prim.Native.Nat.{ℕ, _<_, _%_};
 ghost use Rattle.model.specs.Actions.{holdOr};
 ghost use Rattle.model.specs.Lists.{orElse};
 ghost use Rattle.model.specs.State.{cyclePosAt};
-ghost use Rattle.model.specs.declared.Action.the-variants.{Light, Recall, Apply, Cycle};
+ghost use Rattle.model.specs.declared.Action.the-variants.{Light, Recall, Apply, Cycle, Percent};
+ghost use Rattle.curve.specs.Level.{levelIn};
 ghost use Rattle.image.specs.Sized.{Sized};
 ghost use Rattle.state.specs.Meaning.{Sound, meaning};
-ghost use Rattle.exec.specs.Results.{Performs, PerformsIn};
+ghost use Rattle.exec.specs.Results.{Performs, PerformsIn, LevelAt, Dims};
 
 const LIGHT: u32 = 0;
 
 const SCENE_RECALL: u32 = 1;
 
 const SCENE_APPLY: u32 = 2;
+
+const LEVEL: u32 = 12;
 
 // The table of pool words.
 const POOL: u32 = 7;
@@ -94,4 +100,42 @@ pub fn cycle(image: &[u32], v: Volatile, job: Job, first: u32, count: u32) -> Pr
     }
     let w = state::rules::set_cycle_pos(v, job.index as usize, (at + 1) % count);
     emits(w, SCENE_RECALL, scene, 0, 0, job.hold)
+}
+
+// A level, or none.
+fn dim(v: Volatile, job: Job, target: u32, hold: u32, level: Level) -> PrimResult
+    requires { ⌜ Sound v ⌝ }
+    ensures { λ r. ⌜ Dims job v target hold (levelIn level) r ⌝ }
+{
+    match level {
+        Level::At(n) => emits(v, LEVEL, target, n, hold_or(hold, job.hold), 0),
+        Level::Nothing => fails(v),
+    }
+}
+
+// The level of value i, where it can be evaluated and has one.
+fn level_at(snapshot: &[u32], image: &[u32], v: Volatile, i: u32) -> Level
+    requires { ⌜ Sized (now image) × Sound v ⌝ }
+    ensures { λ r. ⌜ LevelAt (now (snapshot .entry)) (now (image .entry)) (meaning v .rest) i r ⌝ }
+{
+    match value_at(snapshot, image, v, i) {
+        Number::Value(n) => curve::level_of(n),
+        Number::Unevaluable => Level::Nothing,
+    }
+}
+
+// A value in parts per million of full light.
+pub fn percent(
+    snapshot: &[u32],
+    image: &[u32],
+    v: Volatile,
+    job: Job,
+    target: u32,
+    hold: u32,
+    value: u32,
+) -> PrimResult
+    requires { ⌜ Sized (now image) × Sound v ⌝ }
+    ensures { λ r. ⌜ PerformsIn (now (snapshot .entry)) (now (image .entry)) job v (Percent target hold value) r ⌝ }
+{
+    dim(v, job, target, hold, level_at(snapshot, image, v, value))
 }

@@ -12,7 +12,7 @@ use Rattle.model.specs.Lists.{toList, present}
 use Rattle.model.specs.Image.{groupLimit, textLimit}
 use Rattle.model.specs.Rows.{actions}
 use Rattle.model.specs.declared.Action.{Action}
-use Rattle.model.specs.declared.Action.the-variants.{Light, Recall, Apply, Cycle, HclResume, HclHold, HclEnable, HclDisable, FeedbackOn, FeedbackOff, PanelSelect, CancelHold, CatchMovement, TimerStart, TimerRestart, TimerCancel, VarSet, VarAdd, RuleEnable, RuleDisable, MqttPublish, Log, StatCount, NoAction}
+use Rattle.model.specs.declared.Action.the-variants.{Light, Recall, Apply, Cycle, HclResume, HclHold, HclEnable, HclDisable, FeedbackOn, FeedbackOff, PanelSelect, CancelHold, CatchMovement, TimerStart, TimerRestart, TimerCancel, VarSet, VarAdd, RuleEnable, RuleDisable, MqttPublish, Log, StatCount, Percent, NoAction}
 use Rattle.model.specs.Rules.{recordOf, ruleNamed, actionOf}
 use Rattle.model.specs.World.{isOne}
 use Rattle.model.specs.declared.Step.{Step}
@@ -24,7 +24,7 @@ use Rattle.model.specs.declared.VarValue.the-variants.{Int, Text}
 use Rattle.model.specs.State.{Env, Rest, Volatile, RuleSet, isFull, cancelTimer, timerNamed, varNamed}
 use Rattle.model.specs.Flat.{stepAt}
 use Rattle.model.specs.Eval.{conditionAt, valueAt}
-use Rattle.model.specs.Actions.{Job, PrimResult, noEffect, fails, runPrim, primAt, primLight, primRecall, primApply, primCycle, cycleEffect, selects, armTimer, varSet, primVarSet, varAdd, setRuleBit}
+use Rattle.model.specs.Actions.{Job, PrimResult, noEffect, fails, runPrim, primAt, primLight, primRecall, primApply, primCycle, cycleEffect, levelAt, selects, dims, armTimer, varSet, primVarSet, varAdd, setRuleBit}
 use Rattle.model.specs.Exec.{dropped, accepted, schedule, StepResult, afterPrim, runBranch, exec, RunOutput, unpaid, continueRun, withStep, runSteps, advance, bodyStart}
 use Rattle.ledger.specs.Trace.{effectsIn, reportOf, MayFail, reasonIf, RunOf, ended, exhausted, waits, continues}
 use Rattle.ledger.proofs.ListLaws.{by}
@@ -109,6 +109,11 @@ module _ (e : Env) (j : Job) (s : Rest) where
   no-disable-selects a g (some (pos n)) = either (leb n (groupLimit (e .set .image))) _ _ (refl, inl refl) (fails-no-disable _)
   no-disable-selects a g (some (negsuc n)) = fails-no-disable s
 
+  no-disable-dims : (t h : ℕ) (o : Option ℕ) → NoDisable (dims e j s t h o)
+  unfolding NoDisable
+  no-disable-dims t h none = fails-no-disable s
+  no-disable-dims t h (some level) = (refl, inl refl)
+
   no-disable-varset : (n t l h : ℕ) → NoDisable (primVarSet e j s n t l h)
   unfolding primVarSet
   no-disable-varset n t l h =
@@ -155,6 +160,7 @@ module _ (e : Env) (j : Job) (s : Rest) where
   action-reports wet (MqttPublish t p r) = (refl, inl refl)
   action-reports wet (Log t) = (refl, inl refl)
   action-reports wet (StatCount n) = (refl, inl refl)
+  action-reports wet (Percent t h v) = no-disable-dims t h (levelAt (valueAt e s v))
   action-reports wet NoAction = fails-no-disable s
 
 -- A WAIT OR AN AFTER NOTES REASON 2 IF IT IS DROPPED ------------------------------------------------------------------------------------

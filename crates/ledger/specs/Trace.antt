@@ -11,7 +11,7 @@ use Rattle.model.specs.Lists.{orElse, toList, present}
 use Rattle.model.specs.Image.{budget}
 use Rattle.model.specs.Rows.{actions}
 use Rattle.model.specs.declared.Action.{Action}
-use Rattle.model.specs.declared.Action.the-variants.{Light, Recall, Apply, Cycle, HclResume, HclHold, HclEnable, HclDisable, FeedbackOn, FeedbackOff, PanelSelect, CancelHold, CatchMovement, TimerStart, TimerRestart, TimerCancel, VarSet, VarAdd, RuleEnable, RuleDisable, MqttPublish, Log, StatCount, NoAction}
+use Rattle.model.specs.declared.Action.the-variants.{Light, Recall, Apply, Cycle, HclResume, HclHold, HclEnable, HclDisable, FeedbackOn, FeedbackOff, PanelSelect, CancelHold, CatchMovement, TimerStart, TimerRestart, TimerCancel, VarSet, VarAdd, RuleEnable, RuleDisable, MqttPublish, Log, StatCount, Percent, NoAction}
 use Rattle.model.specs.Rules.{recordOf, nameOf, ruleNamed, actionOf}
 use Rattle.model.specs.declared.Step.{Step}
 use Rattle.model.specs.declared.Point.{Point}
@@ -60,6 +60,7 @@ reportOf img (RuleDisable rule) = cond (present (ruleNamed img rule)) (disables 
 reportOf img (MqttPublish t p r) = plain
 reportOf img (Log t) = plain
 reportOf img (StatCount n) = plain
+reportOf img (Percent t h v) = plain
 reportOf img NoAction = plain
 
 -- an action or a condition that cannot be evaluated notes reason 1

@@ -2,7 +2,7 @@
 use Prim.Native.Nat.{ℕ}
 use mathlib.Core.Bool.{true, false}
 use mathlib.Core.List.{List, [], _∷_}
-use Rattle.edges.specs.Samples.{imageOf, rule, log, wait, doing, tickAt, runWet}
+use Rattle.edges.specs.Samples.{rule, log, wait, after, percent, literal, doing, valued, tickAt, runWet}
 use Rattle.edges.specs.Edges.{afters}
 use Rattle.model.specs.Calls.{Call, load, unload, enable, tick, run}
 use Rattle.model.specs.declared.Jump.the-variants.{NoJump}
@@ -12,6 +12,13 @@ use Rattle.ledger.specs.Ledger.{Entry, Activation}
 -- B 3: After of two Logs, After of one Log, Log
 unfoldable pub afterCalls : List Call
 afterCalls = load 0 afters ∷ runWet 5 0 ∷ tickAt 10 ∷ []
+
+-- B 3: After of two, After of one, one, each a light at half: action kind 28
+unfoldable pub percents : List ℕ
+percents = valued 3 3 (after 10 3 2 ∷ after 10 5 1 ∷ percent 1 2 0 ∷ percent 2 2 0 ∷ percent 3 2 0 ∷ percent 4 2 0 ∷ []) (literal 500000 ∷ [])
+
+unfoldable pub percentCalls : List Call
+percentCalls = load 0 percents ∷ runWet 5 0 ∷ tickAt 10 ∷ []
 
 -- the wet run, the first activation of these calls
 unfoldable pub firstActivation : Activation
@@ -38,5 +45,5 @@ reloadCalls = load 0 waiting ∷ runWet 5 0 ∷ load 1 waiting ∷ tickAt 1000 �
 
 -- one name that opens them all
 unfoldable pub rows : ℕ
-unfolding afterCalls firstActivation waiting continuation waitCalls disableCalls reloadCalls
+unfolding afterCalls percents percentCalls firstActivation waiting continuation waitCalls disableCalls reloadCalls
 rows = 0

@@ -9,10 +9,11 @@ use lib.ListN.{length, getD, set}
 use Rattle.words.specs.Saturating.{saturatingAdd, max64}
 use Rattle.words.specs.Pairs.{joined}
 use Rattle.words.specs.Signed.{signed64, bits64, saturatingAddI64}
+use Rattle.curve.specs.Curve.{levelOf}
 use Rattle.model.specs.Lists.{orElse, present}
 use Rattle.model.specs.Image.{wordAt, textLimit, groupLimit}
 use Rattle.model.specs.Rows.{actions, pool}
-use Rattle.model.specs.Rules.{recordOf, ruleNamed, Action, Light, Recall, Apply, Cycle, HclResume, HclHold, HclEnable, HclDisable, FeedbackOn, FeedbackOff, PanelSelect, CancelHold, CatchMovement, TimerStart, TimerRestart, TimerCancel, VarSet, VarAdd, RuleEnable, RuleDisable, MqttPublish, Log, StatCount, NoAction, actionOf}
+use Rattle.model.specs.Rules.{recordOf, ruleNamed, Action, Light, Recall, Apply, Cycle, HclResume, HclHold, HclEnable, HclDisable, FeedbackOn, FeedbackOff, PanelSelect, CancelHold, CatchMovement, TimerStart, TimerRestart, TimerCancel, VarSet, VarAdd, RuleEnable, RuleDisable, MqttPublish, Log, StatCount, Percent, NoAction, actionOf}
 use Rattle.model.specs.World.{isOne}
 use Rattle.model.specs.Outcome.{Effect}
 use Rattle.model.specs.State.{Env, Rest, VarValue, Int, Text, actionsFailed, bump, cyclePosAt, timerNamed, cancelTimer, addTimer, varNamed, putVar, withCyclePos, withVars, withEnabled}
@@ -51,6 +52,11 @@ fails s = record { rest = bump actionsFailed s; effect = none; disables = none; 
 abbrev pub holdOr : ℕ → ℕ → ℕ
 holdOr hold rule = cond (eqb hold 2) rule hold
 
+-- the level of a value in parts per million, where it can be evaluated and has one
+abbrev pub levelAt : Option ℤ → Option ℕ
+levelAt none = none
+levelAt (some x) = levelOf x
+
 module _ (e : Env) (j : Job) (s : Rest) where
   -- the stored answers of `light_verb` and `scene_number`
   unfoldable pub primLight : ℕ → ℕ → ℕ → ℕ → PrimResult
@@ -78,6 +84,11 @@ module _ (e : Env) (j : Job) (s : Rest) where
   selects adapter group none = fails s
   selects adapter group (some (negsuc n)) = fails s
   selects adapter group (some (pos n)) = cond (leb n (groupLimit (e .set .image))) (emits s 7 adapter group n 0) (fails s)
+
+  -- a light at a level, or a value that has none
+  abbrev pub dims : ℕ → ℕ → Option ℕ → PrimResult
+  dims target hold none = fails s
+  dims target hold (some level) = emits s 12 target level (holdOr hold (j .hold)) 0
 
   -- 16 timers, and 16 variables
   unfoldable pub armTimer : ℕ → ℕ → Rest → PrimResult
@@ -134,6 +145,7 @@ module _ (e : Env) (j : Job) (s : Rest) where
   runPrim (MqttPublish topic payload retain) = emits s 10 topic payload retain 0
   runPrim (Log t) = emits s 11 t 0 0 0
   runPrim (StatCount name) = noEffect s
+  runPrim (Percent target hold v) = dims target hold (levelAt (valueAt e s v))
   runPrim NoAction = fails s
 
   -- action i of the image

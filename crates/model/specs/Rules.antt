@@ -7,7 +7,7 @@ use lib.Dec.{eqb, leb, ltb}
 use lib.ListN.{getD}
 pub use Rattle.model.specs.declared.Record.{Record}
 pub use Rattle.model.specs.declared.Action.{Action}
-pub use Rattle.model.specs.declared.Action.the-variants.{Light, Recall, Apply, Cycle, HclResume, HclHold, HclEnable, HclDisable, FeedbackOn, FeedbackOff, PanelSelect, CancelHold, CatchMovement, TimerStart, TimerRestart, TimerCancel, VarSet, VarAdd, RuleEnable, RuleDisable, MqttPublish, Log, StatCount, NoAction}
+pub use Rattle.model.specs.declared.Action.the-variants.{Light, Recall, Apply, Cycle, HclResume, HclHold, HclEnable, HclDisable, FeedbackOn, FeedbackOff, PanelSelect, CancelHold, CatchMovement, TimerStart, TimerRestart, TimerCancel, VarSet, VarAdd, RuleEnable, RuleDisable, MqttPublish, Log, StatCount, Percent, NoAction}
 pub use Rattle.model.specs.declared.FlowAction.{FlowAction}
 pub use Rattle.model.specs.declared.FlowAction.the-variants.{Wait, After, Call, Repeat, Conditional, Plain}
 pub use Rattle.model.specs.declared.Condition.{Condition}
@@ -66,6 +66,12 @@ actionsOf r =
     MqttPublish (r .a) (r .b) (r .c) ∷
     Log (r .a) ∷
     StatCount (r .a) ∷
+    NoAction ∷  -- 23 to 27: a flow action
+    NoAction ∷
+    NoAction ∷
+    NoAction ∷
+    NoAction ∷
+    Percent (r .a) (r .b) (r .c) ∷
     []
 
 unfoldable pub actionOf : Record → Action

@@ -29,7 +29,7 @@ pub struct Record {
     pub e: u32,
 }
 
-// Action kinds 0 to 22: the arms of `run_prim` and its callees.
+// Action kinds 0 to 22: the arms of `run_prim` and its callees; and kind 28, which stands with the lights.
 pub enum Action {
     Light {
         target: u32,
@@ -50,6 +50,12 @@ pub enum Action {
     Cycle {
         first: u32,
         count: u32,
+    },
+    // Kind 28. The value is in parts per million of full light.
+    Percent {
+        target: u32,
+        hold: u32,
+        value: u32,
     },
     HclResume {
         target: u32,
@@ -362,7 +368,7 @@ pub struct Pending {
     pub seq: u64,
 }
 
-// Kind 0 to 11 in `Effect` order, and four words of fields: document 01, "Outcomes and effects".
+// Kind 0 to 11 in `Effect` order, 12 a level, and four words of fields: document 01, "Outcomes and effects".
 pub struct Effect {
     pub kind: u32,
     pub a: u32,

@@ -11,7 +11,7 @@ use Rattle.model.specs.Lists.{present}
 use Rattle.model.specs.Image.{budget, groupLimit, textLimit}
 use Rattle.model.specs.Rows.{actions}
 use Rattle.model.specs.declared.Action.{Action}
-use Rattle.model.specs.declared.Action.the-variants.{Light, Recall, Apply, Cycle, HclResume, HclHold, HclEnable, HclDisable, FeedbackOn, FeedbackOff, PanelSelect, CancelHold, CatchMovement, TimerStart, TimerRestart, TimerCancel, VarSet, VarAdd, RuleEnable, RuleDisable, MqttPublish, Log, StatCount, NoAction}
+use Rattle.model.specs.declared.Action.the-variants.{Light, Recall, Apply, Cycle, Percent, HclResume, HclHold, HclEnable, HclDisable, FeedbackOn, FeedbackOff, PanelSelect, CancelHold, CatchMovement, TimerStart, TimerRestart, TimerCancel, VarSet, VarAdd, RuleEnable, RuleDisable, MqttPublish, Log, StatCount, NoAction}
 use Rattle.model.specs.Rules.{recordOf, ruleNamed, nameOf, conditionsOfRule, actionOf}
 use Rattle.model.specs.World.{isOne}
 use Rattle.model.specs.declared.Step.{Step}
@@ -23,7 +23,7 @@ use Rattle.model.specs.declared.VarValue.the-variants.{Int, Text}
 use Rattle.model.specs.declared.Effect.{Effect}
 use Rattle.model.specs.State.{Env, Rest, Volatile, withRest, bumpBy, bump, cancelTimer, timerNamed, varNamed, strike, isFull, isEnabled, partialOutcomes}
 use Rattle.model.specs.Eval.{conditionAt, conditionsHold, valueAt}
-use Rattle.model.specs.Actions.{Job, PrimResult, fails, runPrim, primLight, primRecall, primApply, primCycle, cycleEffect, selects, armTimer, varSet, primVarSet, varAdd, setRuleBit, primAt}
+use Rattle.model.specs.Actions.{Job, PrimResult, fails, runPrim, primLight, primRecall, primApply, primCycle, cycleEffect, levelAt, selects, dims, armTimer, varSet, primVarSet, varAdd, setRuleBit, primAt}
 use Rattle.model.specs.Exec.{Scheduled, dropped, accepted, schedule, StepResult, afterPrim, runBranch, exec, RunOutput, continueRun, withStep, runSteps}
 use Rattle.model.specs.Flat.{stepAt}
 use Rattle.model.specs.Activate.{Auto, Handled, jobOf, Decision, begins, suppressed, tooDeep, unevaluable, verdict, inCooldown, decide, finishWet, executeWet, execute, decided, activate, resume}
@@ -97,6 +97,11 @@ module _ (e : Env) (j : Job) (s : Rest) where
   selected a g (some (pos n)) = either s (leb n (groupLimit (e .set .image))) _ _ refl (failed s refl)
   selected a g (some (negsuc n)) = failed s refl
 
+  dimmed : (t h : ℕ) (o : Option ℕ) → Kept s (dims e j s t h o)
+  unfolding Kept
+  dimmed t h none = failed s refl
+  dimmed t h (some level) = refl
+
   text-or-number : (n t l h : ℕ) → Kept s (primVarSet e j s n t l h)
   unfolding primVarSet
   text-or-number n t l h = either s (isOne t) _ _ (either s (ltb (textLimit (e .set .image)) h) _ _ (failed s refl) (assigned n _)) (assigned n _)
@@ -112,6 +117,7 @@ module _ (e : Env) (j : Job) (s : Rest) where
   action (Recall a x m t) = recalled a x m t
   action (Apply a x) = applied a x
   action (Cycle f n) = cycled f n
+  action (Percent t h v) = dimmed t h (levelAt (valueAt e s v))
   action (HclResume t) = refl
   action (HclHold t) = refl
   action (HclEnable x) = refl

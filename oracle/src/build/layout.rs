@@ -181,6 +181,7 @@ impl Tables {
                 record(10, &[*adapter, *group, self.value(*value)])
             }
             Action::VarAdd(name, value) => record(17, &[*name, self.value(*value)]),
+            Action::Percent(target, hold, value) => record(28, &[*target, *hold, self.value(*value)]),
             plain => plain_action(plain),
         }
     }

@@ -70,7 +70,7 @@ const CONDITION_KINDS: [&[Field]; 16] = [
     &[Free, CMP, BIT, IndexWhile { at: 3, is: 0, table: VALUES }], // 15 VarCompare
 ];
 
-const ACTION_KINDS: [&[Field]; 28] = [
+const ACTION_KINDS: [&[Field]; 29] = [
     &[Free, UpTo(2), UpTo(2), While { at: 3, is: 0, max: ANY }], // 0 Light
     &[BIT, While { at: 1, is: 0, max: 255 }, BIT, While { at: 3, is: 1, max: ANY }], // 1 Recall
     &[BIT, While { at: 1, is: 0, max: 255 }],    // 2 Apply
@@ -99,6 +99,7 @@ const ACTION_KINDS: [&[Field]; 28] = [
     &[Free],                                     // 25 Call
     &[BYTE, Nested, Free],                       // 26 Repeat
     &[Index(CONDITIONS), Nested, Free, Nested, Free], // 27 Conditional
+    &[Free, UpTo(2), Index(VALUES)],             // 28 Percent
 ];
 
 const VALUE_KINDS: [&[Field]; 3] = [

@@ -37,6 +37,7 @@ fn action(record: &[u32; 16], parts: &Parts, later: &[Action]) -> Action {
         8..=12 => input_action(record, parts),
         13..=15 => timer(record),
         16..=22 => state(record, parts),
+        28 => percent(record, parts),
         _ => flow(record, parts, later),
     }
 }
@@ -50,11 +51,25 @@ fn light(record: &[u32; 16]) -> Action {
             1 => LightOp::Nothing,
             _ => LightOp::Unevaluable,
         },
-        hold_hcl: match hold {
-            0 => Some(false),
-            1 => Some(true),
-            _ => None,
-        },
+        hold_hcl: own_hold(hold),
+    })
+}
+
+fn own_hold(hold: u32) -> Option<bool> {
+    match hold {
+        0 => Some(false),
+        1 => Some(true),
+        _ => None,
+    }
+}
+
+/// Request 1 of document 02: the published engine has no such action.
+fn percent(record: &[u32; 16], parts: &Parts) -> Action {
+    let [_, target, hold, value, ..] = *record;
+    Action::Light(LightAction {
+        target: LightTarget::numbered(target),
+        op: LightOp::Percent(parts.value(value)),
+        hold_hcl: own_hold(hold),
     })
 }
 

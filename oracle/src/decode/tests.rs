@@ -301,10 +301,16 @@ fn actions_on_schedules_and_inputs() {
             &[10, 6, 7, 0],
             &[11, 3, 4, 5],
             &[12, 3, 4, 5],
+            &[28, 70_002, 0, 1],
+            &[28, 70_003, 1, 0],
+            &[28, 70_004, 2, 0],
         ],
         &[],
     ));
     let selected = values()[0].clone();
+    let percent = |number, value: usize, hold_hcl| {
+        Action::Light(LightAction { target: target(number), op: LightOp::Percent(values()[value].clone()), hold_hcl })
+    };
     let expected = vec![
         Action::Hcl(HclAction::Resume { target: target(70_000) }),
         Action::Hcl(HclAction::Hold { target: target(70_001) }),
@@ -315,6 +321,9 @@ fn actions_on_schedules_and_inputs() {
         Action::Input(InputAction::PanelSelect { adapter_id: 6, group: 7, selected }),
         Action::Input(InputAction::CancelHold { input: INPUT }),
         Action::Input(InputAction::CatchMovement { input: INPUT }),
+        percent(70_002, 1, Some(false)),
+        percent(70_003, 0, Some(true)),
+        percent(70_004, 0, None),
     ];
     assert_eq!(decoded.actions, List::from(expected));
 }

@@ -70,7 +70,7 @@ fn change_reference(random: &mut Random, words: &mut [u32]) {
         let place = match (table, words.get(record)) {
             (0, Some(_)) => random.from_to(4, 9),
             (3, Some(0 | 4 | 5 | 8 | 15)) => random.from_to(1, 5),
-            (4, Some(3 | 10 | 17 | 24 | 26 | 27)) => random.from_to(1, 5),
+            (4, Some(3 | 10 | 17 | 24 | 26 | 27 | 28)) => random.from_to(1, 5),
             _ => continue,
         };
         if let Some(word) = words.get_mut(record + place as usize) {

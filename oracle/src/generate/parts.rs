@@ -7,7 +7,9 @@ use crate::random::Random;
 
 pub(super) const READING_KINDS: u32 = 23;
 pub(super) const CONDITION_KINDS: u32 = 17;
-pub(super) const ACTION_KINDS: u32 = 29;
+/// The 29 kinds, and a VarSet with a text.
+pub(super) const ACTION_KINDS: u32 = 30;
+pub(super) const VAR_TEXT: u32 = 29;
 
 pub(super) fn lamp_ref(random: &mut Random) -> LampRef {
     [random.below(2), random.below(3)]
@@ -135,9 +137,9 @@ pub(super) fn trigger(random: &mut Random, profile: &Profile) -> Trigger {
     }
 }
 
-/// Weights of the 28 action kinds, and of VarSet with a text as the 29th.
+/// Weights of the 29 action kinds, and of VarSet with a text as the 30th.
 const WEIGHTS: [u32; ACTION_KINDS as usize] = [
-    3, 2, 2, 4, 1, 1, 1, 1, 1, 1, 3, 1, 1, 5, 4, 2, 3, 4, 3, 4, 1, 8, 1, 12, 10, 6, 8, 10, 4,
+    3, 2, 2, 4, 1, 1, 1, 1, 1, 1, 3, 1, 1, 5, 4, 2, 3, 4, 3, 4, 1, 8, 1, 12, 10, 6, 8, 10, 3, 4,
 ];
 
 /// A list of up to `profile.list` actions, nested at most `depth` times.
@@ -160,6 +162,7 @@ pub(super) fn action_of(random: &mut Random, profile: &Profile, kind: u32, depth
             let then = nested(random, profile, depth);
             Action::Conditional(condition, then, nested(random, profile, depth))
         }
+        28 => Action::Percent(random.below(4), random.below(3), parts_per_million(random, profile)),
         0..=12 => effect_action(random, profile, kind),
         _ => state_action(random, profile, kind),
     }
@@ -205,6 +208,16 @@ fn effect_action(random: &mut Random, profile: &Profile, kind: u32) -> Action {
         11 => Action::CancelHold(input),
         _ => Action::CatchMovement(input),
     }
+}
+
+/// Values with and without a level, the ends of both and of the first and the last middle; now and then any value.
+fn parts_per_million(random: &mut Random, profile: &Profile) -> Value {
+    Value::Literal(match random.below(8) {
+        0..=3 => i64::from(random.from_to(1_000, 1_000_000)),
+        4 => random.pick([0, 1_000, 1_014, 1_015, 500_000, 986_533, 986_534, 1_000_000]),
+        5 => random.pick([1, 999, 1_000_001, (1 << 32) + 1_000, -1, -1_000, i64::MIN, i64::MAX]),
+        _ => return value(random, profile),
+    })
 }
 
 /// A scene number, or None for one that cannot be evaluated.

@@ -165,7 +165,7 @@ fn action(random: &mut Random, dry: bool) -> Probe {
     let action = parts::action_of(random, profile, kind, 0);
     let limits = Limits { text: 4, group: 3, ..Limits::default() };
     let stage = Stage { full, dry, limits, ..Stage::actions(vec![action]) };
-    let shown = if kind == 28 { 16 } else { kind };
+    let shown = if kind == parts::VAR_TEXT { 16 } else { kind };
     stage.probe(random, Shows::Action(shown, dry), false)
 }
 

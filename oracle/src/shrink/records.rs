@@ -101,7 +101,7 @@ fn references(holder: usize, record: &[u32]) -> (Places, Places) {
         (CONDITIONS, 8) => (&[], &[(5, VALUES)]),
         (CONDITIONS, 15) if record[3] == 0 => (&[], &[(4, VALUES)]),
         (ACTIONS, 3) => (&[(1, POOL)], &[]),
-        (ACTIONS, 10) => (&[], &[(3, VALUES)]),
+        (ACTIONS, 10 | 28) => (&[], &[(3, VALUES)]),
         (ACTIONS, 17) => (&[], &[(2, VALUES)]),
         (ACTIONS, 24 | 26) => (&[(2, ACTIONS)], &[]),
         (ACTIONS, 27) => (&[(2, ACTIONS), (4, ACTIONS)], &[(1, CONDITIONS)]),

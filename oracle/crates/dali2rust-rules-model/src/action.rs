@@ -20,11 +20,13 @@ pub struct LightAction {
 }
 
 /// The stored answer of `light_verb`, in place of the published operations.
-#[derive(Debug, Clone, Copy, PartialEq, Eq)]
+#[derive(Debug, Clone, PartialEq)]
 pub enum LightOp {
     Verb(u32),
     Nothing,
     Unevaluable,
+    /// Request 1 of document 02, which the published engine does not have: a value in parts per million of full light.
+    Percent(ValueExpr),
 }
 
 /// The next three are only named by functions that stood behind `light_verb`.

@@ -6,6 +6,7 @@ mod action;
 mod condition;
 pub mod limits;
 mod list;
+pub mod percent;
 mod reference;
 mod trigger;
 

@@ -9,7 +9,7 @@ use Rattle.exec.proofs.actions.run_input.Statement.{statement}
 use Rattle.exec.proofs.actions.run_input.Tie as tie
 
 run-timer-requires : tie.Need-run-timer-requires
-run-timer-requires c κs = (c .before .before .before .pre .0, least 8 13 _ (c .before .before .before .pre .1) (upFrom 0 8 ++ upFrom 13 11) refl (c .match .keys6))
+run-timer-requires c κs = (c .before .before .before .pre .0, least 9 14 _ (c .before .before .before .pre .1) (upFrom 0 9 ++ upFrom 14 11) refl (c .match .keys6))
 
 returns : tie.Need-returns
 unfolding runPrim

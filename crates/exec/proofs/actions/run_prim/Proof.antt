@@ -11,7 +11,7 @@ use Rattle.exec.proofs.actions.run_prim.Statement.{statement}
 use Rattle.exec.proofs.actions.run_prim.Tie as tie
 
 run-input-requires : tie.Need-run-input-requires
-run-input-requires c κs = (c .before .before .before .pre, least 0 8 _ zero-le (upFrom 8 16) refl (c .match .keys9))
+run-input-requires c κs = (c .before .before .before .pre, least 0 9 _ zero-le (upFrom 9 16) refl (c .match .keys10))
 
 returns : tie.Need-returns
 unfolding runPrim
@@ -31,22 +31,26 @@ returns-4 c flat = rw (c .before .before .action4 .given .1) (c .cycle .ensures 
 
 returns-5 : tie.Need-returns-5
 unfolding runPrim
-returns-5 c flat = rw (c .before .before .action5 .given .1) (c .emits .ensures)
+returns-5 c flat = rw (c .before .before .action5 .given .1) (c .percent .ensures flat)
 
 returns-6 : tie.Need-returns-6
 unfolding runPrim
-returns-6 c flat = rw (c .before .before .action6 .given .1) (c .emits2 .ensures)
+returns-6 c flat = rw (c .before .before .action6 .given .1) (c .emits .ensures)
 
 returns-7 : tie.Need-returns-7
 unfolding runPrim
-returns-7 c flat = rw (c .before .before .action7 .given .1) (c .emits3 .ensures)
+returns-7 c flat = rw (c .before .before .action7 .given .1) (c .emits2 .ensures)
 
 returns-8 : tie.Need-returns-8
 unfolding runPrim
-returns-8 c flat = rw (c .before .before .action8 .given .1) (c .emits4 .ensures)
+returns-8 c flat = rw (c .before .before .action8 .given .1) (c .emits3 .ensures)
 
 returns-9 : tie.Need-returns-9
-returns-9 c flat = c .run-input .ensures flat
+unfolding runPrim
+returns-9 c flat = rw (c .before .before .action9 .given .1) (c .emits4 .ensures)
+
+returns-10 : tie.Need-returns-10
+returns-10 c flat = c .run-input .ensures flat
 
 pub run-prim-spec : {M : Type 1} → statement M
-run-prim-spec = tie.close (tie.spec (λ c. search needs) (λ c κs. search needs) (λ c. search needs) (λ c κs. search needs) (λ c. search needs) (λ c κs. search needs) (λ c. search needs) (λ c κs. search needs) (λ c. search needs) (λ c κs. search needs) (λ c. search needs) (λ c κs. search needs) (λ c. search needs) (λ c κs. search needs) (λ c. search needs) (λ c κs. search needs) run-input-requires returns returns-2 returns-3 returns-4 returns-5 returns-6 returns-7 returns-8 returns-9)
+run-prim-spec = tie.close (tie.spec (λ c. search needs) (λ c κs. search needs) (λ c. search needs) (λ c κs. search needs) (λ c. search needs) (λ c κs. search needs) (λ c. search needs) (λ c κs. search needs) (λ c. search needs) (λ c κs. search needs) (λ c. search needs) (λ c κs. search needs) (λ c. search needs) (λ c κs. search needs) (λ c. search needs) (λ c κs. search needs) (λ c. search needs) (λ c κs. search needs) run-input-requires returns returns-2 returns-3 returns-4 returns-5 returns-6 returns-7 returns-8 returns-9 returns-10)

@@ -11,7 +11,7 @@ use Rattle.exec.proofs.actions.run_timer.Statement.{statement}
 use Rattle.exec.proofs.actions.run_timer.Tie as tie
 
 run-variable-requires : tie.Need-run-variable-requires
-run-variable-requires c κs = (c .before .before .before .pre .0, least 13 16 _ (c .before .before .before .pre .1) (upFrom 0 13 ++ upFrom 16 8) refl (c .match .keys4))
+run-variable-requires c κs = (c .before .before .before .pre .0, least 14 17 _ (c .before .before .before .pre .1) (upFrom 0 14 ++ upFrom 17 8) refl (c .match .keys4))
 
 returns : tie.Need-returns
 unfolding runPrim

@@ -1,7 +1,7 @@
 -- `exec::actions::run_variable` meets its contract: one callee for each kind. Assumes nothing.
 use Prim.Native.Nat.{suc}
 use mathlib.Core.Path.{refl}
-use Rattle.exec.specs.Results.{kindOf}
+use Rattle.exec.specs.Results.{variantOf}
 use Rattle.exec.proofs.Keys.{least, below}
 use Rattle.model.specs.Lists.{upFrom}
 use Rattle.model.specs.Actions.{runPrim}
@@ -44,7 +44,7 @@ unfolding runPrim
 returns-8 c flat = rw (c .before .enum-told .given .1) (c .fails .ensures)
 
 returns-9 : tie.Need-returns-9
-returns-9 c flat = absurd (below (least 16 (suc (kindOf (c .before .before .before .before .args .action))) (kindOf (c .before .before .before .before .args .action)) (c .before .before .before .before .pre .1) (upFrom 0 16) refl (c .before .match .keys9)))
+returns-9 c flat = absurd (below (least 17 (suc (variantOf (c .before .before .before .before .args .action))) (variantOf (c .before .before .before .before .args .action)) (c .before .before .before .before .pre .1) (upFrom 0 17) refl (c .before .match .keys9)))
 
 pub run-variable-spec : {M : Type 1} → statement M
 run-variable-spec = tie.close (tie.spec (λ c. search needs) (λ c κs. search needs) (λ c. search needs) (λ c κs. search needs) (λ c. search needs) (λ c κs. search needs) (λ c. search needs) (λ c κs. search needs) (λ c. search needs) (λ c κs. search needs) (λ c. search needs) (λ c κs. search needs) (λ c. search needs) (λ c κs. search needs) (λ c. search needs) (λ c κs. search needs) (λ c κs. search needs) returns returns-2 returns-3 returns-4 returns-5 returns-6 returns-7 returns-8 returns-9)

@@ -10,6 +10,7 @@ use super::state::{Continuation, EventCtx, NamedTimer, Volatile};
 use super::world::WorldSnapshot;
 use super::Engine;
 
+pub(super) mod light;
 mod set_back;
 
 /// What a store keeps of an engine, but for the set and the counters.

@@ -380,16 +380,12 @@ fn prim_light(
 }
 
 fn light_verb(
-    _env: &mut ExecEnv<'_>,
-    _job: &Job,
+    env: &mut ExecEnv<'_>,
+    job: &Job,
     op: &LightOp,
     _target: &LightTarget,
 ) -> Result<Option<LightVerb>, Unevaluable> {
-    match op {
-        LightOp::Verb(word) => Ok(Some(LightVerb::Stored(*word))),
-        LightOp::Nothing => Ok(None),
-        LightOp::Unevaluable => Err(Unevaluable),
-    }
+    super::access::light::stored_verb(env, job, op)
 }
 
 fn opt_level(
