@@ -7,11 +7,13 @@ use oracle::decode::{name, number};
 use oracle::house::{self, Answer, Call, House};
 use oracle::model::{Text, VarValue};
 
-use crate::flat_form::{self, Step, AFTER};
 use crate::store::{Pending, Slot, Store, Timer, Value, Variable};
 use crate::tables::{Tables, ACTIONS};
 
 const PERCENT: u32 = 28;
+
+/// List, place and jump of a pending record.
+pub type Place = (u32, u32, Option<(u32, u32)>);
 
 /// A house with the image of its loaded set, which it does not keep itself.
 #[derive(Default)]
@@ -44,15 +46,20 @@ impl Player {
         image.is_some_and(|image| Tables::of(image).records(ACTIONS).any(|record| record[0] == PERCENT))
     }
 
-    /// The store that the house would have; None where its size is not a store's. A pending record whose place is not found
-    /// gets a list that no rule has.
+    /// Of each pending record the places of the Rust's lists from which its steps are left. The Rust keeps the steps, not their place.
+    pub fn places(&self) -> Vec<Vec<Place>> {
+        let (kept, _) = self.house.kept();
+        kept.pending.iter().map(|held| held.places.iter().map(place_of).collect()).collect()
+    }
+
+    /// The store that the house would have; None where its size is not a store's. A pending record has the first of its places, and one
+    /// that has none a list that no rule has.
     pub fn store(&mut self) -> Option<Store> {
         let Answer::Counters(counters) = self.house.call(&Call::Counters) else {
             return None;
         };
         let (kept, next) = self.house.kept();
         let names = self.image.as_deref().map_or_else(Vec::new, |image| Tables::of(image).rule_names());
-        let lists = self.image.as_deref().map_or_else(Vec::new, flat_form::lists);
         let of_rules = || names.iter().map(|rule| name(*rule));
         Some(Store {
             last: kept.now_ms,
@@ -62,7 +69,7 @@ impl Player {
             variables: kept.vars.iter().map(|(name, value)| variable(name, value)).collect(),
             timers: kept.timers.iter().map(|(name, due)| Timer { name: number(name), due: *due }).collect(),
             slots: slots(&kept),
-            pending: kept.pending.iter().map(|held| pending(held, &names, &lists)).collect(),
+            pending: kept.pending.iter().map(pending).collect(),
             bits: kept.enabled,
             week_minute: kept.prev_week_min,
             next,
@@ -89,15 +96,12 @@ fn slots(kept: &Kept) -> Vec<Slot> {
     kept.every.iter().map(slot).collect()
 }
 
-fn pending(held: &KeptPending, names: &[u32], lists: &[Vec<Step>]) -> Pending {
-    let rule = number(&held.rule);
-    let own = names.iter().position(|name| *name == rule).and_then(|rule| lists.get(rule));
-    let found = own.zip(held.place).and_then(|(own, place)| stored_place(place, own));
-    let (list, place, jump) = found.unwrap_or((u32::MAX, 0, None));
+fn pending(held: &KeptPending) -> Pending {
+    let (list, place, jump) = held.places.first().map_or((u32::MAX, 0, None), place_of);
     Pending {
         seq: held.seq,
         due: held.due_ms,
-        rule,
+        rule: number(&held.rule),
         list,
         place,
         jump,
@@ -106,29 +110,10 @@ fn pending(held: &KeptPending, names: &[u32], lists: &[Vec<Step>]) -> Pending {
     }
 }
 
-/// List, place and jump in the words, where a body stands behind its after.
-fn stored_place(at: KeptPlace, own: &[Step]) -> Option<(u32, u32, Option<(u32, u32)>)> {
-    let (number, list) = match at.after {
-        None => (0, own),
-        Some(after) => {
-            let place = stored(own, after);
-            (place + 1, own.get(place + 1..place + 1 + own.get(place)?[2] as usize)?)
-        }
-    };
-    let jump = at.branch.and_then(|branch| {
-        let place = stored(list, branch);
-        let end = place as u32 + 1 + list.get(place)?[2];
-        Some((end, end + list[place][3]))
-    });
-    Some((number as u32, stored(list, at.step) as u32, jump))
-}
-
-/// The stored place of a step that is counted without bodies.
-fn stored(list: &[Step], step: usize) -> usize {
-    (0..step).fold(0, |place, _| match list.get(place) {
-        Some([AFTER, _, body, _]) => place + 1 + *body as usize,
-        _ => place + 1,
-    })
+/// List, place and jump: the Rust's own index in its own list.
+fn place_of(at: &KeptPlace) -> Place {
+    let jump = at.jump.map(|(end, past)| (end as u32, past as u32));
+    (at.after.map_or(0, |after| after as u32 + 1), at.step as u32, jump)
 }
 
 /// What evaluation reads of a store.

@@ -7,7 +7,7 @@ use oracle::check;
 use oracle::generate;
 use oracle::house::Call;
 
-use crate::flat_form;
+use crate::flat_form::{self, Lists};
 use crate::proved;
 use crate::worst;
 
@@ -49,12 +49,14 @@ impl Tally {
         self.count("image", proved, check::image_refusal(image).unwrap_or(0), image);
         if proved == 0 {
             let steps = check::flat_size(image).map_or(u32::MAX, |(stored, _)| stored as u32);
-            let counted = proved::flat_steps(image) as u32;
-            let written = flat_form::lists(image).concat().len() as u32;
+            let stored = proved::flat_steps(image) as u32;
+            let lists = flat_form::lists(image);
+            let written: u32 = lists.iter().map(|lists| lists.stored().count() as u32).sum();
+            let copies: u32 = lists.iter().map(Lists::every_copy).sum();
             *self.answers.entry(("flat steps", 0)).or_insert(0) += 1;
-            if counted != steps || written != steps {
+            if stored != written || copies != steps {
                 self.differences += 1;
-                println!("flat steps: proved {counted}, oracle {steps}, flat form {written}: {image:?}");
+                println!("flat steps: proved {stored}, flat form {written}; every copy: oracle {steps}, flat form {copies}: {image:?}");
             }
         }
         proved

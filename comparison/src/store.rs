@@ -1,6 +1,6 @@
 //! What a store says, and its 16,384 words: docs/STORE.md.
 
-use crate::flat_form::{self, Step};
+use crate::flat_form::{self, Lists, Step};
 
 pub const WORDS: usize = 16_384;
 pub const MOST_IMAGE: usize = 4_096;
@@ -115,16 +115,16 @@ impl Writer {
         self.counted(MOST_IMAGE, 1, image.unwrap_or(&[]).iter().map(|word| vec![*word]));
         let lists = image.map_or_else(Vec::new, flat_form::lists);
         self.rows(RULES, 2, list_rows(&lists).map(|row| row.to_vec()));
-        let steps: Vec<Step> = lists.concat();
+        let steps: Vec<Step> = lists.iter().flat_map(Lists::stored).copied().collect();
         self.counted(MOST_STEPS, 4, steps.iter().map(|step| step.to_vec()));
     }
 }
 
-/// First flat step and number of flat steps of each list.
-pub fn list_rows(lists: &[Vec<Step>]) -> impl Iterator<Item = [u32; 2]> + '_ {
-    lists.iter().scan(0, |first, list| {
-        let row = [*first, list.len() as u32];
-        *first += list.len() as u32;
+/// Where each rule's own list begins among the flat steps, behind its bodies, and how many steps it has.
+pub fn list_rows(lists: &[Lists]) -> impl Iterator<Item = [u32; 2]> + '_ {
+    lists.iter().scan(0, |end, lists| {
+        let row = [*end + lists.bodies.len() as u32, lists.own.len() as u32];
+        *end = row[0] + row[1];
         Some(row)
     })
 }

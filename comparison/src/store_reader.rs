@@ -2,7 +2,7 @@
 
 use oracle::check;
 
-use crate::flat_form::{self, Step, AFTER, BRANCH};
+use crate::flat_form::{self, Lists, Step, BRANCH};
 use crate::store::{
     list_rows, Pending, Slot, Store, Timer, Value, Variable, MOST_IMAGE, MOST_PENDING, MOST_SLOTS, MOST_STEPS,
     MOST_TIMERS, MOST_VARIABLES, RULES, WORDS,
@@ -231,7 +231,7 @@ fn pending_words_fit(row: &[u32]) -> Result<(), Broken> {
 // THE SET ------------------------------------------------------------------------------------------------------------------------
 
 /// "if 1, the image passes load and the flat part is its flat form"; without a set their words are unused.
-fn set_lists(parts: &Parts<'_>) -> Result<Vec<Vec<Step>>, Broken> {
+fn set_lists(parts: &Parts<'_>) -> Result<Vec<Lists>, Broken> {
     let Some(image) = parts.set_image() else {
         ask(parts.image.is_empty() && zeros(parts.lists) && parts.steps.is_empty(), Broken::Unused)?;
         return Ok(Vec::new());
@@ -240,7 +240,7 @@ fn set_lists(parts: &Parts<'_>) -> Result<Vec<Vec<Step>>, Broken> {
     let lists = flat_form::lists(image);
     let mut rows: Vec<u32> = list_rows(&lists).flatten().collect();
     rows.resize(RULES * 2, 0);
-    let steps: Vec<u32> = lists.iter().flatten().flatten().copied().collect();
+    let steps: Vec<u32> = lists.iter().flat_map(Lists::stored).flatten().copied().collect();
     ask(parts.lists == rows && parts.steps == steps, Broken::FlatForm)?;
     Ok(lists)
 }
@@ -339,31 +339,14 @@ fn every_triggers(image: &[u32]) -> Vec<(u32, u32, u32)> {
     found
 }
 
-fn pending_fits(held: &Pending, store: &Store, names: &[u32], lists: &[Vec<Step>]) -> Result<(), Broken> {
+fn pending_fits(held: &Pending, store: &Store, names: &[u32], lists: &[Lists]) -> Result<(), Broken> {
     let rule = names.iter().position(|name| *name == held.rule).ok_or(Broken::PendingRule)?;
-    let own = lists[rule].as_slice();
-    let list = list_named(own, held.list).ok_or(Broken::PendingList)?;
+    let list = lists[rule].named(held.list).ok_or(Broken::PendingList)?;
     let place = held.place as usize;
-    ask(place <= list.len() && !in_a_body(list, place), Broken::PendingPlace)?;
+    ask(place <= list.len(), Broken::PendingPlace)?;
     ask(held.jump == jump_at(list, place), Broken::PendingJump)?;
     let budget = store.image.as_deref().map_or(0, |image| Tables::of(image).budget());
     ask(held.budget < budget, Broken::PendingBudget)
-}
-
-/// List 0 is the rule's own; list p + 1 the body of the after at place p of it.
-fn list_named(own: &[Step], list: u32) -> Option<&[Step]> {
-    let Some(place) = list.checked_sub(1) else {
-        return Some(own);
-    };
-    let place = place as usize;
-    let after = own.get(place).filter(|step| step[0] == AFTER)?;
-    own.get(place + 1..place + 1 + after[2] as usize)
-}
-
-/// Whether a place of a list is inside the body of one of its afters.
-fn in_a_body(list: &[Step], place: usize) -> bool {
-    let around = |(at, step): (usize, &Step)| step[0] == AFTER && place > at && place <= at + step[2] as usize;
-    list.iter().enumerate().any(around)
 }
 
 /// The jump of a place: inside a then-region, from its end past the else-region.

@@ -4,10 +4,9 @@ use oracle::house::{Answer, Call, Outcome};
 use oracle::random::Random;
 
 use super::house::{expected, House, Lent, Seen};
-use super::left;
 use super::tally::Tally;
-use crate::kept::Player;
-use crate::store::{Pending, Store, WORDS};
+use crate::kept::{Place, Player};
+use crate::store::{Store, WORDS};
 
 /// What a fresh house of the oracle lends.
 const LARGE: Lent = Lent { answer: 0, outcomes: 24_576, effects: 327_680 };
@@ -148,7 +147,7 @@ impl<'a> Both<'a> {
             let (old, new) = (variable_names(before), variable_names(words));
             ask(new.starts_with(&old), || format!("{call:?}: variables have moved: {old:?}, {new:?}"))?;
         }
-        arrange(&mut store, words);
+        arrange(&mut store, &self.player.places(), words);
         let wanted = store.words();
         let place = (0..WORDS).find(|place| words[*place] != wanted[*place]);
         ask(place.is_none(), || {
@@ -222,20 +221,16 @@ fn variable_names(words: &[u32]) -> Vec<u32> {
     rows.map(|row| row[0]).collect()
 }
 
-/// The Rust keeps variables by name, and the steps of a continuation in place of list, place and jump. A store has variables as they came, and
-/// of places with the same steps the one that was reached.
-fn arrange(store: &mut Store, words: &[u32]) {
+/// The Rust keeps variables by name, and the steps of a continuation in place of list, place and jump. A store has variables as they came,
+/// and of the places in the Rust's lists from which those steps are left the one that was reached.
+fn arrange(store: &mut Store, places: &[Vec<Place>], words: &[u32]) {
     let names = variable_names(words);
     store.variables.sort_by_key(|variable| names.iter().position(|name| *name == variable.name));
-    let Some(image) = &store.image else {
-        return;
-    };
-    for (at, held) in store.pending.iter_mut().enumerate() {
+    for ((at, held), places) in store.pending.iter_mut().enumerate().zip(places) {
         let row = &words[PENDING + 1 + at * PENDING_WORDS..][..PENDING_WORDS];
-        let jump = (row[7] == 1).then_some((row[8], row[9]));
-        let found = Pending { list: row[5], place: row[6], jump, ..*held };
-        if found != *held && left::same(image, &found, held) {
-            *held = found;
+        let found = (row[5], row[6], (row[7] == 1).then_some((row[8], row[9])));
+        if places.contains(&found) {
+            (held.list, held.place, held.jump) = found;
         }
     }
 }

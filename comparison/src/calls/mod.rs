@@ -12,7 +12,6 @@
 
 mod both;
 pub mod house;
-mod left;
 mod levels;
 mod lists;
 mod stores;

@@ -1,79 +1,90 @@
 -- The flat steps of a loaded set's rules, as the runner asks for them. Assumes nothing.
-use Prim.Native.Nat.{ℕ, zero, suc, _+_, _≤_}
+use Prim.Native.Nat.{ℕ, zero, suc, _≤_}
 use native.Mathlib.Omega.{arith}
-use mathlib.Core.Path.{_≡_, refl, sym, ap, _∙_}
-use mathlib.Core.Bool.{true, _&&_}
-use mathlib.Core.List.{List, [], _∷_}
-use lib.Dec.{leb}
-use lib.ListN.{length, getD, take, length-append}
-use borrow.Author.Tests.{le-leb, leb-true}
-use Rattle.model.specs.Flat.{flattenRules, setOf, listIn}
+use mathlib.Core.Path.{_≡_, refl, sym, subst}
+use mathlib.Core.Bool.{true, false}
+use mathlib.Core.List.{List, [], _∷_, map}
+use lib.ListN.{length, getD, length-append}
+use Rattle.model.specs.Flat.{Flattened, noSteps, flattenRule, flattenRules, everyCopy, stepsIn, listIn, partOf, tooManySteps}
 use Rattle.model.specs.Lists.{all, flatten}
 use Rattle.model.specs.Load.{imageRefusal}
-use Rattle.model.specs.declared.Step.{Step}
-use Rattle.model.specs.declared.Step.the-variants.{Primitive, Wait, Branch, After, Fail}
-use Rattle.model.proofs.Bools.{both}
+use Rattle.model.specs.Rules.{ruleIndices}
+use Rattle.model.specs.Steps.{FlatStep}
 use Rattle.image.specs.Accepted.{Accepted}
 use Rattle.image.proofs.Accepted.{accepted, tables-accepted, steps-accepted}
-use Rattle.flat.specs.Load.{stepLists}
-use Rattle.flat.specs.Shape.{stepOk, listOk, notBranch, fitOk, insideOk}
-use Rattle.flat.specs.Words.{layout}
-use Rattle.flat.proofs.Counts.{few-stored}
-use Rattle.flat.proofs.Shape.{set-lists}
+use Rattle.flat.specs.Load.{stored}
+use Rattle.flat.specs.Words.{layout, Says}
+use Rattle.flat.proofs.Counts.{few-steps, few-stored}
+use Rattle.flat.proofs.RuleSays.{part-says, rule-says}
+use Rattle.flat.proofs.Words.{layout-length}
 use Rattle.exec.specs.Lists.{FlatWords, isNear}
-use Rattle.exec.specs.Paid.{reach}
+use Rattle.activate.proofs.NearSteps.{rule-near}
 
--- a step leads no further than its list
-step-near : (x : Step) (xs : List Step) → stepOk x xs ≡ true → reach x ≤ length xs
-step-near (Primitive i) xs h = omega arith
-step-near (Wait ms) xs h = omega arith
-step-near (Branch c t n) xs h = leb-true (t + n) (length xs) (both (leb (t + n) (length xs)) (all notBranch (take (t + n) xs) && (fitOk (take t xs) && fitOk (take (t + n) xs))) h .0)
-step-near (After ms n) xs h = leb-true n (length xs) (both (leb n (length xs)) (insideOk (take n xs)) h .0)
-step-near Fail xs h = omega arith
+-- a rule of the set, or past the last one a rule without steps
+module _ (p : Flattened → Type 0) (none : p noSteps) where
+  one-of : (f : ℕ → Flattened) → ((j : ℕ) → p (f j)) → (js : List ℕ) (i : ℕ) → p (getD (map f js) i noSteps)
+  one-of f h [] i = none
+  one-of f h (j ∷ js) zero = h j
+  one-of f h (j ∷ js) (suc i) = one-of f h js i
 
-all-near : (xs : List Step) → length xs ≤ 2048 → listOk xs ≡ true → all isNear xs ≡ true
-all-near [] few h = refl
-all-near (x ∷ xs) few h =
-    let b = both (stepOk x xs) (listOk xs) h in
-    let near : isNear x ≡ true = le-leb (reach x) 2048 (omega (arith, step-near x xs (b .0), few)) in
-    rw near (all-near xs (omega (arith, few)) (b .1))
+  each-rule : (img : List ℕ) → ((j : ℕ) → p (flattenRule img j)) → (i : ℕ) → p (getD (flattenRules img) i noSteps)
+  unfolding flattenRules
+  each-rule img h i = one-of (flattenRule img) h (ruleIndices img) i
 
-one-list : (xss : List (List Step)) (i : ℕ) → length (getD xss i []) ≤ length (flatten xss)
-one-list [] i = omega arith
-one-list (xs ∷ xss) zero = omega (arith, length-append xs (flatten xss))
-one-list (xs ∷ xss) (suc i) = omega (arith, length-append xs (flatten xss), one-list xss i)
+none-near : (n : ℕ) → all isNear (listIn [] n) ≡ true
+unfolding listIn
+none-near zero = refl
+none-near (suc p) = refl
+
+one-counts : (fs : List Flattened) (i : ℕ) → everyCopy (getD fs i noSteps .steps) ≤ stepsIn fs
+one-counts [] i = omega arith
+one-counts (f ∷ fs) zero = omega arith
+one-counts (f ∷ fs) (suc i) = omega (arith, one-counts fs i)
+
+one-stored : (fs : List Flattened) (i : ℕ) → length (partOf (getD fs i noSteps)) ≤ length (stored fs)
+unfolding stored
+one-stored [] i = omega arith
+one-stored (f ∷ fs) zero = omega (arith, length-append (partOf f) (flatten (map partOf fs)))
+one-stored (f ∷ fs) (suc i) = omega (arith, length-append (partOf f) (flatten (map partOf fs)), one-stored fs i)
 
 module _ (img : List ℕ) (ok : imageRefusal img ≡ 0) where
   pub image-accepted : Accepted img
   unfolding imageRefusal
   image-accepted = accepted img (tables-accepted img (flattenRules img) ok)
 
-  rule-few : (i : ℕ) → length (getD (setOf img (flattenRules img) .flat) i []) ≤ 2048
-  unfolding imageRefusal setOf
-  rule-few i = omega (arith, one-list (stepLists (flattenRules img)) i, few-stored (flattenRules img) (steps-accepted img (flattenRules img) ok))
+  not-many : tooManySteps (flattenRules img) ≡ false
+  unfolding imageRefusal
+  not-many = steps-accepted img (flattenRules img) ok
 
-  rule-listed : (i : ℕ) → listOk (getD (setOf img (flattenRules img) .flat) i []) ≡ true
-  unfolding listIn
-  rule-listed i = set-lists img i 0
+  abbrev rule : ℕ → Flattened
+  rule i = getD (flattenRules img) i noSteps
 
-  -- what `activate` and `resume` require of a rule's steps; a place past the last rule has none
-  pub rule-words : (i : ℕ) → FlatWords (layout (getD (setOf img (flattenRules img) .flat) i []))
+  part-says-lists : (i : ℕ) → Says (layout (partOf (rule i))) (length (rule i .bodies)) (rule i .steps)
+  part-says-lists = each-rule (λ f. Says (layout (partOf f)) (length (f .bodies)) (f .steps)) (part-says [] [] [] tt) img (rule-says img)
+
+  lists-near : (i n : ℕ) → all isNear (listIn (rule i .steps) n) ≡ true
+  lists-near i n =
+      each-rule (λ f. everyCopy (f .steps) ≤ 2048 → all isNear (listIn (f .steps) n) ≡ true) (λ h. none-near n) img (λ j h. rule-near img j 2048 h n) i
+      (omega (arith, one-counts (flattenRules img) i, few-steps (flattenRules img) not-many))
+
+  -- what `activate` and `resume` require of a rule's part; a place past the last rule has none
+  pub rule-words : (i : ℕ) → FlatWords (layout (partOf (rule i))) (length (rule i .bodies))
   rule-words i =
       record {
-        steps = getD (setOf img (flattenRules img) .flat) i [];
-        words = refl;
-        few = rule-few i;
-        near = all-near (getD (setOf img (flattenRules img) .flat) i []) (rule-few i) (rule-listed i);
+        steps = rule i .steps;
+        says = part-says-lists i;
+        few = omega (arith, layout-length (partOf (rule i)), one-stored (flattenRules img) i, few-stored img not-many);
+        near = lists-near i;
       }
 
--- a set in which these are the steps of rule i
-abbrev pub setWith : ℕ → List Step → List (List Step)
+-- a set in which these are the lists of rule i
+abbrev pub setWith : ℕ → List FlatStep → List (List FlatStep)
 setWith zero xs = xs ∷ []
 setWith (suc i) xs = [] ∷ setWith i xs
 
-pub set-with : (i : ℕ) (xs : List Step) → getD (setWith i xs) i [] ≡ xs
+pub set-with : (i : ℕ) (xs : List FlatStep) → getD (setWith i xs) i [] ≡ xs
 set-with zero xs = refl
 set-with (suc i) xs = set-with i xs
 
-pub words-with : (i : ℕ) (w : List ℕ) (f : FlatWords w) → w ≡ layout (getD (setWith i (f .steps)) i [])
-words-with i w f = f .words ∙ ap layout (sym (set-with i (f .steps)))
+pub says-with : (w : List ℕ) (own i : ℕ) (f : FlatWords w own) → Says w own (getD (setWith i (f .steps)) i [])
+says-with w own i f = subst (Says w own) (sym (set-with i (f .steps))) (f .says)

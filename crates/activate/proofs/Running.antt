@@ -15,12 +15,11 @@ use Rattle.model.specs.Image.{budget}
 use Rattle.model.specs.Outcome.{Item, aborted}
 use Rattle.model.specs.State as model-state
 use Rattle.model.specs.State.{Rest, withRest, withLastActivation, bumpBy, activationsTotal, effectsEmitted, partialOutcomes}
-use Rattle.model.specs.Steps.{start}
+use Rattle.model.specs.Steps.{FlatStep, start}
 use Rattle.model.specs.World.{worldOf}
 use Rattle.model.specs.declared.Effect.{Effect}
 use Rattle.model.specs.declared.Point.{Point}
-use Rattle.model.specs.declared.Step.{Step}
-use Rattle.flat.specs.Words.{layout}
+use Rattle.flat.specs.Words.{Says}
 use Rattle.state.specs.Meaning.{Sound, Means, meaning}
 use Rattle.state.specs.declared.Volatile.{Volatile}
 use Rattle.state.proofs.Follows.{follows, accepted-by-next}
@@ -37,7 +36,7 @@ use Rattle.activate.specs.Outcomes.{Pushes, Refuses}
 use Rattle.activate.specs.Executes.{Changes, Counts, NotesPartial, Starts, FinishesWet, RunsWet, RunsDry, dryOutcome}
 use Rattle.activate.specs.declared.Handled.{Handled}
 use Rattle.activate.proofs.Continues.{then-continues, no-outcome, within-by, within-then, room-left}
-use Rattle.activate.proofs.FlatRules.{setWith, words-with}
+use Rattle.activate.proofs.FlatRules.{setWith, says-with}
 
 -- ---- the next outcome
 pub pushed : (x : Handled) (ow ew : List ℕ) (v : Volatile) (j : Job) (reason count : ℕ) (r : Handled) (ow′ ew′ : List ℕ) → Pushes x ow v j reason count r ow′
@@ -73,13 +72,13 @@ module _ (x y : Handled) (s : Rest) (c : Changes x s y) where
   changed-outcomes = c [] [] .outcomes ∙ omega arith
 
   -- an activation that is only counted
-  pub changed : (steps : List ℕ) (i : ℕ) (ow ew : List ℕ) → Handles steps i (λ flat. noOutcome (withRest s (meaning (x .vol)))) x ow ew y ow ew
-  changed steps i ow ew = record { says = λ flat e. c ow ew; within = changed-within 1 }
+  pub changed : (part : List ℕ) (own i : ℕ) (ow ew : List ℕ) → Handles part own i (λ flat. noOutcome (withRest s (meaning (x .vol)))) x ow ew y ow ew
+  changed part own i ow ew = record { says = λ flat e. c ow ew; within = changed-within 1 }
 
   -- what comes behind the change
-  pub after-change : (steps : List ℕ) (i : ℕ) (k : List (List Step) → model-state.Volatile → model.Handled) (ow ew : List ℕ) (r : Handled) (ow′ ew′ : List ℕ)
-      → Handles steps i (λ flat. k flat (meaning (y .vol))) y ow ew r ow′ ew′ → Handles steps i (λ flat. k flat (withRest s (meaning (x .vol)))) x ow ew r ow′ ew′
-  after-change steps i k ow ew r ow′ ew′ h =
+  pub after-change : (part : List ℕ) (own i : ℕ) (k : List (List FlatStep) → model-state.Volatile → model.Handled) (ow ew : List ℕ) (r : Handled) (ow′ ew′ : List ℕ)
+      → Handles part own i (λ flat. k flat (meaning (y .vol))) y ow ew r ow′ ew′ → Handles part own i (λ flat. k flat (withRest s (meaning (x .vol)))) x ow ew r ow′ ew′
+  after-change part own i k ow ew r ow′ ew′ h =
       let m = withRest s (meaning (x .vol)) in
       record {
         says = λ flat e.
@@ -88,16 +87,16 @@ module _ (x y : Handled) (s : Rest) (c : Changes x s y) where
         within = within-then 0 1 x y r (changed-within 0) (h .within);
       }
 
-pub same-handles : (steps : List ℕ) (i : ℕ) (h k : List (List Step) → model.Handled) (x : Handled) (ow ew : List ℕ) (r : Handled) (ow′ ew′ : List ℕ)
-    → ((flat : List (List Step)) → h flat ≡ k flat) → Handles steps i h x ow ew r ow′ ew′ → Handles steps i k x ow ew r ow′ ew′
-same-handles steps i h k x ow ew r ow′ ew′ e a =
+pub same-handles : (part : List ℕ) (own i : ℕ) (h k : List (List FlatStep) → model.Handled) (x : Handled) (ow ew : List ℕ) (r : Handled) (ow′ ew′ : List ℕ)
+    → ((flat : List (List FlatStep)) → h flat ≡ k flat) → Handles part own i h x ow ew r ow′ ew′ → Handles part own i k x ow ew r ow′ ew′
+same-handles part own i h k x ow ew r ow′ ew′ e a =
     record { says = λ flat w. subst (λ (y : model.Handled). Continues x ow ew y r ow′ ew′) (e flat) (a .says flat w); within = a .within }
 
 -- an outcome without effects
-pub refuses : (steps : List ℕ) (i : ℕ) (x : Handled) (ow ew : List ℕ) (j : Job) (reason : ℕ) (r : Handled) (ow′ : List ℕ) → Refuses x ow j reason r ow′
-    → Handles steps i (λ flat. record { vol = meaning (x .vol); outcomes = model.outcome (jobOf j) [] reason ∷ []; trace = aborted (j .rule) ∷ [] }) x ow ew r ow′ ew
+pub refuses : (part : List ℕ) (own i : ℕ) (x : Handled) (ow ew : List ℕ) (j : Job) (reason : ℕ) (r : Handled) (ow′ : List ℕ) → Refuses x ow j reason r ow′
+    → Handles part own i (λ flat. record { vol = meaning (x .vol); outcomes = model.outcome (jobOf j) [] reason ∷ []; trace = aborted (j .rule) ∷ [] }) x ow ew r ow′ ew
 unfolding model.outcome
-refuses steps i x ow ew j reason r ow′ h =
+refuses part own i x ow ew j reason r ow′ h =
     record { says = λ flat e. h ew; within = within-by 1 x ow ew _ r ow′ ew (h ew) (omega arith) (omega arith) (omega arith) }
 
 -- ---- counters
@@ -139,23 +138,23 @@ module _ (x : Handled) (b : ℕ) (few : b ≤ 256) (room : Room 1 x) where
   pub ready-dry : exec-dry.DryReady (x .vol) b (x .effects)
   ready-dry = record { sound = room .sound; most = few; counts = omega (arith, room .effects, few) }
 
-module _ (snapshot image steps : List ℕ) (j : Job) (x : Handled) (b : ℕ) (ew : List ℕ) (run : RunResult) (ew′ : List ℕ) (flat-words : FlatWords steps) where
-  -- a set in which these are the steps of the rule
-  abbrev someSet : List (List Step)
+module _ (snapshot image part : List ℕ) (own : ℕ) (j : Job) (x : Handled) (b : ℕ) (ew : List ℕ) (run : RunResult) (ew′ : List ℕ) (flat-words : FlatWords part own) where
+  -- a set in which these are the lists of the rule
+  abbrev someSet : List (List FlatStep)
   someSet = setWith (j .index) (flat-words .steps)
 
-  some-set : steps ≡ layout (getD someSet (j .index) [])
-  some-set = words-with (j .index) steps flat-words
+  some-set : Says part own (getD someSet (j .index) [])
+  some-set = says-with part own (j .index) flat-words
 
-  module _ (from : Point) (h : exec.Runs snapshot image steps j (x .vol) from b (x .effects) ew run ew′) where
+  module _ (from : Point) (h : exec.Runs snapshot image part own j (x .vol) from b (x .effects) ew run ew′) where
     pub run-grows : x .effects ≤ run .count
     run-grows = omega (arith, h .says someSet some-set .2)
 
-    abbrev out : List (List Step) → RunOutput
+    abbrev out : List (List FlatStep) → RunOutput
     out flat = runSteps b (envOf snapshot image flat) (jobOf j) from (meaning (x .vol))
 
     wet-says : (ow : List ℕ) (n : ℕ) (w : Volatile) (r : Handled) (ow′ : List ℕ) → n ≡ run .count - x .effects → FinishesWet (run .vol) n (run .reason) w → Pushes x ow w j (run .reason) (run .count) r ow′
-        → (item : Item) (flat : List (List Step)) → steps ≡ layout (getD flat (j .index) []) → Continues x ow ew (model.finished (jobOf j) item (out flat)) r ow′ ew′
+        → (item : Item) (flat : List (List FlatStep)) → Says part own (getD flat (j .index) []) → Continues x ow ew (model.finished (jobOf j) item (out flat)) r ow′ ew′
     wet-says ow n w r ow′ e f p item flat q =
         let o = out flat in
         let s = h .says flat q in
@@ -165,12 +164,12 @@ module _ (snapshot image steps : List ℕ) (j : Job) (x : Handled) (b : ℕ) (ew
         record { says = m .says ∙ ap (λ (v : model-state.Volatile). model.finishWet (o .effects) (run .reason) v) (s .0 .says) ∙ ap (λ (z : ℕ). model.finishWet (o .effects) z (o .vol)) (s .1); sound = m .sound; based = m .based ∙ s .0 .based } in
         pushed x ow ew w j (run .reason) (run .count) r ow′ ew′ p (model.finishWet (o .effects) (o .reason) (o .vol)) (o .effects) (o .reason) (item ∷ o .trace) finish (s .1) (s .2) (s .3)
 
-    next-bound : (flat : List (List Step)) → steps ≡ layout (getD flat (j .index) []) → out flat .vol .next ≤ meaning (x .vol) .next + b
+    next-bound : (flat : List (List FlatStep)) → Says part own (getD flat (j .index) []) → out flat .vol .next ≤ meaning (x .vol) .next + b
     unfolding meaning
     next-bound flat q = omega (arith, accepted-by-next (run .vol) (x .vol .«next_seq») (out flat .vol) (h .says flat q .0), h .accepted)
 
     pub runs-wet : (ow : List ℕ) (n : ℕ) (w : Volatile) (r : Handled) (ow′ : List ℕ) → b ≤ 256 → n ≡ run .count - x .effects → FinishesWet (run .vol) n (run .reason) w → Pushes x ow w j (run .reason) (run .count) r ow′
-        → RunsWet snapshot image steps j from b x ow ew r ow′ ew′
+        → RunsWet snapshot image part own j from b x ow ew r ow′ ew′
     unfolding model.finishWet model.outcome
     runs-wet ow n w r ow′ few e f p item =
         record {
@@ -181,21 +180,21 @@ module _ (snapshot image steps : List ℕ) (j : Job) (x : Handled) (b : ℕ) (ew
               (omega (arith, next-bound someSet some-set, few)) (omega arith) (omega (arith, s .2, h .counted, few));
         }
 
-  module _ (h : exec-dry.RunsDry snapshot image steps j (x .vol) start b (x .effects) ew run ew′) where
+  module _ (h : exec-dry.RunsDry snapshot image part own j (x .vol) start b (x .effects) ew run ew′) where
     pub dry-grows : x .effects ≤ run .count
     dry-grows = omega (arith, h .says someSet some-set .2)
 
-    abbrev outDry : List (List Step) → DryOutput
+    abbrev outDry : List (List FlatStep) → DryOutput
     outDry flat = runStepsDry b (envOf snapshot image flat) (jobOf j) start [] (meaning (x .vol) .rest)
 
     dry-says : (ow : List ℕ) (r : Handled) (ow′ : List ℕ) → Pushes x ow (run .vol) j (run .reason) (run .count) r ow′
-        → (flat : List (List Step)) → steps ≡ layout (getD flat (j .index) []) → Continues x ow ew (dryOutcome (jobOf j) (outDry flat) (meaning (x .vol))) r ow′ ew′
+        → (flat : List (List FlatStep)) → Says part own (getD flat (j .index) []) → Continues x ow ew (dryOutcome (jobOf j) (outDry flat) (meaning (x .vol))) r ow′ ew′
     dry-says ow r ow′ p flat q =
         let o = outDry flat in
         let s = h .says flat q in
         pushed x ow ew (run .vol) j (run .reason) (run .count) r ow′ ew′ p (withRest (o .rest) (meaning (x .vol))) (o .effects) (o .reason) _ (s .0) (s .1) (s .2) (s .3)
 
-    pub runs-dry : (ow : List ℕ) (r : Handled) (ow′ : List ℕ) → b ≤ 256 → b ≡ budget image → Pushes x ow (run .vol) j (run .reason) (run .count) r ow′ → RunsDry snapshot image steps j x ow ew r ow′ ew′
+    pub runs-dry : (ow : List ℕ) (r : Handled) (ow′ : List ℕ) → b ≤ 256 → b ≡ budget image → Pushes x ow (run .vol) j (run .reason) (run .count) r ow′ → RunsDry snapshot image part own j x ow ew r ow′ ew′
     unfolding model.outcome
     runs-dry ow r ow′ few e p =
         record {

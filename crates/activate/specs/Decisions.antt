@@ -5,7 +5,7 @@ use mathlib.Core.Bool.{Bool, cond, _&&_}
 use mathlib.Core.List.{List}
 use Rattle.model.specs.Activate as model
 use Rattle.model.specs.State.{Rest, bump, suppressedCooldown, conditionsRejected, chainDepthExceeded, partialOutcomes}
-use Rattle.model.specs.declared.Step.{Step}
+use Rattle.model.specs.Steps.{FlatStep}
 use Rattle.eval.specs.Answers.{envOf}
 use Rattle.activate.specs.Handled.{modeOf}
 use Rattle.activate.specs.declared.Mode.{Mode}
@@ -29,10 +29,10 @@ decisionOf Unevaluable dry s = model.unevaluable (cond dry s (bump partialOutcom
 -- rule i, in every environment of a snapshot and an image
 module _ (snapshot image : List ℕ) (i : ℕ) where
   abbrev pub InCooldownIs : Rest → Bool → Type 0
-  InCooldownIs s r = (flat : List (List Step)) → r ≡ model.inCooldown (envOf snapshot image flat) i s
+  InCooldownIs s r = (flat : List (List FlatStep)) → r ≡ model.inCooldown (envOf snapshot image flat) i s
 
   abbrev pub CooldownHolds : Mode → Rest → Bool → Type 0
-  CooldownHolds m s r = (flat : List (List Step)) → r ≡ (isAuto m && model.inCooldown (envOf snapshot image flat) i s)
+  CooldownHolds m s r = (flat : List (List FlatStep)) → r ≡ (isAuto m && model.inCooldown (envOf snapshot image flat) i s)
 
   abbrev pub Decides : ℕ → Mode → Rest → Decision → Type 0
-  Decides depth m s r = (flat : List (List Step)) → model.decide (envOf snapshot image flat) i depth (modeOf m) s ≡ decisionOf r (isDry m) s
+  Decides depth m s r = (flat : List (List FlatStep)) → model.decide (envOf snapshot image flat) i depth (modeOf m) s ≡ decisionOf r (isDry m) s

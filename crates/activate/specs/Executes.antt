@@ -48,15 +48,15 @@ FinishesWet v count reason r = (es : List Effect) → count ≡ length es → Me
 abbrev pub dryOutcome : actions.Job → DryOutput → model-state.Volatile → model.Handled
 dryOutcome j o v = record { vol = withRest (o .rest) v; outcomes = model.outcome j (o .effects) (o .reason) ∷ []; trace = started (j .rule) ∷ o .trace }
 
-module _ (snapshot image steps : List ℕ) (j : Job) where
+module _ (snapshot image part : List ℕ) (own : ℕ) (j : Job) where
   abbrev pub RunsWet : Point → ℕ → Handled → List ℕ → List ℕ → Handled → List ℕ → List ℕ → Type 0
   RunsWet from b x ow ew r ow′ ew′ =
-      (item : Item) → Handles steps (j .index) (λ flat. model.finished (jobOf j) item (runSteps b (envOf snapshot image flat) (jobOf j) from (meaning (x .vol)))) x ow ew r ow′ ew′
+      (item : Item) → Handles part own (j .index) (λ flat. model.finished (jobOf j) item (runSteps b (envOf snapshot image flat) (jobOf j) from (meaning (x .vol)))) x ow ew r ow′ ew′
 
   abbrev pub RunsDry : Handled → List ℕ → List ℕ → Handled → List ℕ → List ℕ → Type 0
   RunsDry x =
-      Handles steps (j .index)
+      Handles part own (j .index)
       (λ flat. dryOutcome (jobOf j) (runStepsDry (budget image) (envOf snapshot image flat) (jobOf j) start [] (meaning (x .vol) .rest)) (meaning (x .vol))) x
 
   abbrev pub Executes : Handled → List ℕ → List ℕ → Handled → List ℕ → List ℕ → Type 0
-  Executes x = Handles steps (j .index) (λ flat. model.execute (envOf snapshot image flat) (jobOf j) (j .dry) (meaning (x .vol))) x
+  Executes x = Handles part own (j .index) (λ flat. model.execute (envOf snapshot image flat) (jobOf j) (j .dry) (meaning (x .vol))) x

@@ -11,8 +11,8 @@ use Rattle.model.specs.Calls.{effectsOf}
 use Rattle.model.specs.Outcome.{Outcome}
 use Rattle.model.specs.declared.Effect.{Effect}
 use Rattle.model.specs.declared.Pending.{Pending}
-use Rattle.model.specs.declared.Step.{Step}
-use Rattle.flat.specs.Words.{layout}
+use Rattle.model.specs.Steps.{FlatStep}
+use Rattle.flat.specs.Words.{Says}
 use Rattle.state.specs.Meaning.{Sound, Means, meaning}
 use Rattle.eval.specs.Answers.{envOf}
 use Rattle.exec.specs.PutEffects.{putEffects}
@@ -64,14 +64,14 @@ pub record Room (n : ℕ) (x : Handled) : Type 0 where
   pub outcomes : x .outcomes + n ≤ max32
   pub effects : x .effects + n * 256 ≤ max32
 
--- one activation or resumption came to r: in every set where these are the steps of rule i, it is what the specification gives for the set
-pub record Handles (steps : List ℕ) (i : ℕ) (h : List (List Step) → model.Handled) (x : Handled) (ow ew : List ℕ) (r : Handled) (ow′ ew′ : List ℕ) : Type 0 where
-  pub says : (flat : List (List Step)) → steps ≡ layout (getD flat i []) → Continues x ow ew (h flat) r ow′ ew′
+-- one activation or resumption came to r: in every set where this part says the lists of rule i, it is what the specification gives for the set
+pub record Handles (part : List ℕ) (own i : ℕ) (h : List (List FlatStep) → model.Handled) (x : Handled) (ow ew : List ℕ) (r : Handled) (ow′ ew′ : List ℕ) : Type 0 where
+  pub says : (flat : List (List FlatStep)) → Says part own (getD flat i []) → Continues x ow ew (h flat) r ow′ ew′
   pub within : Within 1 x r
 
-module _ (snapshot image steps : List ℕ) (i : ℕ) where
+module _ (snapshot image part : List ℕ) (own i : ℕ) where
   abbrev pub Activates : ℕ → ℕ → Mode → Handled → List ℕ → List ℕ → Handled → List ℕ → List ℕ → Type 0
-  Activates kind depth mode x = Handles steps i (λ flat. model.activate (envOf snapshot image flat) i kind depth (modeOf mode) (meaning (x .vol))) x
+  Activates kind depth mode x = Handles part own i (λ flat. model.activate (envOf snapshot image flat) i kind depth (modeOf mode) (meaning (x .vol))) x
 
   abbrev pub Resumes : Pending → Handled → List ℕ → List ℕ → Handled → List ℕ → List ℕ → Type 0
-  Resumes c x = Handles steps i (λ flat. model.resume (envOf snapshot image flat) c (meaning (x .vol))) x
+  Resumes c x = Handles part own i (λ flat. model.resume (envOf snapshot image flat) c (meaning (x .vol))) x

@@ -74,7 +74,8 @@ fn finish_wet(v: Volatile, effects: u32, reason: u32) -> Volatile
 pub fn run_wet(
     snapshot: &[u32],
     image: &[u32],
-    steps: &[u32],
+    part: &[u32],
+    own: usize,
     outcomes: &mut [u32],
     effects: &mut [u32],
     x: Handled,
@@ -82,14 +83,15 @@ pub fn run_wet(
     from: Point,
     most: u32,
 ) -> Handled
-    requires { ⌜ Sized (now image) × FlatWords (now steps) × (most ≤ 256) × Room 1 x ⌝ }
-    ensures { λ r. ⌜ RunsWet (now (snapshot .entry)) (now (image .entry)) (now (steps .entry)) job from most x (now (outcomes .entry)) (now (effects .entry)) r (now (outcomes .exit)) (now (effects .exit)) ⌝ }
+    requires { ⌜ Sized (now image) × FlatWords (now part) own × (most ≤ 256) × Room 1 x ⌝ }
+    ensures { λ r. ⌜ RunsWet (now (snapshot .entry)) (now (image .entry)) (now (part .entry)) own job from most x (now (outcomes .entry)) (now (effects .entry)) r (now (outcomes .exit)) (now (effects .exit)) ⌝ }
 {
     let v = x.vol;
     let run = run_steps(
         snapshot,
         image,
-        steps,
+        part,
+        own,
         effects,
         v,
         job,
@@ -106,14 +108,15 @@ pub fn run_wet(
 fn run_dry(
     snapshot: &[u32],
     image: &[u32],
-    steps: &[u32],
+    part: &[u32],
+    own: usize,
     outcomes: &mut [u32],
     effects: &mut [u32],
     x: Handled,
     job: Job,
 ) -> Handled
-    requires { ⌜ Accepted (now image) × FlatWords (now steps) × (job .dry ≡ true) × Room 1 x ⌝ }
-    ensures { λ r. ⌜ RunsDry (now (snapshot .entry)) (now (image .entry)) (now (steps .entry)) job x (now (outcomes .entry)) (now (effects .entry)) r (now (outcomes .exit)) (now (effects .exit)) ⌝ }
+    requires { ⌜ Accepted (now image) × FlatWords (now part) own × (job .dry ≡ true) × Room 1 x ⌝ }
+    ensures { λ r. ⌜ RunsDry (now (snapshot .entry)) (now (image .entry)) (now (part .entry)) own job x (now (outcomes .entry)) (now (effects .entry)) r (now (outcomes .exit)) (now (effects .exit)) ⌝ }
 {
     let v = x.vol;
     let from = Point {
@@ -125,7 +128,8 @@ fn run_dry(
     let run = run_steps_dry(
         snapshot,
         image,
-        steps,
+        part,
+        own,
         effects,
         v,
         job,
@@ -140,18 +144,19 @@ fn run_dry(
 pub fn execute(
     snapshot: &[u32],
     image: &[u32],
-    steps: &[u32],
+    part: &[u32],
+    own: usize,
     outcomes: &mut [u32],
     effects: &mut [u32],
     x: Handled,
     job: Job,
 ) -> Handled
-    requires { ⌜ Accepted (now image) × FlatWords (now steps) × Room 1 x ⌝ }
-    ensures { λ r. ⌜ Executes (now (snapshot .entry)) (now (image .entry)) (now (steps .entry)) job x (now (outcomes .entry)) (now (effects .entry)) r (now (outcomes .exit)) (now (effects .exit)) ⌝ }
+    requires { ⌜ Accepted (now image) × FlatWords (now part) own × Room 1 x ⌝ }
+    ensures { λ r. ⌜ Executes (now (snapshot .entry)) (now (image .entry)) (now (part .entry)) own job x (now (outcomes .entry)) (now (effects .entry)) r (now (outcomes .exit)) (now (effects .exit)) ⌝ }
 {
     if job.dry {
         let y = count(x, counters::ACTIVATIONS_DRY);
-        return run_dry(snapshot, image, steps, outcomes, effects, y, job);
+        return run_dry(snapshot, image, part, own, outcomes, effects, y, job);
     }
     let z = start(snapshot, x, job);
     let from = Point {
@@ -163,7 +168,8 @@ pub fn execute(
     run_wet(
         snapshot,
         image,
-        steps,
+        part,
+        own,
         outcomes,
         effects,
         z,

@@ -63,11 +63,12 @@ fn job_of(image: &[u32], name: u32, i: u32, kind: u32, dry: bool) -> Job
     }
 }
 
-// Rule i, by a trigger kind of an outcome, at a depth. `steps` are its flat steps.
+// Rule i, by a trigger kind of an outcome, at a depth. `part` is its part of the flat steps, where its own list stands behind `own` steps.
 pub fn activate(
     snapshot: &[u32],
     image: &[u32],
-    steps: &[u32],
+    part: &[u32],
+    own: usize,
     outcomes: &mut [u32],
     effects: &mut [u32],
     x: Handled,
@@ -76,15 +77,15 @@ pub fn activate(
     depth: u32,
     mode: Mode,
 ) -> Handled
-    requires { ⌜ Accepted (now image) × FlatWords (now steps) × (i < sizeOf (now image) rules) ⌝ }
+    requires { ⌜ Accepted (now image) × FlatWords (now part) own × (i < sizeOf (now image) rules) ⌝ }
     requires { ⌜ Room 1 x ⌝ }
-    ensures { λ r. ⌜ Activates (now (snapshot .entry)) (now (image .entry)) (now (steps .entry)) i kind depth mode x (now (outcomes .entry)) (now (effects .entry)) r (now (outcomes .exit)) (now (effects .exit)) ⌝ }
+    ensures { λ r. ⌜ Activates (now (snapshot .entry)) (now (image .entry)) (now (part .entry)) own i kind depth mode x (now (outcomes .entry)) (now (effects .entry)) r (now (outcomes .exit)) (now (effects .exit)) ⌝ }
 {
     let v = x.vol;
     let dry = is_dry(mode);
     let job = job_of(image, image::rule::name_of(image, i), i, kind, dry);
     match decide::decide(snapshot, image, v, i, depth, mode) {
-        Decision::Begins => execute::execute(snapshot, image, steps, outcomes, effects, x, job),
+        Decision::Begins => execute::execute(snapshot, image, part, own, outcomes, effects, x, job),
         Decision::InCooldown => count(x, counters::SUPPRESSED_COOLDOWN),
         Decision::Rejected => count(x, counters::CONDITIONS_REJECTED),
         Decision::TooDeep => {
@@ -98,20 +99,21 @@ pub fn activate(
     }
 }
 
-// A continuation of rule i goes on where it stood. `steps` are the rule's flat steps.
+// A continuation of rule i goes on where it stood. `part` and `own` as for `activate`.
 pub fn resume(
     snapshot: &[u32],
     image: &[u32],
-    steps: &[u32],
+    part: &[u32],
+    own: usize,
     outcomes: &mut [u32],
     effects: &mut [u32],
     x: Handled,
     i: u32,
     c: Pending,
 ) -> Handled
-    requires { ⌜ Accepted (now image) × FlatWords (now steps) × (ruleNamed (now image) (c .rule) ≡ some i) ⌝ }
+    requires { ⌜ Accepted (now image) × FlatWords (now part) own × (ruleNamed (now image) (c .rule) ≡ some i) ⌝ }
     requires { ⌜ (c .budget ≤ 256) × Room 1 x ⌝ }
-    ensures { λ r. ⌜ Resumes (now (snapshot .entry)) (now (image .entry)) (now (steps .entry)) i c x (now (outcomes .entry)) (now (effects .entry)) r (now (outcomes .exit)) (now (effects .exit)) ⌝ }
+    ensures { λ r. ⌜ Resumes (now (snapshot .entry)) (now (image .entry)) (now (part .entry)) own i c x (now (outcomes .entry)) (now (effects .entry)) r (now (outcomes .exit)) (now (effects .exit)) ⌝ }
 {
     let from = c.point;
     let job = job_of(image, c.rule, i, c.trigger, false);
@@ -119,7 +121,8 @@ pub fn resume(
     execute::run_wet(
         snapshot,
         image,
-        steps,
+        part,
+        own,
         outcomes,
         effects,
         y,

@@ -6,6 +6,7 @@ use lib.ListN.{length}
 use Rattle.words.specs.Signed.{solarMinute}
 use Rattle.model.specs.declared.Step.{Step}
 use Rattle.model.specs.declared.Step.the-variants.{Primitive, Wait, Branch, After, Fail}
+use Rattle.model.specs.Steps.{stepsOf}
 use Rattle.model.specs.Flat.{flattenRule}
 use Rattle.model.specs.Calls.{Call, run}
 use Rattle.edges.specs.Samples.{imageOf, rule, log, logs, after, doing, snapshot, absent, tickAt, tickAtMinute, runWet, force, history, Edge, edge, samples}
@@ -15,7 +16,7 @@ unfoldable pub isFail : Step → ℕ
 isFail (Primitive i) = 0
 isFail (Wait ms) = 0
 isFail (Branch c t e) = 0
-isFail (After ms n) = 0
+isFail (After ms) = 0
 isFail Fail = 1
 
 unfoldable pub sum : List ℕ → ℕ
@@ -29,7 +30,7 @@ last (n ∷ m ∷ ns) = last (m ∷ ns)
 
 unfoldable pub steps : List ℕ → List (List (List ℕ))
 steps image =
-    force image (λ img. let fs = map isFail ((flattenRule img 0) .steps) in ((length fs ∷ sum fs ∷ last fs ∷ []) ∷ []) ∷ [])
+    force image (λ img. let fs = map isFail (stepsOf ((flattenRule img 0) .steps)) in ((length fs ∷ sum fs ∷ last fs ∷ []) ∷ []) ∷ [])
 
 unfoldable pub number : ℕ → List (List (List ℕ))
 number n = ((n ∷ []) ∷ []) ∷ []

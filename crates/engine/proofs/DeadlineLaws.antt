@@ -4,10 +4,10 @@ use mathlib.Core.Bool.{Bool, true, false}
 use mathlib.Core.List.{List, []}
 use mathlib.Core.Option.{Option, none, some}
 use Prim.Native.Nat.{ℕ}
-use Rattle.model.specs.declared.Step.{Step}
 use Rattle.model.specs.World.{isOne}
 use Rattle.model.specs.Codec.{wide}
 use Rattle.model.specs.State.{Store}
+use Rattle.model.specs.Steps.{FlatStep}
 use Rattle.model.specs.Store.{read, write}
 use Rattle.model.specs.Wheel.{nextDeadline}
 use Rattle.model.specs.Calls.{deadline, due, call}
@@ -35,7 +35,7 @@ module _ (w img : List ℕ) (s : Store) (e : read w ≡ some s) (i : Readable w 
 
   -- the loaded set, by the words of the image
   pub record SetIs (b : Bool) : Type 0 where
-    pub flat : List (List Step)
+    pub flat : List (List FlatStep)
     pub is : setIf b img flat ≡ s .loaded
 
   pub set-is : (b : Bool) → b ≡ isOne (loadedIn w .loaded) → SetIs b
@@ -45,7 +45,7 @@ module _ (w img : List ℕ) (s : Store) (e : read w ≡ some s) (i : Readable w 
       record { flat = l .set .flat; is = ap (λ (x : List ℕ). some (record { image = x; flat = l .set .flat })) (sym (l .image)) ∙ sym (l .is) }
 
   pub deadline-is : (b : Bool) (v : Volatile) (last : ℕ) (t : Option ℕ) → b ≡ isOne (loadedIn w .loaded) → last ≡ rowAt wide w 0 → AllNumbered v (s .vol)
-      → ((flat : List (List Step)) → t ≡ nextDeadline (storeOf img b flat v last)) → t ≡ nextDeadline s
+      → ((flat : List (List FlatStep)) → t ≡ nextDeadline (storeOf img b flat v last)) → t ≡ nextDeadline s
   deadline-is b v last t q l a h =
       let k = set-is b q in
       let n : last ≡ s .now = l ∙ time-read w s (from-read w s e) in

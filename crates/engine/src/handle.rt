@@ -119,8 +119,21 @@ fn run_at(
     }
     let mode = mode_of(dry);
     let image = image_in(store);
-    let steps = store::flat_part::rule_steps(store, i);
-    activate::activate(snapshot, image, steps, outcomes, effects, x, i, 0, 0, mode)
+    let part = store::flat_part::rule_steps(store, i);
+    let own = store::flat_part::rule_own(store, i);
+    activate::activate(
+        snapshot,
+        image,
+        part,
+        own,
+        outcomes,
+        effects,
+        x,
+        i,
+        0,
+        0,
+        mode,
+    )
 }
 
 // `run_rule`: a rule that is not loaded does nothing.

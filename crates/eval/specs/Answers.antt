@@ -12,7 +12,7 @@ use Rattle.model.specs.Arith.{compareI64}
 use Rattle.model.specs.Eval.{minuteInRange, compareText}
 use Rattle.model.specs.World.{isOne, worldOf}
 use Rattle.model.specs.State.{Env}
-use Rattle.model.specs.declared.Step.{Step}
+use Rattle.model.specs.Steps.{FlatStep}
 use Rattle.eval.specs.declared.Number.{Number}
 use Rattle.eval.specs.declared.Number.the-variants as number
 use Rattle.eval.specs.declared.Minute.{Minute}
@@ -64,5 +64,5 @@ inRange t a b = do
   some (minuteInRange t start end)
 
 -- a snapshot and a loaded image. Evaluation reads no flat steps: the contracts hold for any
-abbrev pub envOf : List ℕ → List ℕ → List (List Step) → Env
+abbrev pub envOf : List ℕ → List ℕ → List (List FlatStep) → Env
 envOf snapshot image flat = record { world = worldOf snapshot; set = record { image = image; flat = flat } }

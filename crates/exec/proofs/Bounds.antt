@@ -46,7 +46,7 @@ unfolding exec
 next-grows e j b sp (Primitive i) v = let a = actions.primAt e j (v .rest) i in omega (arith, after-next (a .disables) a (advance sp 0) v)
 next-grows e j b sp (Wait ms) v = schedule-next e j b ms (advance sp 0) v
 next-grows e j b sp (Branch c t n) v = branch-next (conditionAt e (v .rest) c) t n sp v
-next-grows e j b sp (After ms n) v = schedule-next e j b ms (point (suc (sp .place)) 0 NoJump) v
+next-grows e j b sp (After ms) v = schedule-next e j b ms (point (suc (sp .place)) 0 NoJump) v
 next-grows e j b sp Fail v = omega (arith, after-next none (actions.fails (v .rest)) (advance sp 0) v)
 
 pub accepts-one :
@@ -88,7 +88,7 @@ unfolding exec
 same-list e j b sp (Primitive i) v = let a = actions.primAt e j (v .rest) i in after-list (a .disables) a (advance sp 0) sp v (advance-list sp 0)
 same-list e j b sp (Wait ms) v = refl
 same-list e j b sp (Branch c t n) v = branch-list (conditionAt e (v .rest) c) t n sp v
-same-list e j b sp (After ms n) v = advance-list sp n
+same-list e j b sp (After ms) v = advance-list sp 0
 same-list e j b sp Fail v = after-list none (actions.fails (v .rest)) (advance sp 0) sp v (advance-list sp 0)
 
 pub keeps-list :

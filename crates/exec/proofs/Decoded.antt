@@ -1,129 +1,117 @@
 -- A rule's lists as words: the step at a place, and what flattening gives of it. Assumes nothing.
-use Prim.Native.Nat.{ℕ, zero, suc, _+_, _*_, _-_, _≤_, _<_}
+use Prim.Native.Nat.{ℕ, zero, suc, _+_, _*_, _-_, _/_, _≤_, _<_}
 use native.Mathlib.Omega.{arith}
 use native.Mathlib.Nat.{not-suc-le-zero}
 use mathlib.Core.Path.{_≡_, refl, sym, ap, _∙_}
-use mathlib.Core.Bool.{true}
-use mathlib.Core.List.{List, [], _∷_, _++_}
+use mathlib.Core.Bool.{Bool, true, false, cond, _&&_}
+use mathlib.Core.List.{List, [], _∷_, map}
 use mathlib.Core.Option.{none, some}
-use lib.ListN.{length, take, drop, getD, getElem?, List·getD-eq-default, length-take, length-drop}
-use borrow.Author.Tests.{leb-true}
-use Rattle.model.specs.Flat.{listIn, bodyLen}
+use lib.Dec.{eqb, leb}
+use lib.ListN.{length, take, drop, getD, getElem?, length-take, length-drop, length-map}
+use lib.Seq.{getD-drop}
+use borrow.Author.Tests.{leb-true, ne-eqb}
+use Rattle.model.specs.Codec.{rowsAt}
+use Rattle.model.specs.Flat.{listIn}
 use Rattle.model.specs.Lists.{all}
+use Rattle.model.specs.Parts.{stepRow}
+use Rattle.model.specs.Steps.{FlatStep}
 use Rattle.model.specs.declared.Step.{Step}
 use Rattle.model.specs.declared.Step.the-variants.{Primitive, Wait, Branch, After, Fail}
 use Rattle.model.proofs.Bools.{both}
-use Rattle.flat.specs.Words.{layout, stepWords}
-use Rattle.flat.proofs.Words.{layout-length}
+use Rattle.flat.specs.Words.{stepOf, stepsIn, bodyWords, listWords, Says}
 use Rattle.exec.specs.Paid.{reach}
-use Rattle.exec.specs.Lists.{decoded, isNear, FlatWords, ListOf}
+use Rattle.exec.specs.Lists.{isNear, FlatWords, NearWords}
 
 module _ (k a b c : ℕ) where
-  pub is-primitive : k ≡ 0 → Primitive a ≡ decoded k a b c
-  unfolding decoded
+  pub is-primitive : k ≡ 0 → Primitive a ≡ stepOf (k, (a, (b, c)))
   is-primitive e = rw e
 
-  pub is-wait : k ≡ 1 → Wait a ≡ decoded k a b c
-  unfolding decoded
+  pub is-wait : k ≡ 1 → Wait a ≡ stepOf (k, (a, (b, c)))
   is-wait e = rw e
 
-  pub is-branch : k ≡ 2 → Branch a b c ≡ decoded k a b c
-  unfolding decoded
+  pub is-branch : k ≡ 2 → Branch a b c ≡ stepOf (k, (a, (b, c)))
   is-branch e = rw e
 
-  pub is-after : k ≡ 3 → After a b ≡ decoded k a b c
-  unfolding decoded
+  pub is-after : k ≡ 3 → After a ≡ stepOf (k, (a, (b, c)))
   is-after e = rw e
 
-  pub is-fail : (k ≡ 0 → ⊥) → (k ≡ 1 → ⊥) → (k ≡ 2 → ⊥) → (k ≡ 3 → ⊥) → Fail ≡ decoded k a b c
-  unfolding decoded
-  is-fail n0 n1 n2 n3 =
-      let h : 4 ≤ k = omega arith in
-      sym (List·getD-eq-default (Primitive a ∷ Wait a ∷ Branch a b c ∷ After a b ∷ []) Fail h)
+  pub is-fail : (k ≡ 0 → ⊥) → (k ≡ 1 → ⊥) → (k ≡ 2 → ⊥) → (k ≡ 3 → ⊥) → Fail ≡ stepOf (k, (a, (b, c)))
+  is-fail n0 n1 n2 n3 = rw (ne-eqb k 0 n0, ne-eqb k 1 n1, ne-eqb k 2 n2, ne-eqb k 3 n3)
 
 -- ---- the step at a place
-shift : (x : Step) (l : List ℕ) (i : ℕ) → getD (stepWords x ++ l) (suc (suc (suc (suc i)))) 0 ≡ getD l i 0
-shift (Primitive k) l i = refl
-shift (Wait ms) l i = refl
-shift (Branch q t n) l i = refl
-shift (After ms n) l i = refl
-shift Fail l i = refl
+-- the four words of row p
+abbrev rowAt : List ℕ → ℕ → ℕ × (ℕ × (ℕ × ℕ))
+rowAt w p = (getD w (p * 4) 0, (getD w (p * 4 + 1) 0, (getD w (p * 4 + 2) 0, getD w (p * 4 + 3) 0)))
 
-first : (x : Step) (l : List ℕ) → x ≡ decoded (getD (stepWords x ++ l) 0 0) (getD (stepWords x ++ l) 1 0) (getD (stepWords x ++ l) 2 0) (getD (stepWords x ++ l) 3 0)
-unfolding decoded
-first (Primitive k) l = refl
-first (Wait ms) l = refl
-first (Branch q t n) l = refl
-first (After ms n) l = refl
-first Fail l = refl
+first-row : (w : List ℕ) → stepRow .get w ≡ rowAt w 0
+first-row [] = refl
+first-row (a ∷ []) = refl
+first-row (a ∷ (b ∷ [])) = refl
+first-row (a ∷ (b ∷ (c ∷ []))) = refl
+first-row (a ∷ (b ∷ (c ∷ (d ∷ w)))) = refl
 
-there : (xs : List Step) (p : ℕ) → p * 4 + 4 ≤ length (layout xs) → some (decoded (getD (layout xs) (p * 4) 0) (getD (layout xs) (p * 4 + 1) 0) (getD (layout xs) (p * 4 + 2) 0) (getD (layout xs) (p * 4 + 3) 0)) ≡ getElem? xs p
-there [] p h = absurd (none-there h)
-  where
-    none-there : p * 4 + 4 ≤ 0 → ⊥
-    none-there g = omega arith
-there (x ∷ xs) zero h = ap some (sym (first x (layout xs)))
-there (x ∷ xs) (suc p) h =
-    let e0 : suc p * 4 ≡ suc (suc (suc (suc (p * 4)))) = omega arith in
-    let e1 : suc p * 4 + 1 ≡ suc (suc (suc (suc (p * 4 + 1)))) = omega arith in
-    let e2 : suc p * 4 + 2 ≡ suc (suc (suc (suc (p * 4 + 2)))) = omega arith in
-    let e3 : suc p * 4 + 3 ≡ suc (suc (suc (suc (p * 4 + 3)))) = omega arith in
-    let more : p * 4 + 4 ≤ length (layout xs) = omega (arith, layout-length (x ∷ xs), layout-length xs) in
-    rw (e1, e2, e3, e0, shift x (layout xs) (p * 4), shift x (layout xs) (p * 4 + 1), shift x (layout xs) (p * 4 + 2), shift x (layout xs) (p * 4 + 3)) (there xs p more)
+next-row : (w : List ℕ) (p : ℕ) → rowAt (drop 4 w) p ≡ rowAt w (suc p)
+next-row w p =
+    let e0 : 4 + p * 4 ≡ suc p * 4 = omega arith in
+    let e1 : 4 + (p * 4 + 1) ≡ suc p * 4 + 1 = omega arith in
+    let e2 : 4 + (p * 4 + 2) ≡ suc p * 4 + 2 = omega arith in
+    let e3 : 4 + (p * 4 + 3) ≡ suc p * 4 + 3 = omega arith in
+    rw (getD-drop 4 w (p * 4) 0, getD-drop 4 w (p * 4 + 1) 0, getD-drop 4 w (p * 4 + 2) 0, getD-drop 4 w (p * 4 + 3) 0, e1, e2, e3, e0)
 
-beyond : (xs : List Step) (p : ℕ) → length xs ≤ p → none ≡ getElem? xs p
+row-there : (n p : ℕ) (w : List ℕ) → p < n → some (rowAt w p) ≡ getElem? (rowsAt stepRow n w) p
+unfolding rowsAt
+row-there zero p w h = absurd (not-suc-le-zero h)
+row-there (suc n) zero w h = ap some (sym (first-row w))
+row-there (suc n) (suc p) w h = ap some (sym (next-row w p)) ∙ row-there n p (drop 4 w) (omega arith)
+
+rows-count : (n : ℕ) (w : List ℕ) → length (rowsAt stepRow n w) ≡ n
+unfolding rowsAt
+rows-count zero w = refl
+rows-count (suc n) w = ap suc (rows-count n (drop 4 w))
+
+steps-count : (w : List ℕ) → length (stepsIn w) ≡ length w / 4
+unfolding stepsIn
+steps-count w = length-map (rowsAt stepRow (length w / 4) w) stepOf ∙ rows-count (length w / 4) w
+
+map-there : {A B : Type 0} (f : A → B) (xs : List A) (p : ℕ) (x : A) → some x ≡ getElem? xs p → some (f x) ≡ getElem? (map f xs) p
+map-there f [] p x e = cc
+map-there f (y ∷ ys) zero x e = let q : x ≡ y = cc in ap (λ z. some (f z)) q
+map-there f (y ∷ ys) (suc p) x e = map-there f ys p x e
+
+beyond : {A : Type 0} (xs : List A) (p : ℕ) → length xs ≤ p → none ≡ getElem? xs p
 beyond [] p h = refl
 beyond (x ∷ xs) zero h = absurd (not-suc-le-zero h)
 beyond (x ∷ xs) (suc p) h = beyond xs p (omega arith)
 
-module _ (w : List ℕ) (p : ℕ) (xs : List Step) (e : w ≡ layout xs) where
-  pub step-there :
-      (x : Step) → p * 4 + 4 ≤ length w → x ≡ decoded (getD w (p * 4) 0) (getD w (p * 4 + 1) 0) (getD w (p * 4 + 2) 0) (getD w (p * 4 + 3) 0)
-      → some x ≡ getElem? xs p
-  step-there x h d = ap some d ∙ rw e (there xs p (rw e at h))
+module _ (w : List ℕ) (p : ℕ) where
+  pub step-there : (x : Step) → p * 4 + 4 ≤ length w → x ≡ stepOf (rowAt w p) → some x ≡ getElem? (stepsIn w) p
+  unfolding stepsIn
+  step-there x h d = ap some d ∙ map-there stepOf (rowsAt stepRow (length w / 4) w) p (rowAt w p) (row-there (length w / 4) p w (omega arith))
 
-  pub step-past : length w < p * 4 + 4 → none ≡ getElem? xs p
-  step-past h = beyond xs p (omega (arith, layout-length xs, ap length e))
-
--- ---- the list of a run
-module _ (w : List ℕ) (list : ℕ) (xs : List Step) where
-  pub own-list : list ≡ 0 → w ≡ layout xs → w ≡ layout (listIn xs list)
-  unfolding listIn
-  own-list h e = rw h e
-
-  pub body-list : (r : List ℕ) → (list ≡ 0 → ⊥) → r ≡ layout (listIn xs (suc (list - 1))) → r ≡ layout (listIn xs list)
-  body-list r h e = let one : suc (list - 1) ≡ list = omega arith in rw one at e
+  pub step-past : length w < p * 4 + 4 → none ≡ getElem? (stepsIn w) p
+  step-past h = beyond (stepsIn w) p (omega (arith, steps-count w))
 
 -- ---- what flattening gives
-all-drop : (n : ℕ) (xs : List Step) → all isNear xs ≡ true → all isNear (drop n xs) ≡ true
-all-drop zero xs h = h
-all-drop (suc n) [] h = refl
-all-drop (suc n) (x ∷ xs) h = all-drop n xs (both (isNear x) (all isNear xs) h .1)
+pub said : (w : List ℕ) (own : ℕ) (xs : List FlatStep) → Says w own xs → (n : ℕ) → stepsIn (listWords w own n) ≡ listIn xs n
+unfolding Says
+said w own xs s n = s n
 
-all-take : (n : ℕ) (xs : List Step) → all isNear xs ≡ true → all isNear (take n xs) ≡ true
-all-take zero xs h = refl
-all-take (suc n) [] h = refl
-all-take (suc n) (x ∷ xs) h =
-    let p = both (isNear x) (all isNear xs) h in
-    rw (p .0) (all-take n xs (p .1))
+list-few : (w : List ℕ) (own n : ℕ) → length (listWords w own n) ≤ length w
+unfolding bodyWords
+list-few w own zero = omega (arith, length-drop (own * 4) w)
+list-few w own (suc p) =
+    let i = own + p in
+    part (leb (suc i * 4) (length w) && eqb (getD w (i * 4) 0) 3) (getD w (i * 4 + 3) 0 * 4) (getD w (i * 4 + 2) 0 * 4)
+  where
+    part : (t : Bool) (k m : ℕ) → length (cond t (take k (drop m w)) []) ≤ length w
+    part true k m = omega (arith, length-take k (drop m w), length-drop m w)
+    part false k m = omega arith
 
-list-near : (list : ℕ) (xs : List Step) → all isNear xs ≡ true → all isNear (listIn xs list) ≡ true
-unfolding listIn
-list-near zero xs h = h
-list-near (suc p) xs h = all-take (bodyLen (getElem? xs p)) (drop (suc p) xs) (all-drop (suc p) xs h)
-
-list-few : (list : ℕ) (xs : List Step) → length xs ≤ 2048 → length (listIn xs list) ≤ 2048
-unfolding listIn
-list-few zero xs h = h
-list-few (suc p) xs h = omega (arith, length-take (bodyLen (getElem? xs p)) (drop (suc p) xs), length-drop (suc p) xs)
-
-pub flat-list : (w r : List ℕ) (list : ℕ) → FlatWords w → ListOf w list r → FlatWords r
-flat-list w r list f l =
+pub near-list : (w : List ℕ) (own n : ℕ) (r : List ℕ) → FlatWords w own → r ≡ listWords w own n → NearWords r
+near-list w own n r f e =
     record {
-      steps = listIn (f .steps) list;
-      words = l (f .steps) (f .words);
-      few = list-few list (f .steps) (f .few);
-      near = list-near list (f .steps) (f .near);
+      few = omega (arith, list-few w own n, ap length e, f .few);
+      near = ap (λ (l : List ℕ). all isNear (stepsIn l)) e ∙ ap (all isNear) (said w own (f .steps) (f .says) n) ∙ f .near n;
     }
 
 near-at : (xs : List Step) (p : ℕ) (x : Step) → all isNear xs ≡ true → some x ≡ getElem? xs p → (p < length xs) × (reach x ≤ 2048)
@@ -140,7 +128,7 @@ near-at (y ∷ ys) (suc p) x h e =
     (omega (arith, q .0), q .1)
 
 -- a step that was found stands below 2,048, and leads no further
-pub found-near : (w : List ℕ) (p : ℕ) (x : Step) → (f : FlatWords w) → some x ≡ getElem? (f .steps) p → (p < 2048) × (reach x ≤ 2048)
+pub found-near : (w : List ℕ) (p : ℕ) (x : Step) → NearWords w → some x ≡ getElem? (stepsIn w) p → (p < 2048) × (reach x ≤ 2048)
 found-near w p x f e =
-    let q = near-at (f .steps) p x (f .near) e in
-    (omega (arith, q .0, f .few), q .1)
+    let q = near-at (stepsIn w) p x (f .near) e in
+    (omega (arith, q .0, f .few, steps-count w), q .1)

@@ -6,33 +6,34 @@ use mathlib.Core.Path.{_≡_, refl, sym, ap, subst, _∙_}
 use mathlib.Core.Bool.{Bool, true, false}
 use mathlib.Core.List.{List, []}
 use mathlib.Core.Option.{Option, none, some}
-use lib.ListN.{length, set, getD, getElem?, length-append}
+use lib.ListN.{length, getD, length-append}
 use Rattle.model.specs.Actions as actions
 use Rattle.model.specs.Dry.{nextStep, found, dryStep, dryBranch, dryTurn, runStepsDry, unpaidDry, DryStepResult}
 use Rattle.model.specs.Eval.{conditionAt}
 use Rattle.model.specs.Exec.{firstReason}
-use Rattle.model.specs.Flat.{listIn, stepAt}
+use Rattle.model.specs.Flat.{stepAt}
 use Rattle.model.specs.Lists.{toList, orElse, present}
-use Rattle.model.specs.State.{Env, Rest}
+use Rattle.model.specs.State.{Env, Rest, withRest}
+use Rattle.model.specs.Steps.{FlatStep}
 use Rattle.model.specs.declared.Effect.{Effect}
 use Rattle.model.specs.declared.Point.{Point}
 use Rattle.model.specs.declared.Step.{Step}
 use Rattle.model.specs.declared.Step.the-variants.{Primitive, Wait, Branch, After, Fail}
-use Rattle.flat.specs.Words.{layout}
-use Rattle.exec.specs.Lists.{StepAt, ListOf, stepOption}
-use Rattle.model.specs.State.{withRest}
+use Rattle.flat.specs.Words.{Says}
 use Rattle.state.specs.Meaning.{Sound, meaning}
 use Rattle.state.specs.declared.Volatile.{Volatile}
 use Rattle.eval.specs.Answers.{envOf}
 use Rattle.exec.specs.Results.{effectOption, jobOf}
 use Rattle.exec.specs.PutEffects.{putEffects}
+use Rattle.exec.specs.Lists.{stepOption, stepIn}
 use Rattle.exec.specs.Runs.{Finished, finished}
-use Rattle.exec.specs.DryRuns.{bodiesOf, queuedBy, SameRun, Queues, HasStep, Moved, DrySteps, DryTaken, DryMachine, dryMachine, finishDry, leftDry, DryTurned, DryFinishes, RunsDry}
+use Rattle.exec.specs.DryRuns.{bodiesOf, queuedBy, SameRun, Queues, Moved, DrySteps, DryTaken, DryMachine, dryMachine, finishDry, leftDry, DryTurned, DryFinishes, RunsDry}
 use Rattle.exec.specs.declared.Job.{Job}
 use Rattle.exec.specs.declared.RunResult.{RunResult}
 use Rattle.exec.specs.declared.StepResult.{StepResult}
 use Rattle.exec.proofs.Written.{put-append}
 use Rattle.exec.proofs.Going.{few, reason-none, reason-assoc}
+use Rattle.exec.proofs.DryQueue.{is-step}
 use Rattle.exec.specs.declared.DryRun.{DryRun}
 use Rattle.exec.specs.declared.MaybeStep.{MaybeStep}
 use Rattle.exec.specs.declared.MaybeStep.the-variants.{Nothing, One}
@@ -48,7 +49,7 @@ step-bodies e j (Branch c t n) sp qs s = go (conditionAt e s c)
     go (some true) = refl
     go (some false) = refl
     go none = refl
-step-bodies e j (After ms n) sp qs s = refl
+step-bodies e j (After ms) sp qs s = refl
 step-bodies e j Fail sp qs s = refl
 
 -- a paid step is taken over
@@ -98,14 +99,13 @@ taken-is run q r x words exit d y k t s z =
     let w : exit ≡ putEffects words (run .count) (toList (y .effect)) = t .written ∙ ap (λ (i : ℕ). putEffects words i (toList (effectOption (d .effect)))) (k .same .count) ∙ ap (λ (o : Option Effect). putEffects words (run .count) (toList o)) (s .effect) in
     rw (v, s .state .says, n, b, a, c, w)
 
-module _ (snapshot image rule list : List ℕ) (job : Job) (run r : DryRun) (words : List ℕ) (m : MaybeStep) (moved : Moved rule run r) (of : ListOf rule (r .point .list) list) (at : StepAt list (r .point .place) m) where
-  here : (flat : List (List Step)) → rule ≡ layout (getD flat (job .index) []) → stepOption m ≡ getElem? (listIn (getD flat (job .index) []) (r .point .list)) (r .point .place)
-  here flat e = at (listIn (getD flat (job .index) []) (r .point .list)) (of (getD flat (job .index) []) e)
+module _ (snapshot image part : List ℕ) (own : ℕ) (job : Job) (run r : DryRun) (words : List ℕ) (m : MaybeStep) (moved : Moved part own run r) (at : stepOption m ≡ stepIn part own (r .point)) where
+  here : (flat : List (List FlatStep)) → Says part own (getD flat (job .index) []) → stepOption m ≡ stepAt (envOf snapshot image flat .set) (job .index) (r .point)
+  here flat e = at ∙ is-step part own (r .point) (envOf snapshot image flat) (jobOf job) e
 
   pub turn-ends-dry :
       m ≡ Nothing → Sound (run .vol)
-      → DryTurned snapshot image rule job run words (record { vol = r .vol; point = r .point; bodies = r .bodies; first = r .first; queued = r .queued; reason = r .reason; count = r .count; ended = true }) words
-  unfolding stepAt
+      → DryTurned snapshot image part own job run words (record { vol = r .vol; point = r .point; bodies = r .bodies; first = r .first; queued = r .queued; reason = r .reason; count = r .count; ended = true }) words
   turn-ends-dry n s =
       record {
         says = λ flat b e g.
@@ -123,9 +123,8 @@ module _ (snapshot image rule list : List ℕ) (job : Job) (run r : DryRun) (wor
 
   pub turn-steps-dry :
       (x : Step) (d : StepResult) (q f : DryRun) (exit : List ℕ) → m ≡ One x
-      → ((flat : List (List Step)) (qs : List Point) → DrySteps (r .vol) d (dryStep (envOf snapshot image flat) (jobOf job) x (r .point) qs (meaning (r .vol) .rest)))
-      → Queues r x q → DryTaken q words d f exit → DryTurned snapshot image rule job run words f exit
-  unfolding stepAt
+      → ((flat : List (List FlatStep)) (qs : List Point) → DrySteps (r .vol) d (dryStep (envOf snapshot image flat) (jobOf job) x (r .point) qs (meaning (r .vol) .rest)))
+      → Queues r x q → DryTaken q words d f exit → DryTurned snapshot image part own job run words f exit
   turn-steps-dry x d q f exit n s k t =
       record {
         says = λ flat b e g.
@@ -167,8 +166,8 @@ unpaid-some : (o : Option Step) (p : Point) (qs : List Point) → true ≡ prese
 unpaid-some none p qs h = cc
 unpaid-some (some x) p qs h = refl
 
-module _ (rule : List ℕ) (run : DryRun) (r : RunResult) (same : r .vol ≡ run .vol) (counted : r .count ≡ run .count) where
-  pub finish-ended-dry : run .ended ≡ true → r .reason ≡ run .reason → DryFinishes rule run r
+module _ (part : List ℕ) (own : ℕ) (run : DryRun) (r : RunResult) (same : r .vol ≡ run .vol) (counted : r .count ≡ run .count) where
+  pub finish-ended-dry : run .ended ≡ true → r .reason ≡ run .reason → DryFinishes part own run r
   finish-ended-dry h q =
       record {
         says = λ w e j l. rw (same, counted, q) (left-over e j (dryMachine run w) ∙ ap (λ (t : Bool). leftDry t 0 e j (dryMachine run w)) (sym h));
@@ -176,8 +175,8 @@ module _ (rule : List ℕ) (run : DryRun) (r : RunResult) (same : r .vol ≡ run
         counted = counted;
       }
 
-  module _ (q : DryRun) (moved : Moved rule run q) (goes : run .ended ≡ false) where
-    unpaid-is : ((e : Env) (j : actions.Job) → rule ≡ layout (getD (e .set .flat) (j .index) []) → r .reason ≡ firstReason (run .reason) (unpaidDry (nextStep e j (run .point) (bodiesOf run)))) → DryFinishes rule run r
+  module _ (q : DryRun) (moved : Moved part own run q) (goes : run .ended ≡ false) where
+    unpaid-is : ((e : Env) (j : actions.Job) → Says part own (getD (e .set .flat) (j .index) []) → r .reason ≡ firstReason (run .reason) (unpaidDry (nextStep e j (run .point) (bodiesOf run)))) → DryFinishes part own run r
     unpaid-is k =
         record {
           says = λ w e j l.
@@ -187,29 +186,27 @@ module _ (rule : List ℕ) (run : DryRun) (r : RunResult) (same : r .vol ≡ run
           counted = counted;
         }
 
-    pub finish-left-dry : HasStep rule (q .point) true → r .reason ≡ firstReason (run .reason) 2 → DryFinishes rule run r
-    unfolding stepAt
+    pub finish-left-dry : true ≡ present (stepIn part own (q .point)) → r .reason ≡ firstReason (run .reason) 2 → DryFinishes part own run r
     finish-left-dry h z =
         unpaid-is
         (λ e j l.
         z
         ∙ ap (firstReason (run .reason))
-        (sym (ap unpaidDry (moved .says e j l) ∙ unpaid-some (stepAt (e .set) (j .index) (q .point)) (q .point) (bodiesOf q) (h (getD (e .set .flat) (j .index) []) l))))
+        (sym (ap unpaidDry (moved .says e j l) ∙ unpaid-some (stepAt (e .set) (j .index) (q .point)) (q .point) (bodiesOf q) (h ∙ ap present (is-step part own (q .point) e j l)))))
 
-    pub finish-past-dry : HasStep rule (q .point) false → r .reason ≡ run .reason → DryFinishes rule run r
-    unfolding stepAt
+    pub finish-past-dry : false ≡ present (stepIn part own (q .point)) → r .reason ≡ run .reason → DryFinishes part own run r
     finish-past-dry h z =
         unpaid-is
         (λ e j l.
         z
         ∙ sym (reason-none (run .reason))
         ∙ ap (firstReason (run .reason))
-        (sym (ap unpaidDry (moved .says e j l) ∙ unpaid-none (stepAt (e .set) (j .index) (q .point)) (q .point) (bodiesOf q) (h (getD (e .set .flat) (j .index) []) l))))
+        (sym (ap unpaidDry (moved .says e j l) ∙ unpaid-none (stepAt (e .set) (j .index) (q .point)) (q .point) (bodiesOf q) (h ∙ ap present (is-step part own (q .point) e j l)))))
 
 -- ---- the loop
-pub record GoingDry (snapshot image rule : List ℕ) (job : Job) (budget : ℕ) (run₀ : DryRun) (w₀ : List ℕ) (run : DryRun) (w : List ℕ) (left : ℕ) : Type 0 where
+pub record GoingDry (snapshot image part : List ℕ) (own : ℕ) (job : Job) (budget : ℕ) (run₀ : DryRun) (w₀ : List ℕ) (run : DryRun) (w : List ℕ) (left : ℕ) : Type 0 where
   pub says :
-      (flat : List (List Step)) → rule ≡ layout (getD flat (job .index) [])
+      (flat : List (List FlatStep)) → Says part own (getD flat (job .index) [])
       → leftDry (run .ended) left (envOf snapshot image flat) (jobOf job) (dryMachine run w) ≡ leftDry false budget (envOf snapshot image flat) (jobOf job) (dryMachine run₀ w₀)
   pub sound : Sound (run .vol)
   pub based : run .vol .«next_seq» ≡ run₀ .vol .«next_seq»
@@ -219,10 +216,10 @@ pub record GoingDry (snapshot image rule : List ℕ) (job : Job) (budget : ℕ) 
   pub long : length w ≡ length w₀
 
 module _
-    (snapshot image rule : List ℕ) (job : Job) (budget : ℕ) (run₀ : DryRun) (w₀ : List ℕ) (run : DryRun) (w : List ℕ) (left : ℕ)
-    (inv : GoingDry snapshot image rule job budget run₀ w₀ run w left)
+    (snapshot image part : List ℕ) (own : ℕ) (job : Job) (budget : ℕ) (run₀ : DryRun) (w₀ : List ℕ) (run : DryRun) (w : List ℕ) (left : ℕ)
+    (inv : GoingDry snapshot image part own job budget run₀ w₀ run w left)
   where
-    pub again-dry : (r : DryRun) (exit : List ℕ) → 0 < left → run .ended ≡ false → length exit ≡ length w → DryTurned snapshot image rule job run w r exit → GoingDry snapshot image rule job budget run₀ w₀ r exit (left - 1)
+    pub again-dry : (r : DryRun) (exit : List ℕ) → 0 < left → run .ended ≡ false → length exit ≡ length w → DryTurned snapshot image part own job run w r exit → GoingDry snapshot image part own job budget run₀ w₀ r exit (left - 1)
     again-dry r exit h n l t =
         record {
           says = λ flat e.
@@ -242,10 +239,10 @@ module _
         one = omega arith
 
     module _
-        (r : RunResult) (fresh : run₀ .reason ≡ 0) (f : DryFinishes rule run r)
+        (r : RunResult) (fresh : run₀ .reason ≡ 0) (f : DryFinishes part own run r)
         (spent : (e : Env) (m : DryMachine) → leftDry (run .ended) 0 e (jobOf job) m ≡ leftDry (run .ended) left e (jobOf job) m)
       where
-        whole : (flat : List (List Step)) → rule ≡ layout (getD flat (job .index) []) → finished r w ≡ leftDry false budget (envOf snapshot image flat) (jobOf job) (dryMachine run₀ w₀)
+        whole : (flat : List (List FlatStep)) → Says part own (getD flat (job .index) []) → finished r w ≡ leftDry false budget (envOf snapshot image flat) (jobOf job) (dryMachine run₀ w₀)
         whole flat e = f .says w (envOf snapshot image flat) (jobOf job) e ∙ spent (envOf snapshot image flat) (dryMachine run w) ∙ inv .says flat e
 
         stays-sound : Sound (r .vol)
@@ -254,7 +251,7 @@ module _
         counts-on : r .vol .«next_seq» ≡ run₀ .vol .«next_seq»
         counts-on = ap (λ (u : Volatile). u .«next_seq») (f .same) ∙ inv .based
 
-        pub ends-dry : bodiesOf run₀ ≡ [] → RunsDry snapshot image rule job (run₀ .vol) (run₀ .point) budget (run₀ .count) w₀ r w
+        pub ends-dry : bodiesOf run₀ ≡ [] → RunsDry snapshot image part own job (run₀ .vol) (run₀ .point) budget (run₀ .count) w₀ r w
         unfolding leftDry finishDry
         ends-dry z =
             record {

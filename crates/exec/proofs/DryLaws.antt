@@ -125,6 +125,6 @@ module _ (e : Env) (j : Job) (b : ℕ) (sp : Point) (v : Volatile) (r : StepResu
   unfolding dryStep
   wait-dry ms to h s = record { state = s .state; effect = s .effect; reason = s .reason; next = s .next ∙ ap some h }
 
-  pub after-dry : (ms n : ℕ) (to : Point) → to ≡ advance sp n → GoesOn v to r → DrySteps v r (dryStep e j (After ms n) sp qs (meaning v .rest))
+  pub after-dry : (ms : ℕ) (to : Point) → to ≡ advance sp 0 → GoesOn v to r → DrySteps v r (dryStep e j (After ms) sp qs (meaning v .rest))
   unfolding dryStep
-  after-dry ms n to h s = record { state = s .state; effect = s .effect; reason = s .reason; next = s .next ∙ ap some h }
+  after-dry ms to h s = record { state = s .state; effect = s .effect; reason = s .reason; next = s .next ∙ ap some h }

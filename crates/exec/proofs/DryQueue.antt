@@ -6,26 +6,27 @@ use mathlib.Core.Path.{_≡_, refl, sym, ap, _∙_}
 use mathlib.Core.Bool.{true, false}
 use mathlib.Core.List.{List, [], _∷_, _++_, map}
 use mathlib.Core.Option.{Option, none, some}
-use lib.ListN.{length, take, drop, set, getD, length-take, drop-of-length-le}
+use lib.ListN.{length, take, drop, set, getD, getElem?, length-take, drop-of-length-le}
 use lib.Seq.{take-suc-set, drop-append-le, drop-cons, getD-take, length-take-le}
 use types.Run.{OneOf, miss}
 use denote.Enum.Declared.{tagOf}
 use Rattle.model.proofs.Step.{the-type}
 use Rattle.model.specs.Actions as actions
 use Rattle.model.specs.Dry.{nextStep, found, NextStep}
-use Rattle.model.specs.Flat.{listIn, stepAt}
+use Rattle.model.specs.Flat.{stepAt}
 use Rattle.model.specs.Lists.{present}
 use Rattle.model.specs.State.{Env}
 use Rattle.model.specs.declared.Point.{Point}
 use Rattle.model.specs.declared.Step.{Step}
 use Rattle.model.specs.declared.Step.the-variants.{Primitive, Wait, Branch, After, Fail}
-use Rattle.flat.specs.Words.{layout}
-use Rattle.exec.specs.Lists.{StepAt, ListOf, stepOption}
-use Rattle.exec.specs.DryRuns.{bodyPoint, bodiesOf, queuedBy, SameRun, Queues, HasStep, Moved}
+use Rattle.flat.specs.Words.{stepsIn, listWords, Says}
+use Rattle.exec.specs.Lists.{stepOption, stepIn}
+use Rattle.exec.specs.DryRuns.{bodyPoint, bodiesOf, queuedBy, SameRun, Queues, Moved}
 use Rattle.exec.specs.declared.Job.{Job}
 use Rattle.exec.specs.declared.DryRun.{DryRun}
 use Rattle.exec.specs.declared.MaybeStep.{MaybeStep}
 use Rattle.exec.specs.declared.MaybeStep.the-variants.{Nothing, One}
+use Rattle.exec.proofs.Decoded.{said}
 
 -- ---- the queue
 map-append : (f : ℕ → Point) (xs ys : List ℕ) → map f (xs ++ ys) ≡ map f xs ++ map f ys
@@ -56,7 +57,7 @@ not-after : (x : Step) (sp : Point) (qs : List Point) → OneOf (0 ∷ 1 ∷ 2 �
 not-after (Primitive i) sp qs o = refl
 not-after (Wait ms) sp qs o = refl
 not-after (Branch c t n) sp qs o = refl
-not-after (After ms n) sp qs o = absurd (miss (0 ∷ 1 ∷ 2 ∷ 4 ∷ []) 3 tt o)
+not-after (After ms) sp qs o = absurd (miss (0 ∷ 1 ∷ 2 ∷ 4 ∷ []) 3 tt o)
 not-after Fail sp qs o = refl
 
 module _ (run : DryRun) (x : Step) (fits : run .first ≤ run .queued) where
@@ -71,7 +72,7 @@ module _ (run : DryRun) (x : Step) (fits : run .first ≤ run .queued) where
       }
 
   pub queue-after :
-      (ms n : ℕ) → x ≡ After ms n → run .queued < length (run .bodies)
+      (ms : ℕ) → x ≡ After ms → run .queued < length (run .bodies)
       → Queues run x
       (record {
         vol = run .vol;
@@ -83,7 +84,7 @@ module _ (run : DryRun) (x : Step) (fits : run .first ≤ run .queued) where
         count = run .count;
         ended = run .ended;
       })
-  queue-after ms n e h =
+  queue-after ms e h =
       record {
         says = push (run .bodies) (run .first) (run .queued) (run .point .place + 1) fits h ∙ rw (e, add-one);
         point = refl;
@@ -93,11 +94,21 @@ module _ (run : DryRun) (x : Step) (fits : run .first ≤ run .queued) where
       }
 
 -- ---- the next step
-pub has-none : (rule list : List ℕ) (p : Point) (m : MaybeStep) → ListOf rule (p .list) list → StepAt list (p .place) m → m ≡ Nothing → HasStep rule p false
-has-none rule list p m l s n xs e = ap present (sym (ap stepOption n) ∙ s (listIn xs (p .list)) (l xs e))
+module _ (part : List ℕ) (own : ℕ) (list : List ℕ) (p : Point) (m : MaybeStep) (of : list ≡ listWords part own (p .list)) (at : stepOption m ≡ getElem? (stepsIn list) (p .place)) where
+  -- the step at the point is what the code found
+  pub is-found : stepOption m ≡ stepIn part own p
+  is-found = at ∙ ap (λ (w : List ℕ). getElem? (stepsIn w) (p .place)) of
 
-pub has-one : (rule list : List ℕ) (p : Point) (m : MaybeStep) (x : Step) → ListOf rule (p .list) list → StepAt list (p .place) m → m ≡ One x → HasStep rule p true
-has-one rule list p m x l s n xs e = ap present (sym (ap stepOption n) ∙ s (listIn xs (p .list)) (l xs e))
+  pub has-none : m ≡ Nothing → false ≡ present (stepIn part own p)
+  has-none n = ap present (sym (ap stepOption n) ∙ is-found)
+
+  pub has-one : (x : Step) → m ≡ One x → true ≡ present (stepIn part own p)
+  has-one x n = ap present (sym (ap stepOption n) ∙ is-found)
+
+-- the step of the rule
+pub is-step : (part : List ℕ) (own : ℕ) (p : Point) (e : Env) (j : actions.Job) → Says part own (getD (e .set .flat) (j .index) []) → stepIn part own p ≡ stepAt (e .set) (j .index) p
+unfolding stepAt
+is-step part own p e j s = ap (λ (xs : List Step). getElem? xs (p .place)) (said part own (getD (e .set .flat) (j .index) []) s (p .list))
 
 found-none : (o : Option Step) (p : Point) (qs : List Point) (more : Option NextStep) → present o ≡ false → found o p qs more ≡ more
 found-none none p qs more h = refl
@@ -121,17 +132,17 @@ module _ (e : Env) (j : actions.Job) (p : Point) where
   unfolding nextStep
   next-last = refl
 
-pub record Moving (rule : List ℕ) (run r : DryRun) : Type 0 where
-  pub says : (e : Env) (j : actions.Job) → rule ≡ layout (getD (e .set .flat) (j .index) []) → nextStep e j (run .point) (bodiesOf run) ≡ nextStep e j (r .point) (bodiesOf r)
+pub record Moving (part : List ℕ) (own : ℕ) (run r : DryRun) : Type 0 where
+  pub says : (e : Env) (j : actions.Job) → Says part own (getD (e .set .flat) (j .index) []) → nextStep e j (run .point) (bodiesOf run) ≡ nextStep e j (r .point) (bodiesOf r)
   pub same : SameRun run r
   pub fits : r .first ≤ r .queued
   pub most : r .queued ≡ run .queued
   pub long : length (r .bodies) ≡ 256
 
-module _ (rule : List ℕ) (run r : DryRun) (inv : Moving rule run r) where
+module _ (part : List ℕ) (own : ℕ) (run r : DryRun) (inv : Moving part own run r) where
   pub moves :
-      r .first < r .queued → r .queued ≤ 256 → HasStep rule (r .point) false
-      → Moving rule run
+      r .first < r .queued → r .queued ≤ 256 → false ≡ present (stepIn part own (r .point))
+      → Moving part own run
       (record {
         vol = r .vol;
         point = bodyPoint (getD (r .bodies) (r .first) 0);
@@ -142,30 +153,28 @@ module _ (rule : List ℕ) (run r : DryRun) (inv : Moving rule run r) where
         count = r .count;
         ended = r .ended;
       })
-  unfolding stepAt
   moves h k n =
       record {
         says = λ e j l.
             inv .says e j l
             ∙ ap (nextStep e j (r .point)) (pop (r .bodies) (r .first) (r .queued) h (omega (arith, inv .long)))
-            ∙ next-pops e j (r .point) _ _ (sym (n (getD (e .set .flat) (j .index) []) l));
+            ∙ next-pops e j (r .point) _ _ (sym (n ∙ ap present (is-step part own (r .point) e j l)));
         same = record { vol = inv .same .vol; reason = inv .same .reason; count = inv .same .count; ended = inv .same .ended };
         fits = omega arith;
         most = inv .most;
         long = inv .long;
       }
 
-  pub stands : HasStep rule (r .point) true → Moved rule run r
-  unfolding stepAt
+  pub stands : true ≡ present (stepIn part own (r .point)) → Moved part own run r
   stands n =
       record {
-        says = λ e j l. inv .says e j l ∙ next-stands e j (r .point) (bodiesOf r) (sym (n (getD (e .set .flat) (j .index) []) l));
+        says = λ e j l. inv .says e j l ∙ next-stands e j (r .point) (bodiesOf r) (sym (n ∙ ap present (is-step part own (r .point) e j l)));
         same = inv .same;
         fits = inv .fits;
         most = inv .most;
       }
 
-  pub empties : r .queued ≤ r .first → Moved rule run r
+  pub empties : r .queued ≤ r .first → Moved part own run r
   empties h =
       record {
         says = λ e j l.

@@ -16,16 +16,17 @@ use Rattle.model.specs.Flat.{listIn, stepAt}
 use Rattle.model.specs.Lists.{toList, orElse, present}
 use Rattle.model.specs.State as model-state
 use Rattle.model.specs.State.{Env}
+use Rattle.model.specs.Steps.{FlatStep}
 use Rattle.model.specs.declared.Point.{Point}
 use Rattle.model.specs.declared.Step.{Step}
-use Rattle.flat.specs.Words.{layout}
+use Rattle.flat.specs.Words.{stepsIn, listWords, Says}
 use Rattle.state.specs.Meaning.{Sound, meaning}
 use Rattle.state.specs.declared.Volatile.{Volatile}
 use Rattle.eval.specs.Answers.{envOf}
 use Rattle.exec.specs.Results.{effectOption, jobOf}
 use Rattle.exec.specs.Paid.{Steps, nextOption}
 use Rattle.exec.specs.PutEffects.{putEffects}
-use Rattle.exec.specs.Lists.{StepAt, stepOption, ListOf}
+use Rattle.exec.specs.Lists.{stepOption}
 use Rattle.exec.specs.Runs.{Machine, machine, Finished, finished, finish, takeStep, turnWith, turnOf, leftOf, Taken, Turned, Finishes, Runs}
 use Rattle.exec.specs.declared.Job.{Job}
 use Rattle.exec.specs.declared.MaybeStep.{MaybeStep}
@@ -37,6 +38,7 @@ use Rattle.exec.specs.declared.RunResult.{RunResult}
 use Rattle.exec.specs.declared.StepResult.{StepResult}
 use Rattle.exec.proofs.Written.{put-append}
 use Rattle.exec.proofs.Bounds.{accepts-one, keeps-list}
+use Rattle.exec.proofs.Decoded.{said}
 
 -- a step emits at most one effect
 pub few : {A : Type 0} (o : Option A) → length (toList o) ≤ 1
@@ -109,13 +111,13 @@ taken-is : (run r : Run) (w exit : List ℕ) (d : StepResult) (v : Volatile) (x 
 unfolding takeStep
 taken-is run r w exit d v x t s = rw (t .vol, t .point, t .reason, t .count, t .written, t .ended, s .state .says, s .effect, s .reason, s .next)
 
-module _ (snapshot image list : List ℕ) (job : Job) (left : ℕ) (run : Run) (words : List ℕ) (found : MaybeStep) (at : StepAt list (run .point .place) found) where
+module _ (snapshot image list : List ℕ) (job : Job) (left : ℕ) (run : Run) (words : List ℕ) (found : MaybeStep) (at : stepOption found ≡ getElem? (stepsIn list) (run .point .place)) where
   pub turn-ends : found ≡ Nothing → Sound (run .vol) → Turned snapshot image list job left run words (record { vol = run .vol; point = run .point; reason = run .reason; count = run .count; ended = true }) words
   unfolding turnWith stepAt
   turn-ends n s =
       record {
         says = λ flat l.
-            let o : none ≡ getElem? (listIn (getD flat (job .index) []) (run .point .list)) (run .point .place) = sym (ap stepOption n) ∙ at (listIn (getD flat (job .index) []) (run .point .list)) l in
+            let o : none ≡ getElem? (listIn (getD flat (job .index) []) (run .point .list)) (run .point .place) = sym (ap stepOption n) ∙ at ∙ ap (λ (xs : List Step). getElem? xs (run .point .place)) l in
             rw (← o);
         sound = s;
         based = refl;
@@ -126,7 +128,7 @@ module _ (snapshot image list : List ℕ) (job : Job) (left : ℕ) (run : Run) (
 
   pub turn-steps :
       (x : Step) (d : StepResult) (r : Run) (exit : List ℕ) → found ≡ One x
-      → ((flat : List (List Step)) → Steps (run .vol) d (exec (envOf snapshot image flat) (jobOf job) left (run .point) x (meaning (run .vol))))
+      → ((flat : List (List FlatStep)) → Steps (run .vol) d (exec (envOf snapshot image flat) (jobOf job) left (run .point) x (meaning (run .vol))))
       → Taken run words d r exit → Turned snapshot image list job left run words r exit
   turn-steps x d r exit n s t =
       record {
@@ -138,15 +140,15 @@ module _ (snapshot image list : List ℕ) (job : Job) (left : ℕ) (run : Run) (
         sameList = ap (λ (p : Point). p .list) (t .point) ∙ keeps-list (envOf snapshot image []) (jobOf job) left (run .point) x (run .vol) d (s []);
       }
     where
-      steps : (flat : List (List Step)) → list ≡ layout (listIn (getD flat (job .index) []) (run .point .list)) → machine r exit ≡ turnOf (envOf snapshot image flat) (jobOf job) left (machine run words)
+      steps : (flat : List (List FlatStep)) → stepsIn list ≡ listIn (getD flat (job .index) []) (run .point .list) → machine r exit ≡ turnOf (envOf snapshot image flat) (jobOf job) left (machine run words)
       steps flat l =
-          let o : some x ≡ getElem? (listIn (getD flat (job .index) []) (run .point .list)) (run .point .place) = sym (ap stepOption n) ∙ at (listIn (getD flat (job .index) []) (run .point .list)) l in
+          let o : some x ≡ getElem? (listIn (getD flat (job .index) []) (run .point .list)) (run .point .place) = sym (ap stepOption n) ∙ at ∙ ap (λ (xs : List Step). getElem? xs (run .point .place)) l in
           taken-is run r words exit d (run .vol) _ t (s flat) ∙ turn-at (envOf snapshot image flat) (jobOf job) left (machine run words) x o
 
 -- ---- the loop
-pub record Going (snapshot image steps : List ℕ) (job : Job) (budget : ℕ) (run₀ : Run) (w₀ : List ℕ) (run : Run) (w : List ℕ) (left : ℕ) : Type 0 where
+pub record Going (snapshot image part : List ℕ) (own : ℕ) (job : Job) (budget : ℕ) (run₀ : Run) (w₀ : List ℕ) (run : Run) (w : List ℕ) (left : ℕ) : Type 0 where
   pub says :
-      (flat : List (List Step)) → steps ≡ layout (getD flat (job .index) [])
+      (flat : List (List FlatStep)) → Says part own (getD flat (job .index) [])
       → leftOf (run .ended) left (envOf snapshot image flat) (jobOf job) (machine run w) ≡ leftOf false budget (envOf snapshot image flat) (jobOf job) (machine run₀ w₀)
   pub sound : Sound (run .vol)
   pub based : run .vol .«next_seq» ≡ run₀ .vol .«next_seq»
@@ -156,13 +158,13 @@ pub record Going (snapshot image steps : List ℕ) (job : Job) (budget : ℕ) (r
   pub long : length w ≡ length w₀
 
 module _
-    (snapshot image steps list : List ℕ) (job : Job) (budget : ℕ) (run₀ : Run) (w₀ : List ℕ) (run : Run) (w : List ℕ) (left : ℕ)
-    (inv : Going snapshot image steps job budget run₀ w₀ run w left) (of : ListOf steps (run₀ .point .list) list)
+    (snapshot image part : List ℕ) (own : ℕ) (list : List ℕ) (job : Job) (budget : ℕ) (run₀ : Run) (w₀ : List ℕ) (run : Run) (w : List ℕ) (left : ℕ)
+    (inv : Going snapshot image part own job budget run₀ w₀ run w left) (of : list ≡ listWords part own (run₀ .point .list))
   where
-    here : (flat : List (List Step)) → steps ≡ layout (getD flat (job .index) []) → list ≡ layout (listIn (getD flat (job .index) []) (run .point .list))
-    here flat e = of (getD flat (job .index) []) e ∙ ap (λ (n : ℕ). layout (listIn (getD flat (job .index) []) n)) (sym (inv .sameList))
+    here : (flat : List (List FlatStep)) → Says part own (getD flat (job .index) []) → stepsIn list ≡ listIn (getD flat (job .index) []) (run .point .list)
+    here flat e = ap stepsIn of ∙ said part own (getD flat (job .index) []) e (run₀ .point .list) ∙ ap (listIn (getD flat (job .index) [])) (sym (inv .sameList))
 
-    pub again : (r : Run) (exit : List ℕ) → 0 < left → run .ended ≡ false → length exit ≡ length w → Turned snapshot image list job (left - 1) run w r exit → Going snapshot image steps job budget run₀ w₀ r exit (left - 1)
+    pub again : (r : Run) (exit : List ℕ) → 0 < left → run .ended ≡ false → length exit ≡ length w → Turned snapshot image list job (left - 1) run w r exit → Going snapshot image part own job budget run₀ w₀ r exit (left - 1)
     again r exit h n l t =
         record {
           says = λ flat e.
@@ -187,7 +189,7 @@ module _
         (r : RunResult) (fresh : run₀ .reason ≡ 0) (f : Finishes list run r)
         (spent : (e : Env) (m : Machine) → leftOf (run .ended) 0 e (jobOf job) m ≡ leftOf (run .ended) left e (jobOf job) m)
       where
-        whole : (flat : List (List Step)) → steps ≡ layout (getD flat (job .index) []) → finished r w ≡ leftOf false budget (envOf snapshot image flat) (jobOf job) (machine run₀ w₀)
+        whole : (flat : List (List FlatStep)) → Says part own (getD flat (job .index) []) → finished r w ≡ leftOf false budget (envOf snapshot image flat) (jobOf job) (machine run₀ w₀)
         whole flat e = f .says w (envOf snapshot image flat) (jobOf job) (here flat e) ∙ spent (envOf snapshot image flat) (machine run w) ∙ inv .says flat e
 
         stands : Sound (r .vol)
@@ -196,7 +198,7 @@ module _
         counts-on : r .vol .«next_seq» ≡ run₀ .vol .«next_seq»
         counts-on = ap (λ (u : Volatile). u .«next_seq») (f .same) ∙ inv .based
 
-        pub ends : Runs snapshot image steps job (run₀ .vol) (run₀ .point) budget (run₀ .count) w₀ r w
+        pub ends : Runs snapshot image part own job (run₀ .vol) (run₀ .point) budget (run₀ .count) w₀ r w
         unfolding leftOf finish
         ends =
             record {
@@ -230,14 +232,14 @@ module _ (list : List ℕ) (run : Run) (r : RunResult) (same : r .vol ≡ run .v
         counted = counted;
       }
 
-  module _ (found : MaybeStep) (at : StepAt list (run .point .place) found) (goes : run .ended ≡ false) where
+  module _ (found : MaybeStep) (at : stepOption found ≡ getElem? (stepsIn list) (run .point .place)) (goes : run .ended ≡ false) where
     pub finish-unpaid : ((o : Option Step) → stepOption found ≡ o → r .reason ≡ firstReason (run .reason) (unpaid o)) → Finishes list run r
     unfolding stepAt
     finish-unpaid q =
         record {
           says = λ w e j l.
               rw (same, counted)
-              (left-unpaid e j 0 (machine run w) (r .reason) (q _ (at (listIn (getD (e .set .flat) (j .index) []) (run .point .list)) l))
+              (left-unpaid e j 0 (machine run w) (r .reason) (q _ (at ∙ ap (λ (xs : List Step). getElem? xs (run .point .place)) l))
               ∙ ap (λ (t : Bool). leftOf t 0 e j (machine run w)) (sym goes));
           same = same;
           counted = counted;

@@ -60,10 +60,10 @@ module _ (e : Env) (j : actions.Job) (b : ℕ) (sp to : Point) (v : Volatile) wh
     wait-is t s = let u = rw t at s in record { state = u .0; effect = refl; reason = u .1; next = refl }
 
     pub after-is :
-        (n : ℕ) (body : Point) → body ≡ bodyStart sp → to ≡ advance sp n → (let x = schedule e j b ms body (meaning v) in Means w (v .«next_seq») (x .vol) × (reason ≡ x .reason))
-        → Steps v (record { vol = w; effect = Nothing; reason = reason; next = At to }) (exec e j b sp (After ms n) (meaning v))
+        (body : Point) → body ≡ bodyStart sp → to ≡ advance sp 0 → (let x = schedule e j b ms body (meaning v) in Means w (v .«next_seq») (x .vol) × (reason ≡ x .reason))
+        → Steps v (record { vol = w; effect = Nothing; reason = reason; next = At to }) (exec e j b sp (After ms) (meaning v))
     unfolding exec
-    after-is n body q t s = let u = rw q at s in record { state = u .0; effect = refl; reason = u .1; next = ap some t }
+    after-is body q t s = let u = rw q at s in record { state = u .0; effect = refl; reason = u .1; next = ap some t }
 
   module _ (c t n : ℕ) where
     pub then-is : some true ≡ conditionAt e (meaning v .rest) c → to ≡ enterThen sp t n → _≡_ {A = model.StepResult} (record { vol = meaning v; report = plain; effect = none; reason = 0; next = some to }) (exec e j b sp (Branch c t n) (meaning v))

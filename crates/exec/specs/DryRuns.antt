@@ -4,21 +4,21 @@ use mathlib.Core.Path.{_≡_}
 use mathlib.Core.Bool.{Bool, true, false}
 use mathlib.Core.List.{List, [], _∷_, _++_, map}
 use mathlib.Core.Option.{none, some}
-use lib.ListN.{length, getD, getElem?, take, drop}
+use lib.ListN.{length, getD, take, drop}
 use Rattle.words.specs.Saturating.{max32}
 use Rattle.model.specs.Actions as actions
 use Rattle.model.specs.Dry as model
 use Rattle.model.specs.Exec.{firstReason, bodyStart}
-use Rattle.model.specs.Flat.{listIn, stepAt}
-use Rattle.model.specs.Lists.{toList, orElse, present}
+use Rattle.model.specs.Flat.{stepAt}
+use Rattle.model.specs.Lists.{toList, orElse}
 use Rattle.model.specs.State as model-state
 use Rattle.model.specs.State.{Env, Rest, withRest}
-use Rattle.model.specs.Steps.{point}
+use Rattle.model.specs.Steps.{FlatStep, point}
 use Rattle.model.specs.declared.Jump.the-variants.{NoJump}
 use Rattle.model.specs.declared.Point.{Point}
 use Rattle.model.specs.declared.Step.{Step}
 use Rattle.model.specs.declared.Step.the-variants.{Primitive, Wait, Branch, After, Fail}
-use Rattle.flat.specs.Words.{layout}
+use Rattle.flat.specs.Words.{Says}
 use Rattle.state.specs.Meaning.{Sound, Means, meaning}
 use Rattle.state.specs.declared.Volatile.{Volatile}
 use Rattle.eval.specs.Answers.{envOf}
@@ -40,7 +40,7 @@ pub record DrySteps (v : Volatile) (r : StepResult) (d : model.DryStepResult) : 
 
 abbrev pub DryStepsIn : List ℕ → List ℕ → Job → Volatile → Point → Step → StepResult → Type 0
 DryStepsIn snapshot image j v sp x r =
-    (flat : List (List Step)) (qs : List Point) → DrySteps v r (model.dryStep (envOf snapshot image flat) (jobOf j) x sp qs (meaning v .rest))
+    (flat : List (List FlatStep)) (qs : List Point) → DrySteps v r (model.dryStep (envOf snapshot image flat) (jobOf j) x sp qs (meaning v .rest))
 
 -- a body begins at its first step; and the bodies that a queue of lists holds
 abbrev pub bodyPoint : ℕ → Point
@@ -54,7 +54,7 @@ abbrev pub queuedBy : Step → Point → List Point → List Point
 queuedBy (Primitive i) sp qs = qs
 queuedBy (Wait ms) sp qs = qs
 queuedBy (Branch c t n) sp qs = qs
-queuedBy (After ms n) sp qs = qs ++ (bodyStart sp ∷ [])
+queuedBy (After ms) sp qs = qs ++ (bodyStart sp ∷ [])
 queuedBy Fail sp qs = qs
 
 -- all but the point and the queue are as they were
@@ -71,13 +71,10 @@ pub record Queues (run : DryRun) (x : Step) (r : DryRun) : Type 0 where
   pub fits : r .first ≤ r .queued
   pub most : r .queued ≤ suc (run .queued)
 
-abbrev pub HasStep : List ℕ → Point → Bool → Type 0
-HasStep rule p r = (xs : List Step) → rule ≡ layout xs → r ≡ present (getElem? (listIn xs (p .list)) (p .place))
-
 -- the next step is the one at the point, or there is none
-pub record Moved (rule : List ℕ) (run r : DryRun) : Type 0 where
+pub record Moved (part : List ℕ) (own : ℕ) (run r : DryRun) : Type 0 where
   pub says :
-      (e : Env) (j : actions.Job) → rule ≡ layout (getD (e .set .flat) (j .index) [])
+      (e : Env) (j : actions.Job) → Says part own (getD (e .set .flat) (j .index) [])
       → model.nextStep e j (run .point) (bodiesOf run) ≡ model.found (stepAt (e .set) (j .index) (r .point)) (r .point) (bodiesOf r) none
   pub same : SameRun run r
   pub fits : r .first ≤ r .queued
@@ -124,9 +121,9 @@ unfoldable pub leftDry : Bool → ℕ → Env → actions.Job → DryMachine →
 leftDry true b e j m = finishDry m (noMore (m .vol .rest))
 leftDry false b e j m = finishDry m (model.runStepsDry b e j (m .point) (m .bodies) (m .vol .rest))
 
-pub record DryTurned (snapshot image rule : List ℕ) (job : Job) (run : DryRun) (words : List ℕ) (r : DryRun) (exit : List ℕ) : Type 0 where
+pub record DryTurned (snapshot image part : List ℕ) (own : ℕ) (job : Job) (run : DryRun) (words : List ℕ) (r : DryRun) (exit : List ℕ) : Type 0 where
   pub says :
-      (flat : List (List Step)) (b : ℕ) → rule ≡ layout (getD flat (job .index) []) → run .ended ≡ false
+      (flat : List (List FlatStep)) (b : ℕ) → Says part own (getD flat (job .index) []) → run .ended ≡ false
       → leftDry (r .ended) b (envOf snapshot image flat) (jobOf job) (dryMachine r exit) ≡ leftDry false (suc b) (envOf snapshot image flat) (jobOf job) (dryMachine run words)
   pub sound : Sound (r .vol)
   pub based : r .vol .«next_seq» ≡ run .vol .«next_seq»
@@ -134,9 +131,9 @@ pub record DryTurned (snapshot image rule : List ℕ) (job : Job) (run : DryRun)
   pub fits : r .first ≤ r .queued
   pub most : r .queued ≤ suc (run .queued)
 
-pub record DryFinishes (rule : List ℕ) (run : DryRun) (r : RunResult) : Type 0 where
+pub record DryFinishes (part : List ℕ) (own : ℕ) (run : DryRun) (r : RunResult) : Type 0 where
   pub says :
-      (w : List ℕ) (e : Env) (j : actions.Job) → rule ≡ layout (getD (e .set .flat) (j .index) [])
+      (w : List ℕ) (e : Env) (j : actions.Job) → Says part own (getD (e .set .flat) (j .index) [])
       → finished r w ≡ leftDry (run .ended) 0 e j (dryMachine run w)
   pub same : r .vol ≡ run .vol
   pub counted : r .count ≡ run .count
@@ -147,9 +144,9 @@ pub record DryReady (v : Volatile) (budget count : ℕ) : Type 0 where
   pub most : budget ≤ 256
   pub counts : count + budget ≤ max32
 
-pub record RunsDry (snapshot image rule : List ℕ) (job : Job) (v : Volatile) (from : Point) (budget count : ℕ) (words : List ℕ) (r : RunResult) (exit : List ℕ) : Type 0 where
+pub record RunsDry (snapshot image part : List ℕ) (own : ℕ) (job : Job) (v : Volatile) (from : Point) (budget count : ℕ) (words : List ℕ) (r : RunResult) (exit : List ℕ) : Type 0 where
   pub says :
-      (flat : List (List Step)) → rule ≡ layout (getD flat (job .index) [])
+      (flat : List (List FlatStep)) → Says part own (getD flat (job .index) [])
       → let o = model.runStepsDry budget (envOf snapshot image flat) (jobOf job) from [] (meaning v .rest) in
       Means (r .vol) (v .«next_seq») (withRest (o .rest) (meaning v)) × (r .reason ≡ o .reason) × (r .count ≡ count + length (o .effects)) × (exit ≡ putEffects words count (o .effects))
   pub sound : Sound (r .vol)

@@ -7,6 +7,7 @@ use Rattle.model.specs.Actions as actions
 use Rattle.model.specs.Exec as model
 use Rattle.model.specs.Outcome.{plain}
 use Rattle.model.specs.State.{Env}
+use Rattle.model.specs.Steps.{FlatStep}
 use Rattle.model.specs.declared.Point.{Point}
 use Rattle.model.specs.declared.Step.{Step}
 use Rattle.model.specs.declared.Step.the-variants.{Primitive, Wait, Branch, After, Fail}
@@ -29,7 +30,7 @@ abbrev pub reach : Step → ℕ
 reach (Primitive i) = 0
 reach (Wait ms) = 0
 reach (Branch c t n) = t + n
-reach (After ms n) = n
+reach (After ms) = 0
 reach Fail = 0
 
 -- from v the step came to r, and the specification to d
@@ -51,7 +52,7 @@ StepsAlways j v sp x r = (e : Env) (b : ℕ) → Steps v r (model.exec e (jobOf 
 
 module _ (snapshot image : List ℕ) where
   abbrev pub StepsIn : Job → Volatile → ℕ → Point → Step → StepResult → Type 0
-  StepsIn j v b sp x r = (flat : List (List Step)) → Steps v r (model.exec (envOf snapshot image flat) (jobOf j) b sp x (meaning v))
+  StepsIn j v b sp x r = (flat : List (List FlatStep)) → Steps v r (model.exec (envOf snapshot image flat) (jobOf j) b sp x (meaning v))
 
 abbrev pub StepsAt : List ℕ → Job → Volatile → ℕ → Point → Step → StepResult → Type 0
 StepsAt snapshot j v b sp x r = (image : List ℕ) → StepsIn snapshot image j v b sp x r

@@ -12,7 +12,7 @@ use Rattle.model.specs.State.{Env, Rest, withRest, strike}
 use Rattle.model.specs.declared.Action.{Action}
 use Rattle.model.proofs.Action.{the-type}
 use Rattle.model.specs.declared.Effect.{Effect}
-use Rattle.model.specs.declared.Step.{Step}
+use Rattle.model.specs.Steps.{FlatStep}
 use Rattle.model.specs.declared.VarValue.{VarValue}
 use Rattle.model.specs.Eval.{valueAt}
 use Rattle.curve.specs.Level.{levelIn}
@@ -49,16 +49,16 @@ Performs j v x r = (e : Env) → Does v r (model.runPrim e (jobOf j) (meaning v 
 
 module _ (snapshot image : List ℕ) where
   abbrev pub PerformsIn : Job → Volatile → Action → PrimResult → Type 0
-  PerformsIn j v x r = (flat : List (List Step)) → Does v r (model.runPrim (envOf snapshot image flat) (jobOf j) (meaning v .rest) x)
+  PerformsIn j v x r = (flat : List (List FlatStep)) → Does v r (model.runPrim (envOf snapshot image flat) (jobOf j) (meaning v .rest) x)
 
   -- action i of the image
   abbrev pub PerformsAt : Job → Volatile → ℕ → PrimResult → Type 0
-  PerformsAt j v i r = (flat : List (List Step)) → Does v r (model.primAt (envOf snapshot image flat) (jobOf j) (meaning v .rest) i)
+  PerformsAt j v i r = (flat : List (List FlatStep)) → Does v r (model.primAt (envOf snapshot image flat) (jobOf j) (meaning v .rest) i)
 
 -- the parts of actions that several share
 abbrev pub Arms : List ℕ → Job → Volatile → ℕ → ℕ → PrimResult → Type 0
 Arms snapshot j v name ms r =
-    (image : List ℕ) (flat : List (List Step)) (s : Rest) → Does v r (model.armTimer (envOf snapshot image flat) (jobOf j) s name ms (meaning v .rest))
+    (image : List ℕ) (flat : List (List FlatStep)) (s : Rest) → Does v r (model.armTimer (envOf snapshot image flat) (jobOf j) s name ms (meaning v .rest))
 
 abbrev pub Assigns : Job → Volatile → ℕ → VarValue → PrimResult → Type 0
 Assigns j v name value r = (e : Env) → Does v r (model.varSet e (jobOf j) (meaning v .rest) name value)
@@ -68,11 +68,11 @@ Adds j v name step held r = (e : Env) → Does v r (model.varAdd e (jobOf j) (me
 
 abbrev pub Selects : List ℕ → Job → Volatile → ℕ → ℕ → Option ℤ → PrimResult → Type 0
 Selects image j v adapter group n r =
-    (snapshot : List ℕ) (flat : List (List Step)) → Does v r (model.selects (envOf snapshot image flat) (jobOf j) (meaning v .rest) adapter group n)
+    (snapshot : List ℕ) (flat : List (List FlatStep)) → Does v r (model.selects (envOf snapshot image flat) (jobOf j) (meaning v .rest) adapter group n)
 
 -- the level of value i
 abbrev pub LevelAt : List ℕ → List ℕ → Rest → ℕ → Level → Type 0
-LevelAt snapshot image s i r = (flat : List (List Step)) → levelIn r ≡ model.levelAt (valueAt (envOf snapshot image flat) s i)
+LevelAt snapshot image s i r = (flat : List (List FlatStep)) → levelIn r ≡ model.levelAt (valueAt (envOf snapshot image flat) s i)
 
 abbrev pub Dims : Job → Volatile → ℕ → ℕ → Option ℕ → PrimResult → Type 0
 Dims j v target hold level r = (e : Env) → Does v r (model.dims e (jobOf j) (meaning v .rest) target hold level)

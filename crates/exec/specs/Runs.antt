@@ -12,9 +12,10 @@ use Rattle.model.specs.Flat.{listIn, stepAt}
 use Rattle.model.specs.Lists.{toList, orElse, present}
 use Rattle.model.specs.State as model-state
 use Rattle.model.specs.State.{Env}
+use Rattle.model.specs.Steps.{FlatStep}
 use Rattle.model.specs.declared.Point.{Point}
 use Rattle.model.specs.declared.Step.{Step}
-use Rattle.flat.specs.Words.{layout}
+use Rattle.flat.specs.Words.{stepsIn, Says}
 use Rattle.state.specs.Meaning.{Sound, Means, meaning}
 use Rattle.state.specs.declared.Volatile.{Volatile}
 use Rattle.eval.specs.Answers.{envOf}
@@ -91,10 +92,10 @@ pub record Taken (run : Run) (words : List ℕ) (d : StepResult) (r : Run) (exit
   pub written : exit ≡ putEffects words (run .count) (toList (effectOption (d .effect)))
   pub ended : r .ended ≡ not (present (nextOption (d .next)))
 
--- the run has moved on, in every environment whose list for the run these words are
+-- the run has moved on, in every environment whose list for the run these words say
 pub record Turned (snapshot image list : List ℕ) (job : Job) (left : ℕ) (run : Run) (words : List ℕ) (r : Run) (exit : List ℕ) : Type 0 where
   pub says :
-      (flat : List (List Step)) → list ≡ layout (listIn (getD flat (job .index) []) (run .point .list))
+      (flat : List (List FlatStep)) → stepsIn list ≡ listIn (getD flat (job .index) []) (run .point .list)
       → machine r exit ≡ turnOf (envOf snapshot image flat) (jobOf job) left (machine run words)
   pub sound : Sound (r .vol)
   pub based : r .vol .«next_seq» ≡ run .vol .«next_seq»
@@ -104,7 +105,7 @@ pub record Turned (snapshot image list : List ℕ) (job : Job) (left : ℕ) (run
 
 pub record Finishes (list : List ℕ) (run : Run) (r : RunResult) : Type 0 where
   pub says :
-      (w : List ℕ) (e : Env) (j : actions.Job) → list ≡ layout (listIn (getD (e .set .flat) (j .index) []) (run .point .list))
+      (w : List ℕ) (e : Env) (j : actions.Job) → stepsIn list ≡ listIn (getD (e .set .flat) (j .index) []) (run .point .list)
       → finished r w ≡ leftOf (run .ended) 0 e j (machine run w)
   pub same : r .vol ≡ run .vol
   pub counted : r .count ≡ run .count
@@ -115,9 +116,9 @@ pub record Ready (v : Volatile) (budget count : ℕ) : Type 0 where
   pub accepts : v .accepted + budget ≤ max64
   pub counts : count + budget ≤ max32
 
-pub record Runs (snapshot image steps : List ℕ) (job : Job) (v : Volatile) (from : Point) (budget count : ℕ) (words : List ℕ) (r : RunResult) (exit : List ℕ) : Type 0 where
+pub record Runs (snapshot image part : List ℕ) (own : ℕ) (job : Job) (v : Volatile) (from : Point) (budget count : ℕ) (words : List ℕ) (r : RunResult) (exit : List ℕ) : Type 0 where
   pub says :
-      (flat : List (List Step)) → steps ≡ layout (getD flat (job .index) [])
+      (flat : List (List FlatStep)) → Says part own (getD flat (job .index) [])
       → let o = model.runSteps budget (envOf snapshot image flat) (jobOf job) from (meaning v) in
       Means (r .vol) (v .«next_seq») (o .vol) × (r .reason ≡ o .reason) × (r .count ≡ count + length (o .effects)) × (exit ≡ putEffects words count (o .effects))
   pub sound : Sound (r .vol)

@@ -6,11 +6,11 @@ use crate::Next;
 use crate::RunResult;
 use crate::StepResult;
 use crate::effects::put_effect;
-use crate::lists::list_of;
 use crate::lists::step_at;
 use crate::places::advance;
 use crate::runs::first_reason;
 use crate::steps;
+use flat::body::list_of;
 use model::Jump;
 use model::Point;
 use model::Step;
@@ -19,11 +19,12 @@ ghost use mathlib.Core.Path.{_≡_};
 ghost use mathlib.Core.Bool.{true};
 ghost use Prim.Native.Nat.{suc, _+_, _≤_, _<_};
 ghost use Rattle.words.specs.Saturating.{max32};
+ghost use Rattle.model.specs.Lists.{present};
 ghost use Rattle.image.specs.Sized.{Sized};
 ghost use Rattle.state.specs.Meaning.{Sound};
-ghost use Rattle.exec.specs.Lists.{FlatWords};
+ghost use Rattle.exec.specs.Lists.{FlatWords, stepIn};
 ghost use Rattle.exec.specs.Paid.{reach};
-ghost use Rattle.exec.specs.DryRuns.{DryStepsIn, Queues, HasStep, Moved, DryTaken, DryTurned, DryFinishes, DryReady, RunsDry};
+ghost use Rattle.exec.specs.DryRuns.{DryStepsIn, Queues, Moved, DryTaken, DryTurned, DryFinishes, DryReady, RunsDry};
 
 fn exec_dry(
     snapshot: &[u32],
@@ -40,7 +41,7 @@ fn exec_dry(
         Step::Primitive(i) => steps::primitive(snapshot, image, v, job, sp, i),
         Step::Wait(_) => steps::goes_on(v, advance(sp, 0)),
         Step::Branch(c, t, n) => steps::branch(snapshot, image, v, job, sp, c, t, n),
-        Step::After(_, n) => steps::goes_on(v, advance(sp, n)),
+        Step::After(_) => steps::goes_on(v, advance(sp, 0)),
         Step::Fail => steps::fail(v, job, sp),
     }
 }
@@ -51,7 +52,7 @@ fn queue_body(run: DryRun, step: Step) -> DryRun
     ensures { λ r. ⌜ Queues run step r ⌝ }
 {
     match step {
-        Step::After(_, _) => {
+        Step::After(_) => {
             let mut r = run;
             let point = r.point;
             let k = r.queued;
@@ -63,10 +64,10 @@ fn queue_body(run: DryRun, step: Step) -> DryRun
     }
 }
 
-fn has_step(rule: &[u32], point: Point) -> bool
-    ensures { λ r. ⌜ HasStep (now (rule .entry)) point r ⌝ }
+fn has_step(part: &[u32], own: usize, point: Point) -> bool
+    ensures { λ r. ⌜ r ≡ present (stepIn (now (part .entry)) own point) ⌝ }
 {
-    let list = list_of(rule, point.list);
+    let list = list_of(part, own, point.list);
     match step_at(list, point.place) {
         MaybeStep::Nothing => false,
         MaybeStep::One(_) => true,
@@ -74,14 +75,14 @@ fn has_step(rule: &[u32], point: Point) -> bool
 }
 
 // Where a list is at its end, the next body that has a step is begun.
-fn next_list(rule: &[u32], run: DryRun) -> DryRun
+fn next_list(part: &[u32], own: usize, run: DryRun) -> DryRun
     requires { ⌜ (run .first ≤ run .queued) × (run .queued ≤ 256) ⌝ }
-    ensures { λ r. ⌜ Moved (now (rule .entry)) run r ⌝ }
+    ensures { λ r. ⌜ Moved (now (part .entry)) own run r ⌝ }
 {
     let mut r = run;
     while r.first < r.queued {
         let point = r.point;
-        if has_step(rule, point) {
+        if has_step(part, own, point) {
             return r;
         }
         let k = r.first;
@@ -123,19 +124,20 @@ fn take_dry(run: DryRun, effects: &mut [u32], d: StepResult) -> DryRun
 fn turn_dry(
     snapshot: &[u32],
     image: &[u32],
-    rule: &[u32],
+    part: &[u32],
+    own: usize,
     effects: &mut [u32],
     run: DryRun,
     job: Job,
 ) -> DryRun
-    requires { ⌜ Sized (now image) × FlatWords (now rule) × (job .dry ≡ true) ⌝ }
+    requires { ⌜ Sized (now image) × FlatWords (now part) own × (job .dry ≡ true) ⌝ }
     requires { ⌜ Sound (run .vol) × (run .count < max32) × (run .first ≤ run .queued) × (run .queued < 256) ⌝ }
-    ensures { λ r. ⌜ DryTurned (now (snapshot .entry)) (now (image .entry)) (now (rule .entry)) job run (now (effects .entry)) r (now (effects .exit)) ⌝ }
+    ensures { λ r. ⌜ DryTurned (now (snapshot .entry)) (now (image .entry)) (now (part .entry)) own job run (now (effects .entry)) r (now (effects .exit)) ⌝ }
 {
-    let r = next_list(rule, run);
+    let r = next_list(part, own, run);
     let point = r.point;
     let vol = r.vol;
-    let list = list_of(rule, point.list);
+    let list = list_of(part, own, point.list);
     match step_at(list, point.place) {
         MaybeStep::Nothing => {
             let mut q = r;
@@ -151,9 +153,9 @@ fn turn_dry(
 }
 
 // The end of a run: where a step is left and no budget for it, the reason is `EffectBudget`.
-fn finish_dry(rule: &[u32], run: DryRun) -> RunResult
+fn finish_dry(part: &[u32], own: usize, run: DryRun) -> RunResult
     requires { ⌜ (run .first ≤ run .queued) × (run .queued ≤ 256) ⌝ }
-    ensures { λ r. ⌜ DryFinishes (now (rule .entry)) run r ⌝ }
+    ensures { λ r. ⌜ DryFinishes (now (part .entry)) own run r ⌝ }
 {
     let vol = run.vol;
     if run.ended {
@@ -163,9 +165,9 @@ fn finish_dry(rule: &[u32], run: DryRun) -> RunResult
             count: run.count,
         };
     }
-    let r = next_list(rule, run);
+    let r = next_list(part, own, run);
     let point = r.point;
-    if has_step(rule, point) {
+    if has_step(part, own, point) {
         return RunResult {
             vol,
             reason: first_reason(run.reason, state::reasons::EFFECT_BUDGET),
@@ -183,7 +185,8 @@ fn finish_dry(rule: &[u32], run: DryRun) -> RunResult
 pub fn run_steps_dry(
     snapshot: &[u32],
     image: &[u32],
-    rule: &[u32],
+    part: &[u32],
+    own: usize,
     effects: &mut [u32],
     v: Volatile,
     job: Job,
@@ -191,9 +194,9 @@ pub fn run_steps_dry(
     budget: u32,
     count: u32,
 ) -> RunResult
-    requires { ⌜ Sized (now image) × FlatWords (now rule) × (job .dry ≡ true) ⌝ }
+    requires { ⌜ Sized (now image) × FlatWords (now part) own × (job .dry ≡ true) ⌝ }
     requires { ⌜ DryReady v budget count ⌝ }
-    ensures { λ r. ⌜ RunsDry (now (snapshot .entry)) (now (image .entry)) (now (rule .entry)) job v from budget count (now (effects .entry)) r (now (effects .exit)) ⌝ }
+    ensures { λ r. ⌜ RunsDry (now (snapshot .entry)) (now (image .entry)) (now (part .entry)) own job v from budget count (now (effects .entry)) r (now (effects .exit)) ⌝ }
 {
     let mut run = DryRun {
         vol: v,
@@ -208,10 +211,10 @@ pub fn run_steps_dry(
     let mut left = budget;
     while 0 < left {
         if run.ended {
-            return finish_dry(rule, run);
+            return finish_dry(part, own, run);
         }
         left -= 1;
-        run = turn_dry(snapshot, image, rule, effects, run, job);
+        run = turn_dry(snapshot, image, part, own, effects, run, job);
     }
-    finish_dry(rule, run)
+    finish_dry(part, own, run)
 }

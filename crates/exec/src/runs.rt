@@ -6,9 +6,9 @@ use crate::Run;
 use crate::RunResult;
 use crate::StepResult;
 use crate::effects::put_effect;
-use crate::lists::list_of;
 use crate::lists::step_at;
 use crate::steps::exec;
+use flat::body::list_of;
 use model::Point;
 use state::Volatile;
 ghost use mathlib.Core.Path.{_≡_};
@@ -17,7 +17,7 @@ ghost use Rattle.words.specs.Saturating.{max32, max64};
 ghost use Rattle.model.specs.Exec.{firstReason};
 ghost use Rattle.image.specs.Sized.{Sized};
 ghost use Rattle.state.specs.Meaning.{Sound};
-ghost use Rattle.exec.specs.Lists.{FlatWords};
+ghost use Rattle.exec.specs.Lists.{FlatWords, NearWords};
 ghost use Rattle.exec.specs.Runs.{Taken, Turned, Finishes, Ready, Runs};
 
 // `note_partial`: the first reason stays.
@@ -66,7 +66,7 @@ fn turn(
     job: Job,
     left: u32,
 ) -> Run
-    requires { ⌜ Sized (now image) × FlatWords (now list) ⌝ }
+    requires { ⌜ Sized (now image) × NearWords (now list) ⌝ }
     requires { ⌜ Sound (run .vol) × (run .vol .accepted < max64) × (run .count < max32) ⌝ }
     ensures { λ r. ⌜ Turned (now (snapshot .entry)) (now (image .entry)) (now (list .entry)) job left run (now (effects .entry)) r (now (effects .exit)) ⌝ }
 {
@@ -116,7 +116,8 @@ fn finish(list: &[u32], run: Run) -> RunResult
 pub fn run_steps(
     snapshot: &[u32],
     image: &[u32],
-    steps: &[u32],
+    part: &[u32],
+    own: usize,
     effects: &mut [u32],
     v: Volatile,
     job: Job,
@@ -124,11 +125,11 @@ pub fn run_steps(
     budget: u32,
     count: u32,
 ) -> RunResult
-    requires { ⌜ Sized (now image) × FlatWords (now steps) ⌝ }
+    requires { ⌜ Sized (now image) × FlatWords (now part) own ⌝ }
     requires { ⌜ Ready v budget count ⌝ }
-    ensures { λ r. ⌜ Runs (now (snapshot .entry)) (now (image .entry)) (now (steps .entry)) job v from budget count (now (effects .entry)) r (now (effects .exit)) ⌝ }
+    ensures { λ r. ⌜ Runs (now (snapshot .entry)) (now (image .entry)) (now (part .entry)) own job v from budget count (now (effects .entry)) r (now (effects .exit)) ⌝ }
 {
-    let list = list_of(steps, from.list);
+    let list = list_of(part, own, from.list);
     let mut run = Run {
         vol: v,
         point: from,

@@ -86,18 +86,10 @@ fn wait(snapshot: &[u32], v: Volatile, job: Job, left: u32, sp: Point, ms: u32) 
     }
 }
 
-// The body is scheduled, and the run goes on behind it: also where the continuation is dropped.
-fn after(
-    snapshot: &[u32],
-    v: Volatile,
-    job: Job,
-    left: u32,
-    sp: Point,
-    ms: u32,
-    n: u32,
-) -> StepResult
-    requires { ⌜ Sound v × (v .accepted < max64) × (suc (sp .place) + n ≤ max32) ⌝ }
-    ensures { λ r. ⌜ StepsAt (now (snapshot .entry)) job v left sp (After ms n) r ⌝ }
+// The body is scheduled, and the run goes on behind the step: also where the continuation is dropped.
+fn after(snapshot: &[u32], v: Volatile, job: Job, left: u32, sp: Point, ms: u32) -> StepResult
+    requires { ⌜ Sound v × (v .accepted < max64) × (suc (sp .place) ≤ max32) ⌝ }
+    ensures { λ r. ⌜ StepsAt (now (snapshot .entry)) job v left sp (After ms) r ⌝ }
 {
     let body = body_start(sp);
     let s = state::pending::schedule(
@@ -110,7 +102,7 @@ fn after(
         body,
     );
     let vol = s.vol;
-    let to = advance(sp, n);
+    let to = advance(sp, 0);
     StepResult {
         vol,
         effect: MaybeEffect::Nothing,
@@ -163,7 +155,7 @@ pub fn exec(
         Step::Primitive(i) => primitive(snapshot, image, v, job, sp, i),
         Step::Wait(ms) => wait(snapshot, v, job, left, sp, ms),
         Step::Branch(c, t, n) => branch(snapshot, image, v, job, sp, c, t, n),
-        Step::After(ms, n) => after(snapshot, v, job, left, sp, ms, n),
+        Step::After(ms) => after(snapshot, v, job, left, sp, ms),
         Step::Fail => fail(v, job, sp),
     }
 }

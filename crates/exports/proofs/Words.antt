@@ -15,7 +15,7 @@ use Rattle.model.specs.Flat.{Flattened, flattenRules, setOf}
 use Rattle.model.specs.Store.{volatileIn}
 use Rattle.model.specs.Eval.{conditionAt, valueAt}
 use Rattle.model.specs.State as model
-use Rattle.model.specs.declared.Step.{Step}
+use Rattle.model.specs.Steps.{FlatStep}
 use Rattle.state.specs.Meaning.{AllNumbered, meaning}
 use Rattle.state.specs.declared.Volatile.{Volatile}
 use Rattle.store.specs.Volatile.{changingIn}
@@ -33,7 +33,7 @@ pub some-words : (r : Number) (w : List ℕ) (z : ℤ) (b : ℕ) → SFits w64 z
 some-words r w z b fits e f h = rw e (h ∙ ap (marked 1) (f ∙ ap bits64 (toZ-ofZ fits)))
 
 -- the lists of the image's set
-abbrev flats : List ℕ → List (List Step)
+abbrev flats : List ℕ → List (List FlatStep)
 flats image = map (λ (f : Flattened). f .steps) (flattenRules image)
 
 module _ (snapshot image store : List ℕ) (i : ℕ) where

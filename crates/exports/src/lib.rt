@@ -6,11 +6,12 @@ ghost use lib.Dec.{eqb};
 ghost use lib.ListN.{length};
 ghost use Rattle.model.specs.Layout.{partsFit};
 ghost use Rattle.model.specs.Load.{tablesRefusal, imageRefusal};
-ghost use Rattle.model.specs.Flat.{flattenRules, stepsIn};
+ghost use Rattle.model.specs.Flat.{flattenRules};
 ghost use Rattle.model.specs.Lists.{present};
 ghost use Rattle.model.specs.Parts.{layout};
 ghost use Rattle.model.specs.Snapshot.{snapshotRefusal};
 ghost use Rattle.model.specs.Store.{read};
+ghost use Rattle.flat.specs.Load.{stored};
 
 pub mod evaluation;
 
@@ -30,10 +31,10 @@ pub extern "C" fn cerambiu_image_refusal(img: &[u32]) -> u32
     load::refusal(img)
 }
 
-// How many flat steps the set of an image has; 0 for an image that is refused.
+// How many steps a store keeps for the set of an image, a body that copies of an after share once; 0 for an image that is refused.
 #[no_mangle]
 pub extern "C" fn cerambiu_flat_steps(img: &[u32]) -> usize
-    ensures { λ r. ⌜ r ≡ cond (eqb (imageRefusal (now (img .entry))) 0) (stepsIn (flattenRules (now (img .entry)))) 0 ⌝ }
+    ensures { λ r. ⌜ r ≡ cond (eqb (imageRefusal (now (img .entry))) 0) (length (stored (flattenRules (now (img .entry))))) 0 ⌝ }
 {
     if load::refusal(img) != 0 {
         return 0;

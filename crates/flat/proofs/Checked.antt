@@ -154,6 +154,9 @@ module _ (img : List ℕ) (h : Checked img) where
   pub repeat-limit : repeatLimit img < 256
   repeat-limit = let e = leb-true (trailer img 2) 255 (bools.both (leb 1 (trailer img 2)) (leb (trailer img 2) 255) (limit-at 2 (omega arith)) .1) in omega arith
 
+  pub depth-limit : callDepth img ≤ 8
+  depth-limit = leb-true (trailer img 1) 8 (bools.both (leb 0 (trailer img 1)) (leb (trailer img 1) 8) (limit-at 1 (omega arith)) .1)
+
   pub rules-order : firstOf img 0 ≤ firstOf img 1
   rules-order = table-follows img (h .placed) 0 (omega arith)
 
@@ -254,11 +257,13 @@ module _ (img : List ℕ) (h : Checked img) where
   unfolding blockNamed
   blocks-found b = found-in (length acts / 8) _ (recordIn blks) 0 (length blks / 8) (λ j l. block-list j (omega arith))
 
-  pub checked-tables : CheckedTables acts blks rows (repeatLimit img)
+  pub checked-tables : CheckedTables acts blks rows (callDepth img) (repeatLimit img)
   checked-tables =
       record {
         tables = record { few = omega (arith, acts-length, actions-end, short); nested = action-nested; found = blocks-found };
+        depth-le = depth-limit;
         limit-lt = repeat-limit;
+        blocks-few = omega (arith, blks-length, blocks-end, short);
         rules-few = omega (arith, rows-length, rules-end, short);
         inside = rule-list;
       }
@@ -276,9 +281,9 @@ module _ (img : List ℕ) (h : Checked img) where
 module _ (img : List ℕ) (h : Checked img) (acts values blks triggers rows depth limit : ℕ)
     (ea : acts ≡ firstOf img 4) (ev : values ≡ firstOf img 5) (eb : blks ≡ firstOf img 1) (et : triggers ≡ firstOf img 2) (er : rows ≡ firstOf img 0)
     (ed : depth ≡ callDepth img) (el : limit ≡ repeatLimit img) where
-  pub parts-checked : CheckedTables (take (values - acts) (drop acts img)) (take (triggers - blks) (drop blks img)) (take (blks - rows) (drop rows img)) limit
+  pub parts-checked : CheckedTables (take (values - acts) (drop acts img)) (take (triggers - blks) (drop blks img)) (take (blks - rows) (drop rows img)) depth limit
   unfolding tableOf
-  parts-checked = rw (ea, ev, eb, et, er, el) (checked-tables img h)
+  parts-checked = rw (ea, ev, eb, et, er, ed, el) (checked-tables img h)
 
   pub parts-rules : flattenTables (take (values - acts) (drop acts img)) (take (triggers - blks) (drop blks img)) (take (blks - rows) (drop rows img)) depth limit ≡ flattenRules img
   unfolding tableOf

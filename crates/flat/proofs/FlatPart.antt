@@ -1,58 +1,53 @@
 -- The words that flattening writes are those that model's codec puts into a store: the rows of 64 lists, and the counted steps.
 use mathlib.Core.Path.{_≡_, refl, sym, ap, _∙_}
-use mathlib.Core.Bool.{Bool, true, false, not, _&&_, false≢true}
-use mathlib.Core.List.{List, [], _∷_, _++_, map}
+use mathlib.Core.Bool.{Bool, true, false, not, false≢true}
+use mathlib.Core.List.{List, [], _∷_, _++_}
 use Prim.Native.Nat.{ℕ, zero, suc, _+_, _*_, _-_, _≤_, _<_}
 use native.Mathlib.Numerals.{add-one}
-use borrow.Author.Tests.{eq-eqb, eqb-true, not-true}
+use borrow.Author.Tests.{eq-eqb, eqb-true, eqb-false, not-true}
 use lib.Dec.{eqb}
 use lib.Seq.{take-suc, take-all}
 use Rattle.model.proofs.Bools as bools
 use native.Mathlib.Omega.{arith}
 use lib.ListN.{length, take, getD, replicate, length-map}
-use Rattle.model.specs.Lists.{flatten}
 use Rattle.model.specs.Rows.{rules}
 use Rattle.model.specs.Rules.{ruleIndices}
 use Rattle.model.specs.Codec.{wordsOf, most}
 use Rattle.model.specs.Parts.{listRow, stepRow}
-use Rattle.model.specs.Store.{filled, listRows, stepRowOf, sameList}
+use Rattle.model.specs.Store.{filled, listRows, sameList}
 use Rattle.model.specs.Image.{sizeOf, imageSized, limitsFit, placesFit, tablesPass, namesDiffer}
 use Rattle.model.specs.Flat.{Flattened, flattenRule, flattenRules, tooManySteps}
 use Rattle.model.specs.Load.{tablesRefusal, imageRefusalWith, imageRefusal}
 use Rattle.model.proofs.Bools.{not-refused}
 use Rattle.model.proofs.StoreLaws.{rows-length}
 use Rattle.model.proofs.ListLaws.{length-upFrom}
-use Rattle.flat.specs.Load.{stepLists, stepPart, listPart, Checked, loaded, Stored, Unmade, many, other, Made, Loading, sameFlat}
-use Rattle.flat.specs.declared.Loaded.{Loaded}
-use Rattle.flat.specs.declared.Loaded.the-variants.{Over, Steps}
-use Rattle.flat.specs.Words.{layout}
-use Rattle.flat.proofs.Words.{layout-is, layout-length}
+use Rattle.flat.specs.Load.{stored, stepPart, listPart, Checked, MadeOf, sameFlat}
+use Rattle.flat.proofs.Words.{layout-is, layout-length, and-false, and-true, same-all, not-all}
 use Rattle.flat.proofs.Induction.{by}
-use Rattle.flat.proofs.RuleLists.{words-append, steps-in, loaded-over, loaded-steps}
+use Rattle.flat.proofs.RuleLists.{words-append}
 
 zero-rows : (k : ℕ) → wordsOf listRow (replicate k (0, 0)) ≡ replicate (k * 2) 0
 unfolding wordsOf
 zero-rows zero = refl
 zero-rows (suc k) = let e : suc k * 2 ≡ suc (suc (k * 2)) = omega arith in rw (e, zero-rows k)
 
-pub lists-filled : (n : ℕ) (rows : List (ℕ × ℕ)) → wordsOf listRow (filled n (0, 0) rows) ≡ wordsOf listRow rows ++ replicate ((n - length rows) * 2) 0
+lists-filled : (n : ℕ) (rows : List (ℕ × ℕ)) → wordsOf listRow (filled n (0, 0) rows) ≡ wordsOf listRow rows ++ replicate ((n - length rows) * 2) 0
 lists-filled n rows = rw (words-append listRow rows (replicate (n - length rows) (0, 0)), zero-rows (n - length rows))
 
 -- the 128 words of the rows, as `flatten_rules` writes them
 pub stored-rows : (fs : List Flattened) (lists : List ℕ) → length lists ≡ 128 → lists ≡ listPart fs ++ replicate (length lists - length fs * 2) 0
-    → lists ≡ wordsOf listRow (filled 64 (0, 0) (listRows 0 (stepLists fs)))
+    → lists ≡ wordsOf listRow (filled 64 (0, 0) (listRows 0 fs))
 stored-rows fs lists e h =
-    let n : length (listRows 0 (stepLists fs)) ≡ length fs = rows-length 0 (stepLists fs) ∙ length-map fs (λ (f : Flattened). f .steps) in
-    let k : length lists - length fs * 2 ≡ (64 - length (listRows 0 (stepLists fs))) * 2 = omega arith in
-    h ∙ ap (λ (m : ℕ). listPart fs ++ replicate m 0) k ∙ sym (lists-filled 64 (listRows 0 (stepLists fs)))
+    let n : length (listRows 0 fs) ≡ length fs = rows-length 0 fs in
+    let k : length lists - length fs * 2 ≡ (64 - length (listRows 0 fs)) * 2 = omega arith in
+    h ∙ ap (λ (m : ℕ). listPart fs ++ replicate m 0) k ∙ sym (lists-filled 64 (listRows 0 fs))
 
 -- the count and the 8,192 words of the steps
-pub stored-steps : (fs : List Flattened) (words : List ℕ) (n : ℕ) → length words ≡ 8192 → n ≡ length (flatten (stepLists fs))
-    → words ≡ stepPart fs ++ replicate (length words - n * 4) 0 → n ∷ words ≡ most 2048 stepRow .put (map stepRowOf (flatten (stepLists fs)))
+pub stored-steps : (fs : List Flattened) (words : List ℕ) (n : ℕ) → length words ≡ 8192 → n ≡ length (stored fs)
+    → words ≡ stepPart fs ++ replicate (length words - n * 4) 0 → n ∷ words ≡ most 2048 stepRow .put (stored fs)
 stored-steps fs words n e f h =
-    let m : length (map stepRowOf (flatten (stepLists fs))) ≡ n = length-map (flatten (stepLists fs)) stepRowOf ∙ sym f in
     let k : length words - n * 4 ≡ (2048 - n) * 4 = omega arith in
-    rw m (ap (λ (l : List ℕ). n ∷ l) (h ∙ ap (λ (z : ℕ). stepPart fs ++ replicate z 0) k))
+    rw (← f) (ap (λ (l : List ℕ). n ∷ l) (h ∙ ap (λ (z : ℕ). stepPart fs ++ replicate z 0) k ∙ ap (λ (l : List ℕ). l ++ replicate ((2048 - n) * 4) 0) (layout-is (stored fs))))
 
 -- AN IMAGE THAT LOAD ACCEPTS ----------------------------------------------------------------------------------------------------------
 pub passed : (img : List ℕ) → imageRefusal img ≡ 0 → Checked img × (tooManySteps (flattenRules img) ≡ false)
@@ -94,51 +89,40 @@ module _ (a b : List ℕ) (same : length a ≡ length b) where
   pub agree-all : (i : ℕ) → length b ≤ i → take i a ≡ take i b → true ≡ sameList eqb a b
   agree-all i l e = sym (same-true a b (sym (take-all i a (omega arith)) ∙ e ∙ take-all i b l))
 
-and-false : (a : Bool) → a && false ≡ false
-and-false true = refl
-and-false false = refl
-
-and-true : (a : Bool) → a && true ≡ a
-and-true true = refl
-and-true false = refl
-
 module _ (fs : List Flattened) (lists steps : List ℕ) where
-  other-steps : (steps ≡ stepPart fs → ⊥) → false ≡ sameFlat fs lists steps
-  unfolding sameFlat
-  other-steps h = rw (same-false steps (stepPart fs) h, and-false (sameList eqb lists (wordsOf listRow (filled 64 (0, 0) (listRows 0 (stepLists fs))))), and-false (not (tooManySteps fs)))
+  abbrev formRows : List ℕ
+  formRows = wordsOf listRow (filled 64 (0, 0) (listRows 0 fs))
 
-  pub not-made : Unmade fs steps → false ≡ sameFlat fs lists steps
+  other-steps : sameList eqb steps (stepPart fs) ≡ false → false ≡ sameFlat fs lists steps
   unfolding sameFlat
-  not-made (many h) = rw h
-  not-made (other d) =
-      other-steps
-      (λ e.
-      let w : steps ≡ layout (flatten (stepLists fs)) = e ∙ sym (layout-is (flatten (stepLists fs))) in
-      let n : length steps ≡ length (flatten (stepLists fs)) * 4 = ap length w ∙ layout-length (flatten (stepLists fs)) in
-      d .other (ap (λ (m : ℕ). take m steps) (sym n) ∙ take-all (length steps) steps (omega arith) ∙ w))
+  other-steps h = rw (h, and-false (sameList eqb lists formRows), and-false (not (tooManySteps fs)))
 
-  module _ (n : ℕ) (none rows : List ℕ) (m : Made fs n steps none rows) where
-    pub other-count : (n * 4 ≡ length steps → ⊥) → false ≡ sameFlat fs lists steps
-    other-count h =
+  pub not-made : tooManySteps fs ≡ true → false ≡ sameFlat fs lists steps
+  unfolding sameFlat
+  not-made h = rw h
+
+  module _ (n : ℕ) (same : Bool) (none rows : List ℕ) (m : MadeOf fs n same steps none rows) where
+    sized : length (stepPart fs) ≡ n * 4
+    sized = layout-length (stored fs) ∙ ap (λ (k : ℕ). k * 4) (sym (m .count))
+
+    pub other-words : same ≡ false → false ≡ sameFlat fs lists steps
+    other-words e =
         other-steps
-        (λ e.
-        let l : length steps ≡ length (flatten (stepLists fs)) * 4 = ap length (e ∙ sym (layout-is (flatten (stepLists fs)))) ∙ layout-length (flatten (stepLists fs)) in
-        h (omega (arith, m .count, steps-in fs)))
+        (by (eqb (length steps) (length (stepPart fs)))
+        (λ q. sym (same-all steps (stepPart fs) (eqb-true (length steps) (length (stepPart fs)) q)) ∙ sym (m .agrees) ∙ e)
+        (λ q. not-all steps (stepPart fs) (eqb-false (length steps) (length (stepPart fs)) q)))
 
-    pub same-rows : n * 4 ≡ length steps → length rows ≡ 128 → length fs ≤ 64 → (r : Bool) → r ≡ sameList eqb lists rows → r ≡ sameFlat fs lists steps
+    pub other-count : (n * 4 ≡ length steps → ⊥) → false ≡ sameFlat fs lists steps
+    other-count h = other-steps (not-all steps (stepPart fs) (λ e. h (sym (e ∙ sized))))
+
+    pub same-rows : same ≡ true → n * 4 ≡ length steps → length rows ≡ 128 → length fs ≤ 64 → (r : Bool) → r ≡ sameList eqb lists rows
+        → r ≡ sameFlat fs lists steps
     unfolding sameFlat
-    same-rows e k f r g =
-        let s : steps ≡ stepPart fs = sym (take-all (n * 4) steps (omega arith)) ∙ m .compared (omega arith) in
+    same-rows t e k f r g =
+        let s : sameList eqb steps (stepPart fs) ≡ true = sym (same-all steps (stepPart fs) (sym e ∙ sym sized)) ∙ sym (m .agrees) ∙ t in
         let w = stored-rows fs rows k (m .parts .rows (omega arith)) in
-        rw (m .few, same-true steps (stepPart fs) s, and-true (sameList eqb lists (wordsOf listRow (filled 64 (0, 0) (listRows 0 (stepLists fs)))))) (rw w at g)
+        rw (m .few, s, and-true (sameList eqb lists formRows)) (rw w at g)
 
 pub rules-length : (img : List ℕ) → length (flattenRules img) ≡ sizeOf img rules
 unfolding flattenRules
 rules-length img = length-map (ruleIndices img) (flattenRule img) ∙ length-upFrom 0 (sizeOf img rules)
-
--- what is loaded where nothing is compared
-pub loaded-alone : (fs : List Flattened) (seen words lists : List ℕ) (r : Loaded) → length seen ≡ 0 → Loading fs seen words lists r
-    → (r ≡ loaded fs) × Stored fs words lists r
-loaded-alone fs seen words lists Over e (many h) = (loaded-over fs h, tt)
-loaded-alone fs seen words lists Over e (other d) = let s = d .some in absurd (omega arith)
-loaded-alone fs seen words lists (Steps n) e m = (loaded-steps fs n (m .few) (m .count), m .parts)

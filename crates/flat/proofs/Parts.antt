@@ -1,115 +1,69 @@
--- The words of a part of a list of steps.
+-- The words of a rule's part of the flat steps that are the body of an after.
 use mathlib.Core.Path.{_≡_, refl, sym, ap, _∙_}
-use mathlib.Core.List.{List, [], _∷_, _++_}
-use Prim.Native.Nat.{ℕ, zero, suc, _+_, _*_, _-_, _/_, _≤_, _<_}
+use mathlib.Core.Bool.{Bool, true, false, cond, _&&_}
+use mathlib.Core.List.{List, []}
+use Prim.Native.Nat.{ℕ, suc, _+_, _*_, _-_, _/_, _≤_, _<_}
 use native.Mathlib.Omega.{arith}
 use native.Mathlib.Decide.{decLe}
-use lib.ListN.{length, take, drop, getD, getElem?, length-drop}
-use lib.Seq.{take-all, drop-nil}
-use Rattle.model.specs.declared.Step.{Step}
-use Rattle.model.specs.declared.Step.the-variants.{Primitive, Wait, Branch, After, Fail}
-use Rattle.model.specs.Flat.{bodyLen, listIn}
-use Rattle.flat.specs.Words.{stepWords, layout}
-use Rattle.flat.specs.Body.{BodyLen}
-use Rattle.flat.proofs.Words.{layout-length}
+use borrow.Author.Tests.{le-leb, lt-leb, eq-eqb, ne-eqb}
+use lib.Dec.{eqb, leb}
+use lib.ListN.{length, take, drop, getD, length-drop, drop-of-length-le}
+use lib.Seq.{take-all}
+use Rattle.flat.specs.Words.{bodyWords}
 
-four-more : (n : ℕ) → suc n * 4 ≡ suc (suc (suc (suc (n * 4))))
-four-more n = omega arith
+-- `at` is where step n begins: at the end, if there is none
+pub record Placed (n len at : ℕ) : Type 0 where
+  pub inside : at ≤ len
+  pub there : n * 4 ≤ len → at ≡ n * 4
+  pub past : len < n * 4 → at ≡ len
 
-pub drop-words : (n : ℕ) (xs : List Step) → drop (n * 4) (layout xs) ≡ layout (drop n xs)
-drop-words zero xs = refl
-drop-words (suc n) [] = drop-nil (suc n * 4)
-drop-words (suc n) (x ∷ xs) = rw (four-more n) (drop-words n xs)
+pub drop-placed : (w : List ℕ) (n at : ℕ) → Placed n (length w) at → drop at w ≡ drop (n * 4) w
+drop-placed w n at p =
+    elim (decLe (n * 4) (length w)) [
+      | yes h ↦ rw (p .there h)
+      | no h ↦
+          let e : at ≡ length w = p .past (omega arith) in
+          let a : length w ≤ at = omega arith in
+          let b : length w ≤ n * 4 = omega arith in
+          drop-of-length-le w a ∙ sym (drop-of-length-le w b)
+    ]
 
-pub take-words : (n : ℕ) (xs : List Step) → take (n * 4) (layout xs) ≡ layout (take n xs)
-take-words zero xs = refl
-take-words (suc n) [] = take-all (suc n * 4) [] (omega arith)
-take-words (suc n) (x ∷ xs) = rw (four-more n, take-words n xs)
+pub take-placed : (w : List ℕ) (n at : ℕ) → Placed n (length w) at → take at w ≡ take (n * 4) w
+take-placed w n at p =
+    elim (decLe (n * 4) (length w)) [
+      | yes h ↦ rw (p .there h)
+      | no h ↦
+          let e : at ≡ length w = p .past (omega arith) in
+          take-all at w (omega arith) ∙ sym (take-all (n * 4) w (omega arith))
+    ]
 
--- the kind and the third word of step `at` say how long its body is
-pub body-told : (xs : List Step) (at : ℕ) → getD (layout xs) (at * 4) 0 ≡ 3 → bodyLen (getElem? xs at) ≡ getD (layout xs) (at * 4 + 2) 0
-body-told [] at h = absurd (omega arith)
-body-told (Primitive i ∷ xs) zero h = absurd (omega arith)
-body-told (Wait ms ∷ xs) zero h = absurd (omega arith)
-body-told (Branch c t e ∷ xs) zero h = absurd (omega arith)
-body-told (After ms n ∷ xs) zero h = refl
-body-told (Fail ∷ xs) zero h = absurd (omega arith)
-body-told (x ∷ xs) (suc at) h =
-    let e : suc at * 4 + 2 ≡ suc (suc (suc (suc (at * 4 + 2)))) = omega arith in
-    rw e (body-told xs at (rw (four-more at) at h))
+-- WHAT `after_body` FOUND -----------------------------------------------------------------------------------------------------------
+not-both : (a b : Bool) (l : List ℕ) → b ≡ false → [] ≡ cond (a && b) l []
+not-both true b l h = rw h
+not-both false b l h = refl
 
-pub no-body : (xs : List Step) (at : ℕ) → (getD (layout xs) (at * 4) 0 ≡ 3 → ⊥) → bodyLen (getElem? xs at) ≡ 0
-no-body [] at h = refl
-no-body (Primitive i ∷ xs) zero h = refl
-no-body (Wait ms ∷ xs) zero h = refl
-no-body (Branch c t e ∷ xs) zero h = refl
-no-body (After ms n ∷ xs) zero h = absurd (h refl)
-no-body (Fail ∷ xs) zero h = refl
-no-body (x ∷ xs) (suc at) h = no-body xs at (rw (four-more at) at h)
-
-past-end : (xs : List Step) (at : ℕ) → length xs ≤ at → bodyLen (getElem? xs at) ≡ 0
-past-end [] at h = refl
-past-end (x ∷ xs) zero h = absurd (omega arith)
-past-end (x ∷ xs) (suc at) h = past-end xs at (omega arith)
-
--- WHAT `body_len` FOUND -------------------------------------------------------------------------------------------------------------
 module _ (w : List ℕ) (i : ℕ) where
-  none-there : (n : ℕ) → n ≡ 0 → ((xs : List Step) → w ≡ layout xs → bodyLen (getElem? xs i) ≡ 0) → BodyLen w i n
-  unfolding listIn
-  none-there n z h =
-      record {
-        inside = λ l. omega arith;
-        none = λ l. z;
-        body = λ xs e. rw (z, h xs e);
-      }
+  no-words : length w - length w ≡ 0
+  no-words = omega arith
 
-  pub no-step : length w / 4 ≤ i → BodyLen w i 0
-  no-step l = none-there 0 refl (λ xs e. past-end xs i (omega (arith, ap length e, layout-length xs)))
+  pub no-row : length w / 4 ≤ i → take (length w - length w) (drop (length w) w) ≡ bodyWords w i
+  unfolding bodyWords
+  no-row h =
+      let l : length w < suc i * 4 = omega arith in
+      rw (no-words, lt-leb (suc i * 4) (length w) l)
 
-  pub other-step : (getD w (i * 4) 0 ≡ 3 → ⊥) → BodyLen w i 0
-  other-step k = none-there 0 refl (λ xs e. no-body xs i (rw e at k))
+  pub other-row : (getD w (i * 4) 0 ≡ 3 → ⊥) → take (length w - length w) (drop (length w) w) ≡ bodyWords w i
+  unfolding bodyWords
+  other-row h = rw no-words (not-both (leb (suc i * 4) (length w)) (eqb (getD w (i * 4) 0) 3) _ (ne-eqb _ _ h))
 
-  module _ (there : i < length w / 4) (kind : getD w (i * 4) 0 ≡ 3) where
-    -- the list ends before the body does
-    pub cut-body : (n : ℕ) → n ≡ length w / 4 - i - 1 → n < getD w (i * 4 + 2) 0 → BodyLen w i n
-    unfolding listIn
-    cut-body n q l =
-        record {
-          inside = λ m. omega arith;
-          none = λ m. absurd (omega arith);
-          body = λ xs e.
-              let k = ap length e ∙ layout-length xs in
-              let d = length-drop (suc i) xs in
-              let t = body-told xs i (rw e at kind) in
-              let v : n < bodyLen (getElem? xs i) = rw t (rw e at l) in
-              take-all n (drop (suc i) xs) (omega arith) ∙ sym (take-all (bodyLen (getElem? xs i)) (drop (suc i) xs) (omega arith));
-        }
-
-    pub whole-body : (n : ℕ) → n ≡ getD w (i * 4 + 2) 0 → n ≤ length w / 4 - i - 1 → BodyLen w i n
-    unfolding listIn
-    whole-body n q l =
-        record {
-          inside = λ m. omega arith;
-          none = λ m. absurd (omega arith);
-          body = λ xs e. rw (q, body-told xs i (rw e at kind), e);
-        }
-
-pub part-room : (w : List ℕ) (at n from : ℕ) → BodyLen w at n → from ≤ length w → (suc at * 4 ≤ length w → from ≡ suc at * 4) → from + n * 4 ≤ length w
-part-room w at n from b l cut =
-    elim (decLe (suc at * 4) (length w)) [
-      | yes h ↦ let f = cut h in let i = b .inside h in omega arith
-      | no h ↦ let z = b .none (omega arith) in omega arith
-    ]
-
--- the part from the step behind `at` on
-pub body-part : (w : List ℕ) (at n from to : ℕ) (xs : List Step) → w ≡ layout xs → BodyLen w at n
-    → (suc at * 4 ≤ length w → from ≡ suc at * 4) → to ≡ from + n * 4
-    → take (to - from) (drop from w) ≡ layout (listIn xs (suc at))
-body-part w at n from to xs e b cut t =
-    let d : to - from ≡ n * 4 = omega arith in
-    elim (decLe (suc at * 4) (length w)) [
-      | yes h ↦
-          let f : from ≡ suc at * 4 = cut h in
-          rw (d, f, e) (ap (take (n * 4)) (drop-words (suc at) xs) ∙ take-words n (drop (suc at) xs) ∙ ap layout (b .body xs e))
-      | no h ↦ let z : n ≡ 0 = b .none (omega arith) in rw (d, z) (ap layout (rw z at (b .body xs e)))
-    ]
+  -- an after, whose row says where its body begins and how many steps it has
+  pub body-row :
+      (first size from n : ℕ) → i < length w / 4 → getD w (i * 4) 0 ≡ 3 → first ≡ getD w (i * 4 + 2) 0 → size ≡ getD w (i * 4 + 3) 0 → Placed first (length w) from
+      → Placed size (length w - from) n → take (from + n - from) (drop from w) ≡ bodyWords w i
+  unfolding bodyWords
+  body-row first size from n there kind f s p q =
+      let l : suc i * 4 ≤ length w = omega arith in
+      let m : from + n - from ≡ n = omega arith in
+      let len : length w - from ≡ length (drop from w) = sym (length-drop from w) in
+      rw (le-leb (suc i * 4) (length w) l, eq-eqb _ _ kind, m, ← f, ← s)
+      (take-placed (drop from w) size n (rw len at q) ∙ ap (take (size * 4)) (drop-placed w first from p))

@@ -1,72 +1,75 @@
--- Laws of the lists of several rules, one behind the other.
-use mathlib.Core.Path.{_≡_, refl, ap, _∙_}
-use mathlib.Core.Bool.{true, false}
+-- Laws of the parts of several rules, one behind the other.
+use mathlib.Core.Path.{_≡_, refl, sym, ap, _∙_}
+use mathlib.Core.Bool.{Bool, true, false, _&&_}
 use mathlib.Core.List.{List, [], _∷_, _++_, map, append-nil, append-assoc}
-use Prim.Native.Nat.{ℕ, zero, suc, _+_, _*_, _-_, _≤_, _<_}
+use Prim.Native.Nat.{ℕ, zero, suc, _+_, _*_, _-_, _/_, _^_, _≤_, _<_}
 use native.Mathlib.Nat.{add-zero, zero-add}
 use native.Mathlib.Numerals.{add-one}
 use native.Mathlib.Omega.{arith}
 use borrow.Author.Tests.{lt-ltb, le-ltb}
 use borrow.Rule.Slice.PartMut.{midOf, putMid}
 use lib.Dec.{ltb}
-use lib.ListN.{length, take, set, replicate, length-append, length-set}
+use lib.ListN.{length, take, set, getD, replicate, length-append, length-map, length-set}
 use lib.Seq.{take-suc-set}
-use Rattle.model.specs.declared.Step.{Step}
 use Rattle.model.specs.Lists.{upFrom, flatten}
-use Rattle.model.specs.Codec.{Row, wordsOf}
+use Rattle.model.specs.Codec as codec
+use Rattle.model.specs.Codec.{wordsOf}
 use Rattle.model.specs.Parts.{listRow}
 use Rattle.model.specs.Store.{listRows}
-use Rattle.model.specs.Flat.{Flattened, stepsIn, takenIn, tooManySteps}
-use Rattle.model.proofs.ListLaws.{upFrom-last, map-append}
+use Rattle.model.specs.Flat.{Row, Flattened, partOf, everyCopy, stepsIn, takenIn, tooManySteps}
+use Rattle.model.proofs.ListLaws.{length-upFrom, upFrom-last, map-append}
 use Rattle.model.proofs.Bools.{or-true}
 use Rattle.flat.specs.declared.Loaded.the-variants.{Over, Steps}
-use Rattle.flat.specs.Words.{layout}
-use Rattle.flat.specs.Outcome.{Wrote, Differs, Refusal, over, differs}
-use Rattle.flat.specs.Load.{stepLists, listPart, loaded, Unmade, many, other, Made, ruleAt, rulesUpTo}
-use Rattle.flat.proofs.Words.{layout-is, both, whole-length, tailOf, front-differs, back-differs, compared-both}
+use Rattle.flat.specs.Words.{layout, sameAt}
+use Rattle.flat.specs.Outcome.{Resolved, Start, Behinds, holdsAt, Wrote, listAt}
+use Rattle.flat.specs.Load.{stored, stepPart, listPart, countedIn, loaded, RuleWrote, EachWrote, MadeOf, CheckedTables, ruleContext, ruleAt, rulesUpTo, flattenTables}
+use Rattle.flat.proofs.Words.{layout-append, and-assoc, same-none, same-rows-append, same-drop, tailOf, tail-drop}
+use Rattle.flat.proofs.Rows.{whole-length, tail-behinds}
+use Rattle.flat.proofs.Parts.{Placed, drop-placed}
+use Rattle.flat.proofs.Lengths.{list-length}
+use Rattle.flat.proofs.RuleSays.{list-counted}
 
 -- LISTS OF LISTS --------------------------------------------------------------------------------------------------------------------
-pub flatten-more : {A : Type 0} (xss : List (List A)) (xs : List A) → flatten (xss ++ (xs ∷ [])) ≡ flatten xss ++ xs
+flatten-more : {A : Type 0} (xss : List (List A)) (xs : List A) → flatten (xss ++ (xs ∷ [])) ≡ flatten xss ++ xs
 flatten-more [] xs = append-nil xs
 flatten-more (ys ∷ xss) xs = rw (flatten-more xss xs, append-assoc)
 
-pub rows-more : (k : ℕ) (xss : List (List Step)) (xs : List Step)
-    → listRows k (xss ++ (xs ∷ [])) ≡ listRows k xss ++ ((k + length (flatten xss), length xs) ∷ [])
-rows-more k [] xs = rw (add-zero k)
-rows-more k (ys ∷ xss) xs =
-    let e : k + length ys + length (flatten xss) ≡ k + length (ys ++ flatten xss) = omega (arith, length-append ys (flatten xss)) in
-    rw (← e) (ap (λ (l : List (ℕ × ℕ)). (k, length ys) ∷ l) (rows-more (k + length ys) xss xs))
-
-pub words-append : {A : Type 0} (r : Row A) (l m : List A) → wordsOf r (l ++ m) ≡ wordsOf r l ++ wordsOf r m
+pub words-append : {A : Type 0} (r : codec.Row A) (l m : List A) → wordsOf r (l ++ m) ≡ wordsOf r l ++ wordsOf r m
 unfolding wordsOf
 words-append r [] m = refl
 words-append r (x ∷ l) m = rw (words-append r l m, append-assoc)
 
 -- FLATTENED RULES -------------------------------------------------------------------------------------------------------------------
-pub steps-in : (fs : List Flattened) → stepsIn fs ≡ length (flatten (stepLists fs))
-steps-in [] = refl
-steps-in (f ∷ fs) = omega (arith, steps-in fs, length-append (f .steps) (flatten (stepLists fs)))
-
 module _ (f : Flattened) where
-  pub steps-more : (fs : List Flattened) → stepsIn (fs ++ (f ∷ [])) ≡ stepsIn fs + length (f .steps)
+  steps-more : (fs : List Flattened) → stepsIn (fs ++ (f ∷ [])) ≡ stepsIn fs + everyCopy (f .steps)
   steps-more [] = omega arith
   steps-more (g ∷ fs) = omega (arith, steps-more fs)
 
-  pub taken-more : (fs : List Flattened) → takenIn (fs ++ (f ∷ [])) ≡ takenIn fs + f .taken
+  taken-more : (fs : List Flattened) → takenIn (fs ++ (f ∷ [])) ≡ takenIn fs + f .taken
   taken-more [] = omega arith
   taken-more (g ∷ fs) = omega (arith, taken-more fs)
 
-  pub lists-more : (fs : List Flattened) → flatten (stepLists (fs ++ (f ∷ []))) ≡ flatten (stepLists fs) ++ f .steps
-  lists-more fs = ap flatten (map-append (λ (g : Flattened). g .steps) fs (f ∷ [])) ∙ flatten-more (stepLists fs) (f .steps)
+  stored-more : (fs : List Flattened) → stored (fs ++ (f ∷ [])) ≡ stored fs ++ partOf f
+  unfolding stored
+  stored-more fs = ap flatten (map-append partOf fs (f ∷ [])) ∙ flatten-more (map partOf fs) (partOf f)
 
-  pub part-more : (fs : List Flattened) → listPart (fs ++ (f ∷ [])) ≡ listPart fs ++ (stepsIn fs ∷ length (f .steps) ∷ [])
+  rows-more : (k : ℕ) (fs : List Flattened)
+      → listRows k (fs ++ (f ∷ [])) ≡ listRows k fs ++ ((k + length (stored fs) + length (f .bodies), length (f .rows)) ∷ [])
+  unfolding stored
+  rows-more k [] = rw (add-zero k)
+  rows-more k (g ∷ fs) =
+      let own = k + length (g .bodies) in
+      let e : own + length (g .rows) + length (stored fs) ≡ k + length (stored (g ∷ fs)) =
+      omega (arith, length-append (partOf g) (stored fs), length-append (g .bodies) (g .rows)) in
+      ap (λ (l : List (ℕ × ℕ)). (own, length (g .rows)) ∷ l) (rows-more (own + length (g .rows)) fs)
+      ∙ ap (λ (n : ℕ). listRows k (g ∷ fs) ++ ((n + length (f .bodies), length (f .rows)) ∷ [])) e
+
+  part-more : (fs : List Flattened) → listPart (fs ++ (f ∷ [])) ≡ listPart fs ++ ((length (stored fs) + length (f .bodies)) ∷ length (f .rows) ∷ [])
   unfolding wordsOf
   part-more fs =
-      let e : 0 + length (flatten (stepLists fs)) ≡ stepsIn fs = omega (arith, steps-in fs) in
-      ap (λ (l : List (List Step)). wordsOf listRow (listRows 0 l)) (map-append (λ (g : Flattened). g .steps) fs (f ∷ []))
-      ∙ ap (wordsOf listRow) (rows-more 0 (stepLists fs) (f .steps))
-      ∙ words-append listRow (listRows 0 (stepLists fs)) ((0 + length (flatten (stepLists fs)), length (f .steps)) ∷ [])
-      ∙ ap (λ (n : ℕ). listPart fs ++ (n ∷ length (f .steps) ∷ [])) e
+      ap (wordsOf listRow) (rows-more 0 fs)
+      ∙ words-append listRow (listRows 0 fs) ((0 + length (stored fs) + length (f .bodies), length (f .rows)) ∷ [])
+      ∙ ap (λ (n : ℕ). listPart fs ++ ((n + length (f .bodies)) ∷ length (f .rows) ∷ [])) (zero-add (length (stored fs)))
 
 -- over the limits or not
 module _ (fs : List Flattened) where
@@ -74,11 +77,11 @@ module _ (fs : List Flattened) where
   unfolding tooManySteps
   over-taken h = rw (lt-ltb 65536 (takenIn fs) h, or-true (ltb 2048 (stepsIn fs)))
 
-  pub over-steps : 2048 < stepsIn fs → tooManySteps fs ≡ true
+  over-steps : 2048 < stepsIn fs → tooManySteps fs ≡ true
   unfolding tooManySteps
   over-steps h = rw (lt-ltb 2048 (stepsIn fs) h)
 
-  pub within : takenIn fs ≤ 65536 → stepsIn fs ≤ 2048 → tooManySteps fs ≡ false
+  within : takenIn fs ≤ 65536 → stepsIn fs ≤ 2048 → tooManySteps fs ≡ false
   unfolding tooManySteps
   within h k = rw (le-ltb 2048 (stepsIn fs) k, le-ltb 65536 (takenIn fs) h)
 
@@ -86,7 +89,7 @@ module _ (fs : List Flattened) where
   unfolding loaded
   loaded-over h = rw h
 
-  pub loaded-steps : (n : ℕ) → tooManySteps fs ≡ false → n ≡ stepsIn fs → Steps n ≡ loaded fs
+  pub loaded-steps : (n : ℕ) → tooManySteps fs ≡ false → n ≡ length (stored fs) → Steps n ≡ loaded fs
   unfolding loaded
   loaded-steps n h e = rw (h, e)
 
@@ -102,88 +105,174 @@ two-set w k a b h =
     ∙ ap (λ (q : List ℕ). q ++ (b ∷ [])) (take-suc-set w (k * 2) a (omega arith))
     ∙ append-assoc (take (k * 2) w) (a ∷ []) (b ∷ []))
 
+-- ONE RULE --------------------------------------------------------------------------------------------------------------------------
+module _ (acts blocks rules calls : List ℕ) (d limit k left first count : ℕ) (h : CheckedTables acts blocks rules d limit) where
+  pub rule-start : (scratch : ℕ) → Resolved acts blocks calls (length acts / 8) → length acts / 8 ≤ length calls → 1072 ≤ scratch → left ≤ 65536
+      → Start acts blocks calls scratch d (ruleContext limit) 0 0 left
+  rule-start scratch r l s a =
+      record {
+        tables = h .tables;
+        resolved = r;
+        calls-long = l;
+        depth-le = h .depth-le;
+        room = λ e. s;
+        limit-lt = h .limit-lt;
+        allowed-le = a;
+        listed-le = omega arith;
+        stored-le = omega arith;
+      }
+
+  -- words 8 and 9 of rule k
+  module _ (e : first ≡ getD rules (k * 16 + 8) 0) (g : count ≡ getD rules (k * 16 + 9) 0) where
+    pub rule-inside : k < length rules / 16 → first + count ≤ length acts / 8
+    rule-inside l = rw (e, g) (h .inside k l)
+
+    pub rule-is : listAt acts blocks d first count (ruleContext limit) 0 0 ≡ ruleAt acts blocks rules d limit k
+    rule-is = rw (e, g)
+
+  pub rule-short : length (listAt acts blocks d first count (ruleContext limit) 0 0 .steps) ≤ 268
+  rule-short = omega (arith, list-length acts blocks d first count (ruleContext limit) 0, h .depth-le)
+
+-- its bodies were written, and its own list behind them
+module _ (f : Flattened) (allowed : ℕ) (same : Bool) (seen own₀ words₀ own words : List ℕ) (n m left : ℕ) (s : Bool)
+    (short : length (f .steps) ≤ 268) (h : Wrote 1 0 f 0 0 allowed same seen own₀ words₀ own words n m left s) where
+  pub rule-room : allowed ≤ 65536 → 1072 ≤ length own → (m < 2 ^ 40) × (n * 4 ≤ length own) × (n < 2 ^ 40)
+  rule-room a r =
+      let u : n ≤ 268 = omega (arith, h .counted) in
+      (omega (arith, h .few′), omega arith, omega arith)
+
+  pub rule-wrote : (words′ : List ℕ) (r : Bool) → 1072 ≤ length own₀ → length words ≡ length words₀ → length words′ ≡ length words
+      → ((rs : List Row) → take (n * 4) own ≡ layout rs → Behinds words m rs words′ (m + n) × (r ≡ s && holdsAt seen m rs))
+      → RuleWrote f allowed same seen own words′ n m left r
+  rule-wrote words′ r l e e′ g =
+      let u : n ≡ length (f .rows) = omega (arith, h .counted, h .rows) in
+      let v : n ≤ 268 = omega (arith, h .counted) in
+      let o : take (n * 4) own ≡ layout (f .rows) = h .listed (omega arith) in
+      let b = g (f .rows) o in
+      let z : m ≡ 0 + length (f .bodies) = h .stored in
+      record {
+        listed = u;
+        short = v;
+        stored = omega (arith, z);
+        taken = h .taken;
+        own-is = o;
+        written = λ k. b .0 (omega arith) ∙ ap (λ (x : List ℕ). x ++ layout (f .rows)) (h .bodied (omega arith)) ∙ sym (layout-append (f .bodies) (f .rows));
+        agrees =
+            b .1 ∙ ap (λ (x : Bool). x && holdsAt seen m (f .rows)) (h .agrees) ∙ and-assoc same (holdsAt seen 0 (f .bodies)) (holdsAt seen m (f .rows))
+            ∙ ap (λ (j : ℕ). same && (holdsAt seen 0 (f .bodies) && holdsAt seen j (f .rows))) z
+            ∙ ap (λ (x : Bool). same && x) (sym (same-rows-append seen 0 (f .bodies) (f .rows)));
+        few = omega (arith, h .few, h .few′);
+      }
+
+-- the tail behind `size` steps, empty if there are not so many, is compared
+same-tail : (seen : List ℕ) (k size : ℕ) (w : List ℕ) → Placed size (length seen) k → sameAt (tailOf seen k) 0 w ≡ sameAt seen (size * 4) w
+same-tail seen k size w p =
+    ap (λ (l : List ℕ). sameAt l 0 w) (tail-drop seen k ∙ drop-placed seen size k p) ∙ same-drop seen (size * 4) 0 w
+    ∙ ap (λ (j : ℕ). sameAt seen j w) (add-zero (size * 4))
+
 -- THE LOOP OVER THE RULES -----------------------------------------------------------------------------------------------------------
--- the lists of fs stand in front of w, and in front of the words to be compared; their rows in front of l
-pub record Front (fs : List Flattened) (seen : List ℕ) (room rows-room : ℕ) (w l : List ℕ) (k size left : ℕ) : Type 0 where
+-- the parts of fs stand in front of w, and it is told whether they stand in front of `seen`; their rows stand in front of l
+pub record Front (fs : List Flattened) (seen : List ℕ) (room rows-room : ℕ) (w l : List ℕ) (k size counted left : ℕ) (same : Bool) : Type 0 where
   pub room-is : length w ≡ room
   pub rows-room-is : length l ≡ rows-room
   pub count-is : k ≡ length fs
-  pub size-is : size ≡ stepsIn fs
+  pub size-is : size ≡ length (stored fs)
+  pub counted-is : counted ≡ stepsIn fs
+  pub counted-le : counted ≤ k * 2 ^ 41
   pub taken-is : left + takenIn fs ≡ 65536
-  pub bounded : size ≤ 4096 * takenIn fs + k
-  pub written : size * 4 ≤ length w → take (size * 4) w ≡ layout (flatten (stepLists fs))
-  pub compared : size * 4 ≤ length seen → take (size * 4) seen ≡ layout (flatten (stepLists fs))
+  pub bounded : size + 514 * left ≤ 514 * 65536 + k
+  pub written : size * 4 ≤ length w → take (size * 4) w ≡ stepPart fs
+  pub agrees : same ≡ sameAt seen 0 (stepPart fs)
   pub listed : k * 2 ≤ length l → take (k * 2) l ≡ listPart fs
 
-pub at-start : (seen w l : List ℕ) → Front [] seen (length w) (length l) w l 0 0 65536
-unfolding wordsOf
+pub at-start : (seen w l : List ℕ) → Front [] seen (length w) (length l) w l 0 0 0 65536 true
+unfolding wordsOf stored
 at-start seen w l =
     record {
       room-is = refl;
       rows-room-is = refl;
       count-is = refl;
       size-is = refl;
+      counted-is = refl;
+      counted-le = omega arith;
       taken-is = omega arith;
       bounded = omega arith;
       written = λ h. refl;
-      compared = λ h. refl;
+      agrees = sym (same-none seen 0);
       listed = λ h. refl;
     }
 
-module _ (fs : List Flattened) (seen : List ℕ) (room rows-room : ℕ) (w l : List ℕ) (k size left : ℕ) (h : Front fs seen room rows-room w l k size left) where
-  -- one more list was written into the tail from i on, and compared with the tail from j on, and its row behind the others
-  pub next : (f : Flattened) (v l′ : List ℕ) (i j c s left′ : ℕ) → i ≤ length w → (size * 4 ≤ length w → i ≡ size * 4)
-      → (size * 4 ≤ length seen → j ≡ size * 4)
+module _ (fs : List Flattened) (seen : List ℕ) (room rows-room : ℕ) (w l : List ℕ) (k size counted left : ℕ) (same : Bool)
+    (h : Front fs seen room rows-room w l k size counted left same) where
+  -- one more part was written into the tail from i on, and compared with the tail from j on, and its row behind the others
+  pub next : (f : Flattened) (own v l′ : List ℕ) (i j n m c left′ : ℕ) (s : Bool) → Placed size (length w) i → Placed size (length seen) j
       → length v ≡ length (midOf i (length w - i) w)
-      → Wrote 1 1 false left f (tailOf seen j) v c s left′
-      → length l′ ≡ length l
-      → ((k + 1) * 2 ≤ length l → take ((k + 1) * 2) l′ ≡ take (k * 2) l ++ (size ∷ s ∷ []))
-      → Front (fs ++ (f ∷ [])) seen room rows-room (putMid i (length w - i) w v) l′ (k + 1) (size + s) left′
-  next f v l′ i j c s left′ inside cut cut′ kept z same row =
+      → RuleWrote f left same (tailOf seen j) own v n m left′ s
+      → length l′ ≡ length l → ((k + 1) * 2 ≤ length l → take ((k + 1) * 2) l′ ≡ take (k * 2) l ++ ((size + m) ∷ n ∷ []))
+      → c ≡ everyCopy (f .steps) → c ≤ n * 2 ^ 32
+      → Front (fs ++ (f ∷ [])) seen room rows-room (putMid i (length w - i) w v) l′ (k + 1) (size + (m + n)) (counted + c) left′ s
+  next f own v l′ i j n m c left′ s at at′ kept z same-rows row ec lc =
+      let sizes : length (partOf f) ≡ m + n = omega (arith, length-append (f .bodies) (f .rows), z .stored, z .listed) in
+      let e : 0 + length (stored fs) ≡ size = omega (arith, h .size-is) in
       record {
-        room-is = whole-length w v i inside kept ∙ h .room-is;
-        rows-room-is = same ∙ h .rows-room-is;
+        room-is = whole-length w v i (at .inside) kept ∙ h .room-is;
+        rows-room-is = same-rows ∙ h .rows-room-is;
         count-is = omega (arith, h .count-is, length-append fs (f ∷ []));
-        size-is = omega (arith, h .size-is, z .size-is, steps-more f fs);
-        taken-is = omega (arith, h .taken-is, z .taken-is, taken-more f fs);
-        bounded = omega (arith, h .bounded, z .bounded, taken-more f fs);
-        written = λ g. rw (lists-more f fs) (both w v i inside kept size s cut (flatten (stepLists fs)) (f .steps) (h .written) (z .written) g);
-        compared = λ g. rw (lists-more f fs) (compared-both seen j size cut′ (flatten (stepLists fs)) (f .steps) s (h .compared) (z .compared) g);
+        size-is = omega (arith, h .size-is, sizes, ap length (stored-more f fs), length-append (stored fs) (partOf f));
+        counted-is = omega (arith, h .counted-is, ec, steps-more f fs);
+        counted-le = omega (arith, h .counted-le, z .short);
+        taken-is = omega (arith, h .taken-is, z .taken, taken-more f fs);
+        bounded = omega (arith, h .bounded, z .few);
+        written = λ g.
+            let k : length (putMid i (length w - i) w v) ≡ length w = whole-length w v i (at .inside) kept in
+            let e : size * 4 ≤ length w = omega arith in
+            tail-behinds w v i (at .inside) kept size (at .there) (at .past) (m + n) (partOf f) (λ b. z .written (omega (arith, kept))) (omega arith)
+            ∙ ap (λ (x : List ℕ). x ++ layout (partOf f)) (h .written e) ∙ sym (layout-append (stored fs) (partOf f))
+            ∙ ap layout (sym (stored-more f fs));
+        agrees =
+            z .agrees ∙ ap (λ (b : Bool). b && sameAt (tailOf seen j) 0 (layout (partOf f))) (h .agrees)
+            ∙ ap (λ (b : Bool). sameAt seen 0 (stepPart fs) && b) (same-tail seen j size (layout (partOf f)) at′)
+            ∙ ap (λ (y : ℕ). sameAt seen 0 (stepPart fs) && sameAt seen (y * 4) (layout (partOf f))) (sym e)
+            ∙ sym (same-rows-append seen 0 (stored fs) (partOf f)) ∙ ap (λ (x : List Row). sameAt seen 0 (layout x)) (sym (stored-more f fs));
         listed = λ g.
-            rw (part-more f fs, ← h .size-is, ← z .size-is)
-            (row (omega arith) ∙ ap (λ (q : List ℕ). q ++ (size ∷ s ∷ [])) (h .listed (omega arith)));
+            rw (part-more f fs, ← h .size-is, ← z .stored, ← z .listed)
+            (row (omega arith) ∙ ap (λ (q : List ℕ). q ++ ((size + m) ∷ n ∷ [])) (h .listed (omega arith)));
       }
 
-  -- one more list has other words than the tail from j on
-  pub next-differs : (f : Flattened) (j : ℕ) → (size * 4 ≤ length seen → j ≡ size * 4) → (length seen < size * 4 → j ≡ length seen)
-      → Differs (f .steps) (tailOf seen j) → Differs (flatten (stepLists (fs ++ (f ∷ [])))) seen
-  next-differs f j cut end d =
-      rw (lists-more f fs) (back-differs seen j size cut end (flatten (stepLists fs)) (f .steps) (omega (arith, h .size-is, steps-in fs)) d)
+  too-many : 2048 < counted → tooManySteps fs ≡ true
+  too-many g = over-steps fs (omega (arith, h .counted-is))
 
-  pub too-many : 2048 < size → Unmade fs seen
-  too-many g = many (over-steps fs (omega (arith, h .size-is)))
-
-  -- the words behind the steps and behind the rows were cleared
-  pub accepted : size ≤ 2048 → (final rows : List ℕ) (e e′ : ℕ)
-      → (size * 4 ≤ length w → e ≡ size * 4) → final ≡ take e w ++ replicate (length w - e) 0 → length final ≡ length w
-      → (k * 2 ≤ length l → e′ ≡ k * 2) → rows ≡ take e′ l ++ replicate (length l - e′) 0 → length rows ≡ length l
-      → Made fs size seen final rows
-  accepted m final rows e e′ cut cleared same cut′ cleared′ same′ =
+  accepted : counted ≤ 2048 → EachWrote fs size same seen w l
+  accepted m =
       record {
-        few = within fs (omega (arith, h .taken-is)) (omega (arith, h .size-is));
+        few = within fs (omega (arith, h .taken-is)) (omega (arith, h .counted-is));
         count = h .size-is;
-        parts = record {
-          steps = λ g.
-              let f : e ≡ size * 4 = cut (omega arith) in
-              let t = rw f at cleared in
-              rw same (t ∙ ap (λ (p : List ℕ). p ++ replicate (length w - size * 4) 0) (h .written (omega arith) ∙ layout-is (flatten (stepLists fs))));
-          rows = λ g.
-              let f : e′ ≡ k * 2 = cut′ (omega (arith, h .count-is)) in
-              let t = rw f at cleared′ in
-              rw (same′, ← h .count-is) (t ∙ ap (λ (p : List ℕ). p ++ replicate (length l - k * 2) 0) (h .listed (omega (arith, h .count-is))));
-        };
-        compared = λ g. h .compared g ∙ layout-is (flatten (stepLists fs));
+        written = h .written;
+        listed = rw (← h .count-is) (h .listed);
+        agrees = h .agrees;
       }
+
+-- the words behind the steps and behind the rows were cleared
+pub cleared : (fs : List Flattened) (n : ℕ) (same : Bool) (seen w l final rows : List ℕ) (k e e′ : ℕ) → EachWrote fs n same seen w l → k ≡ length fs
+    → (n * 4 ≤ length w → e ≡ n * 4) → final ≡ take e w ++ replicate (length w - e) 0 → length final ≡ length w
+    → (k * 2 ≤ length l → e′ ≡ k * 2) → rows ≡ take e′ l ++ replicate (length l - e′) 0 → length rows ≡ length l
+    → MadeOf fs n same seen final rows
+cleared fs n same seen w l final rows k e e′ h q cut clear kept cut′ clear′ kept′ =
+    record {
+      few = h .few;
+      count = h .count;
+      parts = record {
+        steps = λ g.
+            let f : e ≡ n * 4 = cut (omega arith) in
+            let t = rw f at clear in
+            rw kept (t ∙ ap (λ (p : List ℕ). p ++ replicate (length w - n * 4) 0) (h .written (omega arith)));
+        rows = λ g.
+            let f : e′ ≡ length fs * 2 = cut′ (omega arith) ∙ ap (λ (j : ℕ). j * 2) q in
+            let t = rw f at clear′ in
+            rw kept′ (t ∙ ap (λ (p : List ℕ). p ++ replicate (length l - length fs * 2) 0) (h .listed (omega arith)));
+      };
+      agrees = h .agrees;
+    }
 
 -- the rules of a set, one more at a time
 module _ (acts blocks rules : List ℕ) (d limit : ℕ) where
@@ -198,34 +287,41 @@ module _ (acts blocks rules : List ℕ) (d limit : ℕ) where
       ∙ ap (map (ruleAt acts blocks rules d limit)) (upFrom-last 0 k)
       ∙ map-append (ruleAt acts blocks rules d limit) (upFrom 0 k) ((0 + k) ∷ []) ∙ ap (λ (n : ℕ). map (ruleAt acts blocks rules d limit) (upFrom 0 k) ++ (ruleAt acts blocks rules d limit n ∷ [])) (zero-add k)
 
+  pub rules-count : length rules / 16 ≡ length (flattenTables acts blocks rules d limit)
+  unfolding rulesUpTo
+  rules-count = sym (length-map (upFrom 0 (length rules / 16)) (ruleAt acts blocks rules d limit) ∙ length-upFrom 0 (length rules / 16))
+
   -- more rules, more actions taken
-  pub more-taken : (k j : ℕ) → takenIn (rulesUpTo acts blocks rules d limit k) ≤ takenIn (rulesUpTo acts blocks rules d limit (k + j))
+  more-taken : (k j : ℕ) → takenIn (rulesUpTo acts blocks rules d limit k) ≤ takenIn (rulesUpTo acts blocks rules d limit (k + j))
   more-taken k zero = rw (add-zero k) (omega arith)
   more-taken k (suc j) =
       let e : k + suc j ≡ k + j + 1 = omega arith in
       rw (e, rules-more (k + j)) (omega (arith, more-taken k j, taken-more (ruleAt acts blocks rules d limit (k + j)) (rulesUpTo acts blocks rules d limit (k + j))))
 
-  -- more rules begin with the same words
-  differs-more : (seen : List ℕ) (k j : ℕ) → Differs (flatten (stepLists (rulesUpTo acts blocks rules d limit k))) seen
-      → Differs (flatten (stepLists (rulesUpTo acts blocks rules d limit (k + j)))) seen
-  differs-more seen k zero x = rw (add-zero k) x
-  differs-more seen k (suc j) x =
-      let e : k + suc j ≡ k + j + 1 = omega arith in
-      let f = ruleAt acts blocks rules d limit (k + j) in
-      let fs = rulesUpTo acts blocks rules d limit (k + j) in
-      rw (e, rules-more (k + j), lists-more f fs) (front-differs (flatten (stepLists fs)) (f .steps) seen (differs-more seen k j x))
-
-  -- rule k takes more actions than are left, or has other words
-  pub rule-refused : (k n size left : ℕ) (seen w l : List ℕ) (room rows-room j : ℕ) → k < n → Front (rulesUpTo acts blocks rules d limit k) seen room rows-room w l k size left
-      → (size * 4 ≤ length seen → j ≡ size * 4) → (length seen < size * 4 → j ≡ length seen)
-      → Refusal left (ruleAt acts blocks rules d limit k) (tailOf seen j) → Unmade (rulesUpTo acts blocks rules d limit n) seen
-  rule-refused k n size left seen w l room rows-room j h o cut end (over g) =
+  -- rule k takes more actions than are left
+  pub rule-refused : (k n left : ℕ) → k < n → left + takenIn (rulesUpTo acts blocks rules d limit k) ≡ 65536 → left < ruleAt acts blocks rules d limit k .taken
+      → tooManySteps (rulesUpTo acts blocks rules d limit n) ≡ true
+  rule-refused k n left h o g =
       let q : k + 1 + (n - (k + 1)) ≡ n = omega arith in
       let m : takenIn (rulesUpTo acts blocks rules d limit (k + 1)) ≤ takenIn (rulesUpTo acts blocks rules d limit n) = rw q at (more-taken (k + 1) (n - (k + 1))) in
       let a : takenIn (rulesUpTo acts blocks rules d limit (k + 1)) ≡ takenIn (rulesUpTo acts blocks rules d limit k) + ruleAt acts blocks rules d limit k .taken =
       ap takenIn (rules-more k) ∙ taken-more (ruleAt acts blocks rules d limit k) (rulesUpTo acts blocks rules d limit k) in
-      many (over-taken (rulesUpTo acts blocks rules d limit n) (omega (arith, o .taken-is)))
-  rule-refused k n size left seen w l room rows-room j h o cut end (differs x) =
-      let q : k + 1 + (n - (k + 1)) ≡ n = omega arith in
-      let y = next-differs (rulesUpTo acts blocks rules d limit k) seen room rows-room w l k size left o (ruleAt acts blocks rules d limit k) j cut end x in
-      other (rw q at (differs-more seen (k + 1) (n - (k + 1)) (rw (rules-more k) y)))
+      over-taken (rulesUpTo acts blocks rules d limit n) (omega arith)
+
+  -- what rule k's rows count for
+  pub rule-counted : (k : ℕ) (own : List ℕ) (n c : ℕ) → take (n * 4) own ≡ layout (ruleAt acts blocks rules d limit k .rows)
+      → ((rs : List Row) → take (n * 4) own ≡ layout rs → c ≡ countedIn rs) → c ≡ everyCopy (ruleAt acts blocks rules d limit k .steps)
+  rule-counted k own n c e h =
+      h (ruleAt acts blocks rules d limit k .rows) e ∙ list-counted acts blocks d (getD rules (k * 16 + 8) 0) (getD rules (k * 16 + 9) 0) (ruleContext limit) 0 0
+
+  -- after the last turn
+  module _ (k : ℕ) (le : k ≤ length rules / 16) (all : length rules / 16 ≤ k) (seen : List ℕ) (room rows-room : ℕ) (w l : List ℕ) (size counted left : ℕ) (same : Bool)
+      (h : Front (rulesUpTo acts blocks rules d limit k) seen room rows-room w l k size counted left same) where
+    whole : rulesUpTo acts blocks rules d limit k ≡ flattenTables acts blocks rules d limit
+    whole = let e : k ≡ length rules / 16 = omega arith in ap (rulesUpTo acts blocks rules d limit) e
+
+    pub all-over : 2048 < counted → tooManySteps (flattenTables acts blocks rules d limit) ≡ true
+    all-over g = rw whole at (too-many (rulesUpTo acts blocks rules d limit k) seen room rows-room w l k size counted left same h g)
+
+    pub all-wrote : counted ≤ 2048 → EachWrote (flattenTables acts blocks rules d limit) size same seen w l
+    all-wrote g = rw whole at (accepted (rulesUpTo acts blocks rules d limit k) seen room rows-room w l k size counted left same h g)

@@ -16,9 +16,10 @@ use Rattle.model.specs.Image.{wordAt, tableOf, callDepth, repeatLimit}
 use Rattle.model.specs.Flat.{Flattening, withinAfter, withinRepeat, withinConditional, flattenList, repeatFails, flatteningsFrom, blockNamed, flattenCall, flattenings}
 use Rattle.flat.specs.Load.{ruleContext}
 
--- how many lists an action opens, one inside the other, given where it stands and how many steps the list around it has
+-- how many lists an action opens, one inside the other, given where it stands, how many steps the list around it has, and how many the
+-- rule's bodies
 abbrev pub Opening : Type 0
-Opening = FlattenCtx → ℕ → ℕ
+Opening = FlattenCtx → ℕ → ℕ → ℕ
 
 unfoldable pub greater : ℕ → ℕ → ℕ
 greater a b = cond (leb a b) b a
@@ -26,39 +27,42 @@ greater a b = cond (leb a b) b a
 -- a list itself, and the most that one of its actions opens: "a list at 256 or more steps .. ends". What each action adds to the steps
 -- stands in the first list, what it opens in the second
 abbrev pub openList : List Flattening → List Opening → Opening
-openList [] os c n = 1
-openList (m ∷ ms) [] c n = 1
-openList (m ∷ ms) (o ∷ os) c n =
+openList [] os c n m = 1
+openList (g ∷ gs) [] c n m = 1
+openList (g ∷ gs) (o ∷ os) c n m =
     elim (leb 256 n) [
       | true ↦ 1
-      | false ↦ greater (suc (o c n)) (openList ms os c (n + m c n .counted))
+      | false ↦
+          let a = g c n m in
+          greater (suc (o c n m)) (openList gs os c (n + length (a .steps)) (m + length (a .bodies)))
     ]
 
 -- k records, f records behind
 abbrev pub openPart : ℕ → ℕ → List Flattening → List Opening → Opening
-openPart f k ms os = openList (take k (drop f ms)) (take k (drop f os))
+openPart f k gs os = openList (take k (drop f gs)) (take k (drop f os))
 
 -- an After's or a Repeat's body, the two regions of a Conditional one after the other, the list of a called block
 abbrev pub openAction : (ℕ → Opening) → ℕ → List Flattening → List Opening → FlowAction → Opening
-openAction call i ms os Plain c n = 0
-openAction call i ms os (Wait t) c n = 0
-openAction call i ms os (After t f k) c n =
+openAction call i gs os Plain c n m = 0
+openAction call i gs os (Wait t) c n m = 0
+openAction call i gs os (After t f k) c n m =
     elim (c .«in_after») [
       | true ↦ 0
-      | false ↦ openPart (f - suc i) k ms os (withinAfter c) 0
+      | false ↦ openPart (f - suc i) k gs os (withinAfter c) 0 m
     ]
-openAction call i ms os (Call b) c n = call b c n
-openAction call i ms os (Repeat t f k) c n =
+openAction call i gs os (Call b) c n m = call b c n m
+openAction call i gs os (Repeat t f k) c n m =
     elim (repeatFails c t) [
       | true ↦ 0
-      | false ↦ openPart (f - suc i) k ms os (withinRepeat c) 0
+      | false ↦ openPart (f - suc i) k gs os (withinRepeat c) 0 m
     ]
-openAction call i ms os (Conditional q yf yk ef ek) c n =
+openAction call i gs os (Conditional q yf yk ef ek) c n m =
     elim (c .«in_conditional») [
       | true ↦ 0
       | false ↦
-          let y = flattenList (take yk (drop (yf - suc i) ms)) (withinConditional c) (suc n) in
-          greater (openPart (yf - suc i) yk ms os (withinConditional c) (suc n)) (openPart (ef - suc i) ek ms os (withinConditional c) (suc n + y .counted))
+          let y = flattenList (take yk (drop (yf - suc i) gs)) (withinConditional c) (suc n) m in
+          greater (openPart (yf - suc i) yk gs os (withinConditional c) (suc n) m)
+          (openPart (ef - suc i) ek gs os (withinConditional c) (suc n + length (y .steps)) (m + length (y .bodies)))
     ]
 
 -- over the words of the action table and of the block table
@@ -70,13 +74,13 @@ module _ (acts blks : List ℕ) where
       openAction opened i (flatteningsFrom acts blks call k (suc i)) behind (flowOf (recordIn acts i)) ∷ behind
 
   abbrev pub openBlock : Option Record → List Flattening → List Opening → Opening
-  openBlock none ms os c n = 0
-  openBlock (some r) ms os c n = openPart (r .a) (r .b) ms os c n
+  openBlock none gs os c n m = 0
+  openBlock (some r) gs os c n m = openPart (r .a) (r .b) gs os c n m
 
   unfoldable pub openCall : ℕ → ℕ → Opening
-  openCall zero b c n = 0
-  openCall (suc d) b c n =
-      openBlock (blockNamed acts blks b) (flattenings acts blks d) (openingsFrom (flattenCall acts blks d) (openCall d) (length acts / 8) 0) c n
+  openCall zero b c n m = 0
+  openCall (suc d) b c n m =
+      openBlock (blockNamed acts blks b) (flattenings acts blks d) (openingsFrom (flattenCall acts blks d) (openCall d) (length acts / 8) 0) c n m
 
   unfoldable pub openings : ℕ → List Opening
   openings d = openingsFrom (flattenCall acts blks d) (openCall d) (length acts / 8) 0
@@ -87,4 +91,4 @@ openLists img i =
     let acts = tableOf img actions in
     let blks = tableOf img blocks in
     openPart (wordAt img rules i 8) (wordAt img rules i 9) (flattenings acts blks (callDepth img)) (openings acts blks (callDepth img))
-    (ruleContext (repeatLimit img)) 0
+    (ruleContext (repeatLimit img)) 0 0

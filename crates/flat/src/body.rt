@@ -1,41 +1,37 @@
 // "An after body is handed to the runner as a part of the flat list."
 use crate::records::wide;
-use crate::steps::tail_start;
+use crate::steps::place;
 ghost use mathlib.Core.Path.{_≡_};
-ghost use mathlib.Core.List.{List};
-ghost use Prim.Native.Nat.{suc, _+_, _*_, _≤_, _<_};
-ghost use lib.ListN.{length, take, drop};
-ghost use Rattle.model.specs.declared.Step.{Step};
-ghost use Rattle.model.specs.Flat.{listIn};
-ghost use Rattle.flat.specs.Words.{layout};
-ghost use Rattle.flat.specs.Body.{BodyLen};
+ghost use Prim.Native.Nat.{_+_, _*_, _<_};
+ghost use Rattle.flat.specs.Words.{bodyWords, listWords};
 
-// How many steps the body of the after at step `at` has; 0 where no after stands there.
-fn body_len(steps: &[u32], at: u32) -> usize
-    ensures { λ r. ⌜ BodyLen (now (steps .entry)) at r ⌝ }
+// The body of the after in row i of a rule's part of the flat steps: the part of its words that holds it.
+pub fn after_body(part: &[u32], i: usize) -> &[u32]
+    ensures { λ r. ⌜ now r ≡ bodyWords (now (part .entry)) i ⌝ }
 {
-    let i = wide(at);
-    let n = steps.len() / 4;
-    if n <= i {
-        return 0;
+    let len = part.len();
+    if len / 4 <= i {
+        return &part[len..];
     }
-    if steps[i * 4] != 3 {
-        return 0;
+    if part[i * 4] != 3 {
+        return &part[len..];
     }
-    let len = wide(steps[i * 4 + 2]);
-    let rest = n - i - 1;
-    if rest < len {
-        return rest;
-    }
-    len
+    let from = place(wide(part[i * 4 + 2]), len);
+    let size = place(wide(part[i * 4 + 3]), len - from);
+    &part[from..from + size]
 }
 
-// The body of the after at step `at` of a list: the part of the list's words that holds it.
-pub fn after_body(steps: &[u32], at: u32) -> &[u32]
-    ensures { λ r. ⌜ ((xs : List Step) → now (steps .entry) ≡ layout xs → now r ≡ layout (listIn xs (suc at))) ⌝ }
+// The words of a rule's list, in its part of the flat steps, whose own list stands behind `own` steps: list 0 is its own, list p + 1 the
+// body of the after at place p of it.
+pub fn list_of(part: &[u32], own: usize, list: u32) -> &[u32]
+    ensures { λ r. ⌜ now r ≡ listWords (now (part .entry)) own list ⌝ }
 {
-    let len = body_len(steps, at);
-    let from = tail_start(wide(at) + 1, steps.len());
-    let to = from + len * 4;
-    &steps[from..to]
+    let len = part.len();
+    if len / 4 < own {
+        return &part[len..];
+    }
+    if list == 0 {
+        return &part[own * 4..];
+    }
+    after_body(part, own + (list - 1) as usize)
 }

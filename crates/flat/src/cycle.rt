@@ -1,6 +1,6 @@
 // The cycle of flattening. "A block may call itself, down to the call depth limit": it falls on the calls left, then on the records
-// left in the table. At most 12 lists are open at once (specs/OpenLists.antt, proofs/OpenBound.antt). The tail of the lent words is
-// handed on as a mutable part.
+// left in the table. At most 12 lists are open at once (specs/OpenLists.antt, proofs/OpenBound.antt). A rule's own list is written into
+// `list`, an after's body into `body`, and from there into the lent tail of the flat steps, `bodies`; it is compared with `seen` too.
 use crate::Answer;
 use crate::Found;
 use crate::Progress;
@@ -8,92 +8,102 @@ use crate::context::repeat_fails;
 use crate::context::within_after;
 use crate::context::within_conditional;
 use crate::context::within_repeat;
-use crate::records::find_block;
+use crate::records::called_block;
 use crate::records::read_action;
 use crate::records::wide;
-use crate::steps::copy_body;
-use crate::steps::push;
+use crate::steps::append_steps;
+use crate::steps::copies;
+use crate::steps::place;
 use crate::steps::put;
-use crate::steps::room_start;
-use crate::steps::same_step;
-use crate::steps::tail_start;
 use model::FlowAction;
 ghost use mathlib.Core.Path.{_≡_};
 ghost use Prim.Native.Nat.{_+_, _/_, _<_, _≤_};
 ghost use lib.ListN.{length};
-ghost use Rattle.model.specs.declared.FlowAction.the-variants.{After, Repeat, Conditional};
+ghost use Rattle.model.specs.declared.FlowAction.the-variants.{After, Call, Repeat, Conditional};
 ghost use Rattle.model.specs.Flat.{flattenCall};
-ghost use Rattle.flat.specs.Outcome.{Start, Behind, ListOut, ActOut, listAt, actionAt, formAt};
+ghost use Rattle.flat.specs.Outcome.{Start, Behind, ListOut, ActOut, actionIn, listAt, actionAt, formAt};
 
-// `count` actions from record `first` on, behind n steps of the list around them: one after the other. Only nested lists and calls recurse.
+// `count` actions from record `first` on, one after the other. Only nested lists and calls recurse.
 pub fn flatten_list(
     acts: &[u32],
     blocks: &[u32],
-    words: &mut [u32],
+    calls: &[u32],
+    list: &mut [u32],
+    body: &mut [u32],
+    bodies: &mut [u32],
     seen: &[u32],
     first: usize,
     count: usize,
     p: Progress,
 ) -> Answer
-    requires { ⌜ Start (now acts) (now blocks) (length (now words)) (length (now seen)) (p .ctx) (p .left) ⌝ }
+    requires { ⌜ Start (now acts) (now blocks) (now calls) (length (now body)) (p .depth) (p .ctx) (p .n) (p .m) (p .left) ⌝ }
     requires { ⌜ first + count ≤ length (now acts) / 8 ⌝ }
-    ensures { λ r. ⌜ ListOut (p .ctx .«in_repeat») (p .left) (listAt (now (acts .entry)) (now (blocks .entry)) (p .depth) first count (p .ctx) (p .n)) (now (seen .entry)) (now (words .exit)) r ⌝ }
+    ensures { λ r. ⌜ ListOut (listAt (now (acts .entry)) (now (blocks .entry)) (p .depth) first count (p .ctx) (p .n) (p .m)) (p .n) (p .m) (p .left) (p .same) (now (seen .entry)) (now (list .entry)) (now (bodies .entry)) (now (list .exit)) (now (bodies .exit)) r ⌝ }
 {
     let end = first + count;
     let mut i = first;
     let mut n = p.n;
-    let mut size: usize = 0;
+    let mut m = p.m;
     let mut left = p.left;
+    let mut same = p.same;
     while i < end {
-        let at = tail_start(size, words.len());
-        let behind = tail_start(size, seen.len());
         if 256 <= n {
-            let Answer::Done(c, s, l) = push(&mut words[at..], &seen[behind..], 4, 0, left) else {
-                return Answer::Refused;
-            };
-            return Answer::Done(n - p.n + c, size + s, l);
+            put(list, n, 4, 0, 0, 0);
+            return Answer::Done(n + 1, m, left, same);
         }
         if left == 0 {
             return Answer::Refused;
         }
         let here = Progress {
             n,
+            m,
             left: left - 1,
+            same,
             ..p
         };
-        let Answer::Done(c, s, l) = flatten_action(
+        let Answer::Done(a, b, l, s) = flatten_action(
             acts,
             blocks,
-            &mut words[at..],
-            &seen[behind..],
+            calls,
+            list,
+            body,
+            bodies,
+            seen,
             i,
             here,
         ) else {
             return Answer::Refused;
         };
-        n += c;
-        size += s;
+        n = a;
+        m = b;
         left = l;
+        same = s;
         i += 1;
     }
-    Answer::Done(n - p.n, size, left)
+    Answer::Done(n, m, left, same)
 }
 
 // The action of record i.
 fn flatten_action(
     acts: &[u32],
     blocks: &[u32],
-    words: &mut [u32],
+    calls: &[u32],
+    list: &mut [u32],
+    body: &mut [u32],
+    bodies: &mut [u32],
     seen: &[u32],
     i: usize,
     p: Progress,
 ) -> Answer
-    requires { ⌜ Start (now acts) (now blocks) (length (now words)) (length (now seen)) (p .ctx) (p .left) ⌝ }
+    requires { ⌜ Start (now acts) (now blocks) (now calls) (length (now body)) (p .depth) (p .ctx) (p .n) (p .m) (p .left) ⌝ }
     requires { ⌜ (i < length (now acts) / 8) × (p .n < 256) ⌝ }
-    ensures { λ r. ⌜ ActOut (p .ctx .«in_repeat») (p .left) (actionAt (now (acts .entry)) (now (blocks .entry)) (p .depth) i (p .ctx) (p .n)) (now (seen .entry)) (now (words .exit)) r ⌝ }
+    ensures { λ r. ⌜ ActOut (actionAt (now (acts .entry)) (now (blocks .entry)) (p .depth) i (p .ctx) (p .n) (p .m)) (p .n) (p .m) (p .left) (p .same) (now (seen .entry)) (now (list .entry)) (now (bodies .entry)) (now (list .exit)) (now (bodies .exit)) r ⌝ }
 {
     match read_action(acts, i) {
-        FlowAction::Wait { duration_ms } => push(words, seen, 1, duration_ms, p.left),
+        FlowAction::Wait { duration_ms } => {
+            put(list, p.n, 1, duration_ms, 0, 0);
+            Answer::Done(p.n + 1, p.m, p.left, p.same)
+        }
         FlowAction::After {
             delay_ms,
             first,
@@ -101,7 +111,10 @@ fn flatten_action(
         } => flatten_after(
             acts,
             blocks,
-            words,
+            calls,
+            list,
+            body,
+            bodies,
             seen,
             i,
             delay_ms,
@@ -109,7 +122,18 @@ fn flatten_action(
             wide(count),
             p,
         ),
-        FlowAction::Call { block } => flatten_call(acts, blocks, words, seen, block, p),
+        FlowAction::Call { block } => flatten_call(
+            acts,
+            blocks,
+            calls,
+            list,
+            body,
+            bodies,
+            seen,
+            i,
+            block,
+            p,
+        ),
         FlowAction::Repeat {
             times,
             first,
@@ -117,7 +141,10 @@ fn flatten_action(
         } => flatten_repeat(
             acts,
             blocks,
-            words,
+            calls,
+            list,
+            body,
+            bodies,
             seen,
             i,
             times,
@@ -134,7 +161,10 @@ fn flatten_action(
         } => flatten_branch(
             acts,
             blocks,
-            words,
+            calls,
+            list,
+            body,
+            bodies,
             seen,
             i,
             condition,
@@ -144,15 +174,21 @@ fn flatten_action(
             wide(else_count),
             p,
         ),
-        FlowAction::Plain => push(words, seen, 0, i as u32, p.left),
+        FlowAction::Plain => {
+            put(list, p.n, 0, i as u32, 0, 0);
+            Answer::Done(p.n + 1, p.m, p.left, p.same)
+        }
     }
 }
 
-// An after of record i: its body is a list of its own, right behind its step.
+// An after of record i: its body is a list of its own, and goes behind the rule's bodies.
 fn flatten_after(
     acts: &[u32],
     blocks: &[u32],
-    words: &mut [u32],
+    calls: &[u32],
+    list: &mut [u32],
+    body: &mut [u32],
+    bodies: &mut [u32],
     seen: &[u32],
     i: usize,
     ms: u32,
@@ -160,70 +196,92 @@ fn flatten_after(
     count: usize,
     p: Progress,
 ) -> Answer
-    requires { ⌜ Start (now acts) (now blocks) (length (now words)) (length (now seen)) (p .ctx) (p .left) ⌝ }
+    requires { ⌜ Start (now acts) (now blocks) (now calls) (length (now body)) (p .depth) (p .ctx) (p .n) (p .m) (p .left) ⌝ }
     requires { ⌜ (i < length (now acts) / 8) × (p .n < 256) × Behind (length (now acts) / 8) i first count ⌝ }
-    ensures { λ r. ⌜ ActOut (p .ctx .«in_repeat») (p .left) (formAt (now (acts .entry)) (now (blocks .entry)) (p .depth) i (After ms first count) (p .ctx) (p .n)) (now (seen .entry)) (now (words .exit)) r ⌝ }
+    ensures { λ r. ⌜ ActOut (formAt (now (acts .entry)) (now (blocks .entry)) (p .depth) i (After ms first count) (p .ctx) (p .n) (p .m)) (p .n) (p .m) (p .left) (p .same) (now (seen .entry)) (now (list .entry)) (now (bodies .entry)) (now (list .exit)) (now (bodies .exit)) r ⌝ }
 {
     if p.ctx.in_after {
-        return push(words, seen, 4, 0, p.left);
+        put(list, p.n, 4, 0, 0, 0);
+        return Answer::Done(p.n + 1, p.m, p.left, p.same);
     }
-    let at = tail_start(1, words.len());
-    let behind = tail_start(1, seen.len());
     let inner = within_after(p.ctx);
-    let body = Progress {
+    let inside = Progress {
         ctx: inner,
         n: 0,
         ..p
     };
-    let Answer::Done(_, size, left) = flatten_list(
+    let mut none = [0u32; 1];
+    let Answer::Done(size, _, left, same) = flatten_list(
         acts,
         blocks,
-        &mut words[at..],
-        &seen[behind..],
+        calls,
+        body,
+        &mut none,
+        bodies,
+        seen,
         first,
         count,
-        body,
+        inside,
     ) else {
         return Answer::Refused;
     };
-    put(words, 3, ms, size as u32, 0);
-    if !same_step(seen, 3, ms, size as u32, 0) {
-        return Answer::Refused;
-    }
-    Answer::Done(1, size + 1, left)
+    put(list, p.n, 3, ms, p.m as u32, size as u32);
+    let agrees = append_steps(bodies, seen, p.m, body, size, same);
+    Answer::Done(p.n + 1, p.m + size, left, agrees)
 }
 
 // A call: the block's actions are written into the list around.
 fn flatten_call(
     acts: &[u32],
     blocks: &[u32],
-    words: &mut [u32],
+    calls: &[u32],
+    list: &mut [u32],
+    body: &mut [u32],
+    bodies: &mut [u32],
     seen: &[u32],
+    i: usize,
     name: u32,
     p: Progress,
 ) -> Answer
-    requires { ⌜ Start (now acts) (now blocks) (length (now words)) (length (now seen)) (p .ctx) (p .left) ⌝ }
-    ensures { λ r. ⌜ ListOut (p .ctx .«in_repeat») (p .left) (flattenCall (now (acts .entry)) (now (blocks .entry)) (p .depth) name (p .ctx) (p .n)) (now (seen .entry)) (now (words .exit)) r ⌝ }
+    requires { ⌜ Start (now acts) (now blocks) (now calls) (length (now body)) (p .depth) (p .ctx) (p .n) (p .m) (p .left) ⌝ }
+    requires { ⌜ (i < length (now acts) / 8) × (p .n < 256) × (actionIn (now acts) i ≡ Call name) ⌝ }
+    ensures { λ r. ⌜ ListOut (flattenCall (now (acts .entry)) (now (blocks .entry)) (p .depth) name (p .ctx) (p .n) (p .m)) (p .n) (p .m) (p .left) (p .same) (now (seen .entry)) (now (list .entry)) (now (bodies .entry)) (now (list .exit)) (now (bodies .exit)) r ⌝ }
 {
     if p.depth == 0 {
-        return push(words, seen, 4, 0, p.left);
+        put(list, p.n, 4, 0, 0, 0);
+        return Answer::Done(p.n + 1, p.m, p.left, p.same);
     }
-    let Found::Block(first, count) = find_block(blocks, name) else {
-        return push(words, seen, 4, 0, p.left);
+    let Found::Block(first, count) = called_block(blocks, calls, i) else {
+        put(list, p.n, 4, 0, 0, 0);
+        return Answer::Done(p.n + 1, p.m, p.left, p.same);
     };
-    let body = Progress {
+    let inside = Progress {
         depth: p.depth - 1,
         ..p
     };
-    flatten_list(acts, blocks, words, seen, wide(first), wide(count), body)
+    flatten_list(
+        acts,
+        blocks,
+        calls,
+        list,
+        body,
+        bodies,
+        seen,
+        wide(first),
+        wide(count),
+        inside,
+    )
 }
 
-// A repeat of record i. Its body is counted first: one that does not fit is neither written nor compared. One that fits is flattened at
-// the place of its first copy.
+// A repeat of record i: its body is flattened once, as a list of its own, at the place of its first copy. If that does not fit, neither
+// its steps nor its after bodies are kept.
 fn flatten_repeat(
     acts: &[u32],
     blocks: &[u32],
-    words: &mut [u32],
+    calls: &[u32],
+    list: &mut [u32],
+    body: &mut [u32],
+    bodies: &mut [u32],
     seen: &[u32],
     i: usize,
     times: u32,
@@ -231,59 +289,51 @@ fn flatten_repeat(
     count: usize,
     p: Progress,
 ) -> Answer
-    requires { ⌜ Start (now acts) (now blocks) (length (now words)) (length (now seen)) (p .ctx) (p .left) ⌝ }
+    requires { ⌜ Start (now acts) (now blocks) (now calls) (length (now body)) (p .depth) (p .ctx) (p .n) (p .m) (p .left) ⌝ }
     requires { ⌜ (i < length (now acts) / 8) × (p .n < 256) × Behind (length (now acts) / 8) i first count ⌝ }
-    ensures { λ r. ⌜ ActOut (p .ctx .«in_repeat») (p .left) (formAt (now (acts .entry)) (now (blocks .entry)) (p .depth) i (Repeat times first count) (p .ctx) (p .n)) (now (seen .entry)) (now (words .exit)) r ⌝ }
+    ensures { λ r. ⌜ ActOut (formAt (now (acts .entry)) (now (blocks .entry)) (p .depth) i (Repeat times first count) (p .ctx) (p .n) (p .m)) (p .n) (p .m) (p .left) (p .same) (now (seen .entry)) (now (list .entry)) (now (bodies .entry)) (now (list .exit)) (now (bodies .exit)) r ⌝ }
 {
     if repeat_fails(p.ctx, times) {
-        return push(words, seen, 4, 0, p.left);
+        put(list, p.n, 4, 0, 0, 0);
+        return Answer::Done(p.n + 1, p.m, p.left, p.same);
     }
     let inner = within_repeat(p.ctx);
-    let body = Progress {
+    let inside = Progress {
         ctx: inner,
         n: 0,
         ..p
     };
-    let end = words.len();
-    let last = seen.len();
-    let Answer::Done(counted, _, left) = flatten_list(
+    let at = place(p.n, list.len());
+    let Answer::Done(size, m, left, same) = flatten_list(
         acts,
         blocks,
-        &mut words[end..],
-        &seen[last..],
+        calls,
+        &mut list[at..],
+        body,
+        bodies,
+        seen,
         first,
         count,
-        body,
+        inside,
     ) else {
         return Answer::Refused;
     };
-    if 256 < p.n + counted {
-        return push(words, seen, 4, 0, left);
+    if 256 < p.n + size {
+        put(list, p.n, 4, 0, 0, 0);
+        return Answer::Done(p.n + 1, p.m, left, p.same);
     }
-    let Answer::Done(_, size, _) = flatten_list(acts, blocks, words, seen, first, count, body)
-    else {
-        return Answer::Refused;
-    };
-    let start = 0;
-    let stop = tail_start(size, seen.len());
-    let from = room_start(size, seen.len());
-    copy_body(
-        words,
-        &seen[start..stop],
-        &seen[from..],
-        times,
-        counted,
-        size,
-        p.n,
-        left,
-    )
+    let n = copies(list, times, size, p.n);
+    Answer::Done(n, m, left, same)
 }
 
 // A conditional of record i: both regions are written into the list around, behind its step.
 fn flatten_branch(
     acts: &[u32],
     blocks: &[u32],
-    words: &mut [u32],
+    calls: &[u32],
+    list: &mut [u32],
+    body: &mut [u32],
+    bodies: &mut [u32],
     seen: &[u32],
     i: usize,
     condition: u32,
@@ -293,54 +343,63 @@ fn flatten_branch(
     else_count: usize,
     p: Progress,
 ) -> Answer
-    requires { ⌜ Start (now acts) (now blocks) (length (now words)) (length (now seen)) (p .ctx) (p .left) ⌝ }
+    requires { ⌜ Start (now acts) (now blocks) (now calls) (length (now body)) (p .depth) (p .ctx) (p .n) (p .m) (p .left) ⌝ }
     requires { ⌜ (i < length (now acts) / 8) × (p .n < 256) × Behind (length (now acts) / 8) i «then_first» «then_count» × Behind (length (now acts) / 8) i «else_first» «else_count» ⌝ }
-    ensures { λ r. ⌜ ActOut (p .ctx .«in_repeat») (p .left) (formAt (now (acts .entry)) (now (blocks .entry)) (p .depth) i (Conditional condition «then_first» «then_count» «else_first» «else_count») (p .ctx) (p .n)) (now (seen .entry)) (now (words .exit)) r ⌝ }
+    ensures { λ r. ⌜ ActOut (formAt (now (acts .entry)) (now (blocks .entry)) (p .depth) i (Conditional condition «then_first» «then_count» «else_first» «else_count») (p .ctx) (p .n) (p .m)) (p .n) (p .m) (p .left) (p .same) (now (seen .entry)) (now (list .entry)) (now (bodies .entry)) (now (list .exit)) (now (bodies .exit)) r ⌝ }
 {
     if p.ctx.in_conditional {
-        return push(words, seen, 4, 0, p.left);
+        put(list, p.n, 4, 0, 0, 0);
+        return Answer::Done(p.n + 1, p.m, p.left, p.same);
     }
-    let at = tail_start(1, words.len());
-    let seen_at = tail_start(1, seen.len());
     let inner = within_conditional(p.ctx);
     let region = Progress {
         ctx: inner,
         n: p.n + 1,
         ..p
     };
-    let Answer::Done(counted, size, left) = flatten_list(
+    let Answer::Done(middle, m, left, same) = flatten_list(
         acts,
         blocks,
-        &mut words[at..],
-        &seen[seen_at..],
+        calls,
+        list,
+        body,
+        bodies,
+        seen,
         then_first,
         then_count,
         region,
     ) else {
         return Answer::Refused;
     };
-    let behind = tail_start(size + 1, words.len());
-    let seen_behind = tail_start(size + 1, seen.len());
     let other = Progress {
         ctx: inner,
-        n: p.n + 1 + counted,
+        n: middle,
+        m,
         left,
+        same,
         ..p
     };
-    let Answer::Done(c, s, l) = flatten_list(
+    let Answer::Done(n, b, l, s) = flatten_list(
         acts,
         blocks,
-        &mut words[behind..],
-        &seen[seen_behind..],
+        calls,
+        list,
+        body,
+        bodies,
+        seen,
         else_first,
         else_count,
         other,
     ) else {
         return Answer::Refused;
     };
-    put(words, 2, condition, size as u32, s as u32);
-    if !same_step(seen, 2, condition, size as u32, s as u32) {
-        return Answer::Refused;
-    }
-    Answer::Done(counted + c + 1, size + s + 1, l)
+    put(
+        list,
+        p.n,
+        2,
+        condition,
+        (middle - p.n - 1) as u32,
+        (n - middle) as u32,
+    );
+    Answer::Done(n, b, l, s)
 }

@@ -1,5 +1,5 @@
-// Flattening: the action table of a rule image becomes flat steps of four words each, written into a lent tail of words.
-// Where the tail has no room, steps are counted and not written: so an empty tail gives the sizes alone.
+// Flattening: the action table of a rule image becomes flat steps of four words each, written into a lent tail of words: the bodies of a
+// rule's afters, then its own list. Where the tail has no room, steps are counted and not written: so an empty tail gives the sizes alone.
 pub mod body;
 mod context;
 mod cycle;
@@ -15,24 +15,32 @@ pub enum Found {
     Nothing,
 }
 
-// What flattening goes by: the calls left, the context, the steps of the list around, and how many more actions may be taken.
+// What flattening goes by: the calls left, the context, how many steps the list has and how many the bodies, how many more actions may be
+// taken, and whether the bodies so far are those to be compared.
 pub struct Progress {
     pub depth: usize,
     pub ctx: FlattenCtx,
     pub n: usize,
+    pub m: usize,
     pub left: usize,
+    pub same: bool,
 }
 
-// Refused: more actions were taken than the caller allowed, or the words to be compared are others. Done: how many steps the Rust counts, how many are stored, and how many
-// more actions may be taken.
+// Refused: more actions were taken than the caller allowed. Done: how many steps the list has now, how many the bodies, how many more
+// actions may be taken, and whether the bodies are those to be compared.
 pub enum Answer {
     Refused,
-    // Counted, stored, left.
-    Done(usize, usize, usize),
+    Done(usize, usize, usize, bool),
 }
 
-// What flattening a set gives: refusal 16, or so many steps.
+// What flattening a set gives: refusal 16, or so many stored steps.
 pub enum Loaded {
     Over,
     Steps(usize),
+}
+
+// The same, and whether they are those to be compared.
+pub enum Made {
+    Over,
+    Steps(usize, bool),
 }

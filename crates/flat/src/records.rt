@@ -4,11 +4,11 @@ use model::FlowAction;
 use model::Record;
 ghost use mathlib.Core.Path.{_≡_};
 ghost use mathlib.Core.List.{[]};
-ghost use Prim.Native.Nat.{_+_, _*_, _/_, _<_};
+ghost use Prim.Native.Nat.{_+_, _*_, _/_, _≤_, _<_};
 ghost use lib.ListN.{length, getD};
 ghost use Rattle.model.specs.Rules.{recordIn, flowOf};
 ghost use Rattle.model.specs.Flat.{blockNamed};
-ghost use Rattle.flat.specs.Outcome.{actionIn, foundIn};
+ghost use Rattle.flat.specs.Outcome.{actionIn, foundIn, blockAt, calledIn, Resolved};
 
 pub fn wide(x: u32) -> usize
     ensures { λ r. ⌜ r ≡ x ⌝ }
@@ -75,9 +75,11 @@ pub fn read_action(acts: &[u32], i: usize) -> FlowAction
     flow_action(read_record(acts, i))
 }
 
-// "Of two blocks of one name the first counts."
-pub fn find_block(blocks: &[u32], name: u32) -> Found
-    ensures { λ r. ⌜ r ≡ foundIn (blockNamed [] (now (blocks .entry)) name) ⌝ }
+// Which block has this name: 0 for none, k + 1 for block k. "Of two blocks of one name the first counts."
+fn find_block(blocks: &[u32], name: u32) -> u32
+    requires { ⌜ length (now blocks) ≤ 4096 ⌝ }
+    ensures { λ r. ⌜ blockAt (now (blocks .entry)) r ≡ foundIn (blockNamed [] (now (blocks .entry)) name) ⌝ }
+    ensures { λ r. ⌜ r ≤ length (now (blocks .entry)) / 8 ⌝ }
 {
     let n = blocks.len() / 8;
     let mut i = 0;
@@ -85,8 +87,46 @@ pub fn find_block(blocks: &[u32], name: u32) -> Found
         let r = read_record(blocks, i);
         i += 1;
         if r.kind == name {
-            return Found::Block(r.a, r.b);
+            return i as u32;
         }
     }
-    Found::Nothing
+    0
+}
+
+// Which block the action in record i calls.
+fn find_called(acts: &[u32], blocks: &[u32], i: usize) -> u32
+    requires { ⌜ (i < length (now acts) / 8) × (length (now blocks) ≤ 4096) ⌝ }
+    ensures { λ r. ⌜ blockAt (now (blocks .entry)) r ≡ calledIn (now (blocks .entry)) (actionIn (now (acts .entry)) i) ⌝ }
+    ensures { λ r. ⌜ r ≤ length (now (blocks .entry)) / 8 ⌝ }
+{
+    match read_action(acts, i) {
+        FlowAction::Call { block } => find_block(blocks, block),
+        _ => 0,
+    }
+}
+
+// Which block each action calls, looked up once for an image.
+pub fn find_calls(acts: &[u32], blocks: &[u32], calls: &mut [u32])
+    requires { ⌜ (length (now acts) / 8 ≤ length (now calls)) × (length (now blocks) ≤ 4096) ⌝ }
+    ensures { λ _. ⌜ Resolved (now (acts .entry)) (now (blocks .entry)) (now (calls .exit)) (length (now (acts .entry)) / 8) ⌝ }
+{
+    let n = acts.len() / 8;
+    let mut i = 0;
+    while i < n {
+        calls[i] = find_called(acts, blocks, i);
+        i += 1;
+    }
+}
+
+// The block that the action in record i calls.
+pub fn called_block(blocks: &[u32], calls: &[u32], i: usize) -> Found
+    requires { ⌜ (i < length (now calls)) × (getD (now calls) i 0 ≤ length (now blocks) / 8) ⌝ }
+    ensures { λ r. ⌜ r ≡ blockAt (now (blocks .entry)) (getD (now (calls .entry)) i 0) ⌝ }
+{
+    let k = wide(calls[i]);
+    if k == 0 {
+        return Found::Nothing;
+    }
+    let r = read_record(blocks, k - 1);
+    Found::Block(r.a, r.b)
 }

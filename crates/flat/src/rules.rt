@@ -1,22 +1,27 @@
 // Flattening all rules of an image: document 01, refusal 16, and the flat part of a store.
 use crate::Answer;
 use crate::Loaded;
+use crate::Made;
 use crate::Progress;
 use crate::cycle::flatten_list;
+use crate::records::find_calls;
 use crate::records::wide;
+use crate::steps::append_steps;
 use crate::steps::clear;
-use crate::steps::tail_start;
+use crate::steps::place;
 use model::FlattenCtx;
 ghost use mathlib.Core.Path.{_≡_};
-ghost use mathlib.Core.List.{[], _∷_, _++_};
-ghost use Prim.Native.Nat.{_+_, _*_, _≤_, _<_};
+ghost use mathlib.Core.List.{List, [], _∷_, _++_};
+ghost use Prim.Native.Nat.{_+_, _*_, _/_, _^_, _≤_, _<_};
 ghost use lib.ListN.{length, take};
 ghost use Rattle.model.specs.Image.{trailer as trailerIn, firstOf, sizeOf};
-ghost use Rattle.model.specs.Flat.{flattenRules};
+ghost use Rattle.model.specs.Flat.{Row, flattenRules};
 ghost use Rattle.model.specs.Rows.{rules};
 ghost use Rattle.model.specs.Store.{sameList};
 ghost use lib.Dec.{eqb};
-ghost use Rattle.flat.specs.Load.{Checked, CheckedTables, Loading, Stored, flattenTables, loaded, sameFlat};
+ghost use Rattle.flat.specs.Words.{layout};
+ghost use Rattle.flat.specs.Outcome.{Resolved};
+ghost use Rattle.flat.specs.Load.{RuleOut, EachOut, ruleAt, Checked, CheckedTables, Loading, Stored, bodySize, countedIn, flattenTables, loaded, sameFlat};
 
 // The row of list k: where it begins, and how many steps it has; written if there is room.
 fn put_list(lists: &mut [u32], k: usize, first: u32, size: u32)
@@ -37,8 +42,148 @@ fn rows_end(n: usize, len: usize) -> usize
     if n <= len / 2 { n * 2 } else { len }
 }
 
-// The lists of all rules, one behind the other in `words`, their rows in `lists`, and 0 behind each. Rule k's list is said by words 8
-// and 9 of its 16.
+// How many steps the body has that row i names, 0 if the row is no after's.
+fn body_size(list: &[u32], i: usize) -> usize
+    requires { ⌜ (i * 4 + 4 ≤ length (now list)) × (i < 268) ⌝ }
+    ensures { λ r. ⌜ r ≡ bodySize (now (list .entry)) i ⌝ }
+    ensures { λ r. ⌜ r < 2 ^ 32 ⌝ }
+{
+    if list[i * 4] == 3 {
+        return wide(list[i * 4 + 3]);
+    }
+    0
+}
+
+// How many steps an own list counts for, "bodies of afters counted in every copy": an after's row has its body's size.
+fn every_copy(list: &[u32], n: usize) -> usize
+    requires { ⌜ (n * 4 ≤ length (now list)) × (n ≤ 268) ⌝ }
+    ensures { λ r. ⌜ ((rs : List Row) → take (n * 4) (now (list .entry)) ≡ layout rs → r ≡ countedIn rs) ⌝ }
+    ensures { λ r. ⌜ r ≤ n * 2 ^ 32 ⌝ }
+{
+    let mut sum = n;
+    let mut i = 0;
+    while i < n {
+        sum += body_size(list, i);
+        i += 1;
+    }
+    sum
+}
+
+// The part of rule k, whose list is said by words 8 and 9 of its 16: the bodies of its afters go to the front of the words, its own list
+// behind them; `own` and `body` are for lists under way.
+fn flatten_rule(
+    acts: &[u32],
+    blocks: &[u32],
+    rules: &[u32],
+    calls: &[u32],
+    own: &mut [u32],
+    body: &mut [u32],
+    words: &mut [u32],
+    seen: &[u32],
+    k: usize,
+    depth: usize,
+    limit: u32,
+    left: usize,
+    same: bool,
+) -> Answer
+    requires { ⌜ CheckedTables (now acts) (now blocks) (now rules) depth limit ⌝ }
+    requires { ⌜ Resolved (now acts) (now blocks) (now calls) (length (now acts) / 8) × (length (now acts) / 8 ≤ length (now calls)) ⌝ }
+    requires { ⌜ (1072 ≤ length (now own)) × (1072 ≤ length (now body)) × (k < length (now rules) / 16) × (left ≤ 65536) ⌝ }
+    ensures { λ r. ⌜ RuleOut (ruleAt (now (acts .entry)) (now (blocks .entry)) (now (rules .entry)) depth limit k) left same (now (seen .entry)) (now (own .exit)) (now (words .exit)) r ⌝ }
+{
+    let first = wide(rules[k * 16 + 8]);
+    let count = wide(rules[k * 16 + 9]);
+    let ctx = FlattenCtx {
+        limit,
+        in_repeat: false,
+        in_conditional: false,
+        in_after: false,
+    };
+    let p = Progress {
+        depth,
+        ctx,
+        n: 0,
+        m: 0,
+        left,
+        same,
+    };
+    let Answer::Done(n, m, l, s) = flatten_list(
+        acts,
+        blocks,
+        calls,
+        own,
+        body,
+        words,
+        seen,
+        first,
+        count,
+        p,
+    ) else {
+        return Answer::Refused;
+    };
+    let agrees = append_steps(words, seen, m, own, n, s);
+    Answer::Done(n, m, l, agrees)
+}
+
+// The parts of all rules, one behind the other in `words`, and their rows in `lists`.
+fn flatten_each(
+    acts: &[u32],
+    blocks: &[u32],
+    rules: &[u32],
+    calls: &[u32],
+    own: &mut [u32],
+    body: &mut [u32],
+    words: &mut [u32],
+    lists: &mut [u32],
+    seen: &[u32],
+    depth: usize,
+    limit: u32,
+) -> Made
+    requires { ⌜ CheckedTables (now acts) (now blocks) (now rules) depth limit ⌝ }
+    requires { ⌜ Resolved (now acts) (now blocks) (now calls) (length (now acts) / 8) × (length (now acts) / 8 ≤ length (now calls)) ⌝ }
+    requires { ⌜ (1072 ≤ length (now own)) × (1072 ≤ length (now body)) × (length (now words) ≤ 8192) × (length (now seen) ≤ 8192) ⌝ }
+    ensures { λ r. ⌜ EachOut (flattenTables (now (acts .entry)) (now (blocks .entry)) (now (rules .entry)) depth limit) (now (seen .entry)) (now (words .exit)) (now (lists .exit)) r ⌝ }
+{
+    let n = rules.len() / 16;
+    let mut k: usize = 0;
+    let mut size: usize = 0;
+    let mut counted: usize = 0;
+    let mut left: usize = 65536;
+    let mut same = true;
+    while k < n {
+        let at = place(size, words.len());
+        let behind = place(size, seen.len());
+        let Answer::Done(listed, stored, l, s) = flatten_rule(
+            acts,
+            blocks,
+            rules,
+            calls,
+            own,
+            body,
+            &mut words[at..],
+            &seen[behind..],
+            k,
+            depth,
+            limit,
+            left,
+            same,
+        ) else {
+            return Made::Over;
+        };
+        put_list(lists, k, (size + stored) as u32, listed as u32);
+        counted += every_copy(own, listed);
+        size += stored + listed;
+        left = l;
+        same = s;
+        k += 1;
+    }
+    if 2048 < counted {
+        return Made::Over;
+    }
+    Made::Steps(size, same)
+}
+
+// The flat part of the set of these tables: its steps in `words`, the rows of its lists in `lists`, and 0 behind each.
 fn flatten_tables(
     acts: &[u32],
     blocks: &[u32],
@@ -48,56 +193,35 @@ fn flatten_tables(
     seen: &[u32],
     depth: usize,
     limit: u32,
-) -> Loaded
-    requires { ⌜ CheckedTables (now acts) (now blocks) (now rules) limit ⌝ }
+) -> Made
+    requires { ⌜ CheckedTables (now acts) (now blocks) (now rules) depth limit ⌝ }
     requires { ⌜ (length (now words) ≤ 8192) × (length (now seen) ≤ 8192) ⌝ }
     ensures { λ r. ⌜ Loading (flattenTables (now (acts .entry)) (now (blocks .entry)) (now (rules .entry)) depth limit) (now (seen .entry)) (now (words .exit)) (now (lists .exit)) r ⌝ }
 {
-    let n = rules.len() / 16;
-    let mut k: usize = 0;
-    let mut size: usize = 0;
-    let mut left: usize = 65536;
-    let ctx = FlattenCtx {
+    let mut calls = [0u32; 512];
+    find_calls(acts, blocks, &mut calls);
+    let mut own = [0u32; 1072];
+    let mut body = [0u32; 1072];
+    let Made::Steps(size, same) = flatten_each(
+        acts,
+        blocks,
+        rules,
+        &calls,
+        &mut own,
+        &mut body,
+        words,
+        lists,
+        seen,
+        depth,
         limit,
-        in_repeat: false,
-        in_conditional: false,
-        in_after: false,
+    ) else {
+        return Made::Over;
     };
-    while k < n {
-        let at = tail_start(size, words.len());
-        let behind = tail_start(size, seen.len());
-        let first = wide(rules[k * 16 + 8]);
-        let count = wide(rules[k * 16 + 9]);
-        let p = Progress {
-            depth,
-            ctx,
-            n: 0,
-            left,
-        };
-        let Answer::Done(_, s, l) = flatten_list(
-            acts,
-            blocks,
-            &mut words[at..],
-            &seen[behind..],
-            first,
-            count,
-            p,
-        ) else {
-            return Loaded::Over;
-        };
-        put_list(lists, k, size as u32, s as u32);
-        size += s;
-        left = l;
-        k += 1;
-    }
-    if 2048 < size {
-        return Loaded::Over;
-    }
-    let end = tail_start(size, words.len());
+    let end = place(size, words.len());
     clear(words, end);
-    let last = rows_end(n, lists.len());
+    let last = rows_end(rules.len() / 16, lists.len());
     clear(lists, last);
-    Loaded::Steps(size)
+    Made::Steps(size, same)
 }
 
 // Word j of the trailer.
@@ -118,7 +242,7 @@ fn first_of(image: &[u32], t: usize) -> usize
 
 // The flat part of the image's set: its steps in `words`, the rows of its lists in `lists`, both if they have room; and the steps are
 // compared with `seen`, if that has any words.
-fn flatten_image(image: &[u32], words: &mut [u32], lists: &mut [u32], seen: &[u32]) -> Loaded
+fn flatten_image(image: &[u32], words: &mut [u32], lists: &mut [u32], seen: &[u32]) -> Made
     requires { ⌜ Checked (now image) ⌝ }
     requires { ⌜ (length (now words) ≤ 8192) × (length (now seen) ≤ 8192) ⌝ }
     ensures { λ r. ⌜ Loading (flattenRules (now (image .entry))) (now (seen .entry)) (now (words .exit)) (now (lists .exit)) r ⌝ }
@@ -150,7 +274,10 @@ pub fn flatten_rules(image: &[u32], words: &mut [u32], lists: &mut [u32]) -> Loa
     ensures { λ r. ⌜ Stored (flattenRules (now (image .entry))) (now (words .exit)) (now (lists .exit)) r ⌝ }
 {
     let end = image.len();
-    flatten_image(image, words, lists, &image[end..])
+    let Made::Steps(n, _) = flatten_image(image, words, lists, &image[end..]) else {
+        return Loaded::Over;
+    };
+    Loaded::Steps(n)
 }
 
 // Whether two lists of words are the same.
@@ -180,9 +307,12 @@ pub fn same_flat(image: &[u32], lists: &[u32], steps: &[u32]) -> bool
 {
     let mut none = [0u32; 1];
     let mut rows = [0u32; 128];
-    let Loaded::Steps(n) = flatten_image(image, &mut none, &mut rows, steps) else {
+    let Made::Steps(n, same) = flatten_image(image, &mut none, &mut rows, steps) else {
         return false;
     };
+    if !same {
+        return false;
+    }
     if n * 4 != steps.len() {
         return false;
     }

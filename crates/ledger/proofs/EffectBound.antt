@@ -36,7 +36,8 @@ use Rattle.ledger.proofs.TickSimulation.{dues}
 use Rattle.ledger.proofs.History.{Agree, follows, starts}
 use Rattle.ledger.proofs.Potential.{most, most-bound, potential, potentialOf, sum-split, sum-sort}
 use Rattle.ledger.proofs.RunBound.{amortized, struck-sum, runs-bound}
-use Rattle.ledger.proofs.Shapes.{listOk, flatOk, flatsOk}
+use Rattle.ledger.proofs.Shapes.{listOk, ownOk, flatOk, flatsOk}
+use Rattle.model.specs.Steps.{stepsOf}
 use Rattle.ledger.proofs.Accepted.{rule-shape}
 use Rattle.ledger.proofs.Wheel.{WheelLaws, wheel, every-any}
 
@@ -231,9 +232,11 @@ module _ (ρ : Activation) where
   snapshot-given c (suc n) s l K ok h d = refuses c (suc n) s l ok h
 
   -- a set that load accepts has passed flattening
-  all-rules : (img : List ℕ) (is : List ℕ) → all listOk (map (λ (f : Flattened). f .steps) (map (flattenRule img) is)) ≡ true
+  all-rules : (img : List ℕ) (is : List ℕ) → all ownOk (map (λ (f : Flattened). f .steps) (map (flattenRule img) is)) ≡ true
+  unfolding ownOk
   all-rules img [] = refl
-  all-rules img (i ∷ is) = and-i (listOk ((flattenRule img i) .steps)) _ ((rule-shape img i) .ok) (all-rules img is)
+  all-rules img (i ∷ is) =
+      and-i (ownOk ((flattenRule img i) .steps)) _ (and-i (listOk (stepsOf ((flattenRule img i) .steps))) _ ((rule-shape img i) .own) ((rule-shape img i) .bodies)) (all-rules img is)
 
   loads : (n t : ℕ) (img : List ℕ) (s : Store) (l : Ledger) → flatsOk (s .loaded) ≡ true → Within l → Stays (load t img) l (loading n t img (flattenRules img) s)
   unfolding eventsOf post flatOk setOf flattenRules

@@ -43,7 +43,7 @@ of-drop false e = absurd (omega arith)
 step-drops : (set : RuleSet) (x : Step) (sp : Point) (s : Report) (g : Option Effect) (q : ℕ) → Reports set x sp s g q → q ≡ 2 → isDrop s ≡ true
 step-drops set (Primitive i) sp s g q h e = may-fail q (h .1) e
 step-drops set (Wait ms) sp s g q h e = absurd h
-step-drops set (After ms n) sp s g q h e = ap isDrop (h .1) ∙ of-drop (h .0) (sym (h .3) ∙ e)
+step-drops set (After ms) sp s g q h e = ap isDrop (h .1) ∙ of-drop (h .0) (sym (h .3) ∙ e)
 step-drops set (Branch c t n) sp s g q h e = may-fail q (h .2) e
 step-drops set Fail sp s g q h e = absurd (let z = h .2 in omega arith)
 

@@ -200,7 +200,7 @@ module _ (e : Env) (j : Job) (wet : j .dry ≡ false) (b : ℕ) (sp : Point) (v 
   exec-trace (Wait ms) here =
       let x = schedule e j b ms (advance sp 0) v in
       waits-noting (e .set) (j .index) b ms sp (x .isDropped) (x .reason) (schedule-reason e j b ms (advance sp 0) v) here
-  exec-trace (After ms n) here =
+  exec-trace (After ms) here =
       let x = schedule e j b ms (bodyStart sp) v in
       continues (x .reason) here (x .isDropped, refl, refl, schedule-reason e j b ms (bodyStart sp) v) refl (ih _ _)
   exec-trace (Branch c t n) here = branched-trace c t n (conditionAt e (v .rest) c) here

@@ -148,7 +148,7 @@ module _ (o : Option RuleSet) (j k : ℕ) where
   unfolding exec
   execs-tell e w b sp (Primitive i) v s h = acts-tell (primAt e w (v .rest) i) ((primAt e w (v .rest) i) .disables) _ v s
   execs-tell e w b sp (Wait ms) v s h = schedules-tell e w b ms _ v s h
-  execs-tell e w b sp (After ms n) v s h = schedules-tell e w b ms _ v s h
+  execs-tell e w b sp (After ms) v s h = schedules-tell e w b ms _ v s h
   execs-tell e w b sp (Branch c t n) v s h = branches-tell (conditionAt e (v .rest) c) t n sp v s
   execs-tell e w b sp Fail v s h = unfold afterPrim in tt
 
@@ -171,7 +171,7 @@ module _ (o : Option RuleSet) (j k : ℕ) where
   unfolding exec
   execs e w b sp (Primitive i) v u s h er eb kr = acts (primAt e w (v .rest) i) ((primAt e w (v .rest) i) .disables) _ v (e .world .now) u s h
   execs e w b sp (Wait ms) v u s h er eb kr = schedules e w b _ ms _ v u s h er eb kr
-  execs e w b sp (After ms n) v u s h er eb kr = schedules e w b _ ms _ v u s h er eb kr
+  execs e w b sp (After ms) v u s h er eb kr = schedules e w b _ ms _ v u s h er eb kr
   execs e w b sp (Branch c t n) v u s h er eb kr = branches (conditionAt e (v .rest) c) t n sp v (e .world .now) u s h
   execs e w b sp Fail v u s h er eb kr = unfold postReport afterPrim in any-rest _ v s h
 

@@ -75,7 +75,7 @@ reasonIf dropped = cond dropped effectBudget 0
 abbrev pub Reports : RuleSet → Step → Point → Report → Option Effect → ℕ → Type 0
 Reports set (Primitive i) sp s g q = (s ≡ reportOf (set .image) (actionOf (recordOf (set .image) actions i))) × MayFail q
 Reports set (Wait ms) sp s g q = ⊥
-Reports set (After ms n) sp s g q = (d : Bool) × (s ≡ defers d ms (bodyStart sp)) × (g ≡ none) × (q ≡ reasonIf d)
+Reports set (After ms) sp s g q = (d : Bool) × (s ≡ defers d ms (bodyStart sp)) × (g ≡ none) × (q ≡ reasonIf d)
 Reports set (Branch c t n) sp s g q = (s ≡ plain) × (g ≡ none) × MayFail q
 Reports set Fail sp s g q = (s ≡ plain) × (g ≡ none) × (q ≡ conditionUnevaluable)
 
@@ -87,7 +87,7 @@ Branches t n sp to = (to ≡ enterThen sp t n) ⊎ ((to ≡ advance sp t) ⊎ (t
 abbrev pub Leads : Step → Point → Point → Type 0
 Leads (Primitive i) sp to = to ≡ advance sp 0
 Leads (Wait ms) sp to = ⊥
-Leads (After ms n) sp to = to ≡ advance sp n
+Leads (After ms) sp to = to ≡ advance sp 0
 Leads (Branch c t n) sp to = Branches t n sp to
 Leads Fail sp to = to ≡ advance sp 0
 

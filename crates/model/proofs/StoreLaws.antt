@@ -12,7 +12,7 @@ use lib.Seq.{take-at, drop-at}
 use borrow.Author.Tests.{leb-true, eqb-true, eq-eqb, not-true}
 use Rattle.model.specs.Lists.{all, present, _>>=_}
 use Rattle.model.specs.declared.Step.{Step}
-use Rattle.model.specs.Flat.{flattenRules, setOf}
+use Rattle.model.specs.Flat.{Flattened, flattenRules, setOf}
 use Rattle.model.specs.World.{isOne}
 use Rattle.model.specs.State.{NamedTimer, Variable, VarValue, Int, Text, Pending, RuleSet, Rest, Volatile, Store}
 use Rattle.model.specs.Codec.{allGood, decode, word, wide, maybe}
@@ -51,9 +51,9 @@ module _ {A : Type 0} (x : A) (is : A → Bool) (sure : (a : A) → is a ≡ tru
   drop-fill m n l e = rw (drop-at l (replicate (m - length l) x) n e) (all-same (m - length l))
 
 -- each list of a set has one row
-pub rows-length : (k : ℕ) (xss : List (List Step)) → length (listRows k xss) ≡ length xss
+pub rows-length : (k : ℕ) (fs : List Flattened) → length (listRows k fs) ≡ length fs
 rows-length k [] = refl
-rows-length k (xs ∷ xss) = ap suc (rows-length (k + length xs) xss)
+rows-length k (f ∷ fs) = ap suc (rows-length (k + length (f .bodies) + length (f .rows)) fs)
 
 -- SAMENESS ------------------------------------------------------------------------------------------------------------------------
 module _ {A : Type 0} (same : A → A → Bool) where

@@ -14,7 +14,7 @@ any = word 4294967295
 abbrev pub bit : Row ℕ
 bit = word 1
 
--- the first step of a rule's list in the flat part, and how many it has
+-- where a rule's own list begins in the flat part, and how many steps it has
 abbrev pub listRow : Row (ℕ × ℕ)
 listRow = any ⊗ any
 

@@ -10,8 +10,8 @@ use Rattle.model.specs.Lists.{_>>=_, all, flatten, orElse, present}
 use Rattle.model.specs.Image.{budget, sizeOf}
 use Rattle.model.specs.Rows.{rules}
 use Rattle.model.specs.Rules.{ruleNamed}
-use Rattle.model.specs.Steps.{Step, Primitive, Wait, Branch, After, Fail, Jump, NoJump, JumpFrom, Point}
-use Rattle.model.specs.Flat.{Flattened, flattenRules, setOf, listIn}
+use Rattle.model.specs.Steps.{Step, FlatStep, Primitive, Wait, Branch, After, Fail, Jump, NoJump, JumpFrom, Point}
+use Rattle.model.specs.Flat.{Flattened, flattenRules, setOf, listIn, partOf}
 use Rattle.model.specs.Load.{imageRefusal}
 use Rattle.model.specs.World.{isOne}
 use Rattle.model.specs.State.{NamedTimer, VarValue, Int, Text, Variable, EverySlot, Pending, RuleSet, Rest, Volatile, Store}
@@ -20,19 +20,11 @@ use Rattle.model.specs.Codec.{decode}
 use Rattle.model.specs.Parts.{Loaded, Changing, Parts, layout}
 
 -- PLACES AND JUMPS ----------------------------------------------------------------------------------------------------------------
--- a step's body: so many steps behind it are no places of the list around them
-abbrev pub bodyOf : Step → ℕ
-bodyOf (Primitive i) = 0
-bodyOf (Wait ms) = 0
-bodyOf (Branch c t e) = 0
-bodyOf (After ms n) = n
-bodyOf Fail = 0
-
 abbrev pub isAfter : Step → Bool
 isAfter (Primitive i) = false
 isAfter (Wait ms) = false
 isAfter (Branch c t e) = false
-isAfter (After ms n) = true
+isAfter (After ms) = true
 isAfter Fail = false
 
 -- p places behind a step that stands at place i: inside its then-region, if it is a branch and p is below the region's size
@@ -40,7 +32,7 @@ abbrev pub jumpOver : Step → ℕ → ℕ → Jump → Jump
 jumpOver (Primitive x) i p j = j
 jumpOver (Wait ms) i p j = j
 jumpOver (Branch c t e) i p j = cond (ltb p t) (JumpFrom (suc i + t) (suc i + t + e)) j
-jumpOver (After ms n) i p j = j
+jumpOver (After ms) i p j = j
 jumpOver Fail i p j = j
 
 -- "a jump stands with it exactly while the place is inside a then-region, and leads past the else-region": the jump of the place
@@ -50,16 +42,6 @@ jumpFrom i [] p = NoJump
 jumpFrom i (x ∷ xs) zero = NoJump
 jumpFrom i (x ∷ xs) (suc p) = jumpOver x i p (jumpFrom (suc i) xs p)
 
--- whether place p is in no after's body; k steps of a body are still to come
-abbrev pub skipped : ℕ → Step → ℕ
-skipped zero x = bodyOf x
-skipped (suc k) x = k
-
-abbrev pub outsideBodies : ℕ → List Step → ℕ → Bool
-outsideBodies k [] p = true
-outsideBodies k (x ∷ xs) zero = eqb k 0
-outsideBodies k (x ∷ xs) (suc p) = outsideBodies (skipped k x) xs p
-
 abbrev pub sameJump : Jump → Jump → Bool
 sameJump NoJump NoJump = true
 sameJump NoJump (JumpFrom a b) = false
@@ -68,13 +50,12 @@ sameJump (JumpFrom a b) (JumpFrom c d) = eqb a c && eqb b d
 
 -- "its place lies in that list or at its end", with the jump of that place
 unfoldable pub pointFits : List Step → Point → Bool
-pointFits xs p =
-    leb (p .place) (length xs) && (outsideBodies 0 xs (p .place) && sameJump (p .jump) (jumpFrom 0 xs (p .place)))
+pointFits xs p = leb (p .place) (length xs) && sameJump (p .jump) (jumpFrom 0 xs (p .place))
 
 -- "it names one of that rule's lists": its own, or the body of an after in it
-abbrev pub isList : List Step → ℕ → Bool
+abbrev pub isList : List FlatStep → ℕ → Bool
 isList xs zero = true
-isList xs (suc p) = orElse false (do x ← getElem? xs p; some (isAfter x))
+isList xs (suc p) = orElse false (do x ← getElem? xs p; some (isAfter (x .step)))
 
 -- THE RULES OF A STORE --------------------------------------------------------------------------------------------------------------
 abbrev pub distinct : List ℕ → Bool
@@ -136,28 +117,20 @@ abbrev pub bitOf : Bool → ℕ
 bitOf true = 1
 bitOf false = 0
 
--- the four words of a flat step
-abbrev pub stepRowOf : Step → ℕ × (ℕ × (ℕ × ℕ))
-stepRowOf (Primitive i) = (0, (i, (0, 0)))
-stepRowOf (Wait ms) = (1, (ms, (0, 0)))
-stepRowOf (Branch c t e) = (2, (c, (t, e)))
-stepRowOf (After ms n) = (3, (ms, (n, 0)))
-stepRowOf Fail = (4, (0, (0, 0)))
-
--- where each list begins, the first at k, and how many steps it has
-abbrev pub listRows : ℕ → List (List Step) → List (ℕ × ℕ)
+-- the parts of the rules stand one behind the other, the first at k: where a rule's own list begins, behind its bodies, and how many
+-- steps it has
+abbrev pub listRows : ℕ → List Flattened → List (ℕ × ℕ)
 listRows k [] = []
-listRows k (xs ∷ xss) = (k, length xs) ∷ listRows (k + length xs) xss
+listRows k (f ∷ fs) = let own = k + length (f .bodies) in (own, length (f .rows)) ∷ listRows (own + length (f .rows)) fs
+
+abbrev pub noList : ℕ × ℕ
+noList = (0, 0)
 
 abbrev pub loadedOf : Option RuleSet → Loaded
-loadedOf none = record { loaded = 0; image = []; lists = replicate 64 (0, 0); steps = [] }
+loadedOf none = record { loaded = 0; image = []; lists = replicate 64 noList; steps = [] }
 loadedOf (some set) =
-    record {
-      loaded = 1;
-      image = set .image;
-      lists = filled 64 (0, 0) (listRows 0 (set .flat));
-      steps = map stepRowOf (flatten (set .flat));
-    }
+    let fs = flattenRules (set .image) in
+    record { loaded = 1; image = set .image; lists = filled 64 noList (listRows 0 fs); steps = flatten (map partOf fs) }
 
 abbrev pub variableRowOf : Variable → ℕ × (ℕ × ℕ)
 variableRowOf v = (v .name, elim (v .value) [ Int n ↦ (0, n) | Text t ↦ (1, t) ])

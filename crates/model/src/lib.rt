@@ -315,8 +315,8 @@ pub enum Step {
     Wait(u32),
     // A condition, by its record, and how many steps the then-region and the else-region take up behind it.
     Branch(u32, u32, u32),
-    // Milliseconds, and how many steps its body takes up behind it.
-    After(u32, u32),
+    // Milliseconds. Its body is a list of its own.
+    After(u32),
     Fail,
 }
 

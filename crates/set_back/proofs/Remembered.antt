@@ -168,7 +168,7 @@ module _ (e : Env) (j : Job) where
   unfolding exec
   step b sp (Primitive i) v = let a = primAt e j (v .rest) i in after-action (a .disables) a _ v (action e j (v .rest) (actionOf (recordOf (e .set .image) actions i)))
   step b sp (Wait ms) v = scheduled b ms _ v
-  step b sp (After ms n) v = scheduled b ms _ v
+  step b sp (After ms) v = scheduled b ms _ v
   step b sp (Branch c t n) v = branched (conditionAt e (v .rest) c) t n sp v
   step b sp Fail v = after-action none (fails (v .rest)) _ v (failed e j (v .rest) (v .rest) refl)
 

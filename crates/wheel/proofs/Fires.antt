@@ -3,29 +3,22 @@ use Prim.Native.Nat.{ℕ, _+_, _≤_, _<_}
 use native.Mathlib.Omega.{arith}
 use mathlib.Core.Path.{_≡_, refl, sym, ap, subst, _∙_}
 use mathlib.Core.List.{List, []}
-use lib.ListN.{length, length-map, getD}
+use lib.ListN.{length, getD}
 use Rattle.model.specs.Activate as model
 use Rattle.model.specs.Activate.{noOutcome, andThen}
-use Rattle.model.specs.Flat.{Flattened, flattenRules, setOf}
-use Rattle.model.specs.Image.{sizeOf}
-use Rattle.model.specs.Rows.{rules}
+use Rattle.model.specs.Flat.{flattenRules, setOf}
 use Rattle.model.specs.State as model-state
 use Rattle.model.specs.declared.Pending.{Pending}
-use Rattle.model.specs.declared.Step.{Step}
-use Rattle.flat.specs.Words.{layout}
-use Rattle.flat.proofs.FlatPart.{rules-length}
+use Rattle.flat.specs.Words.{Says}
 use Rattle.state.specs.Meaning.{Sound, meaning}
 use Rattle.state.proofs.Follows.{accepted-by-next}
-use Rattle.exec.specs.Lists.{FlatWords}
 use Rattle.exec.proofs.Written as exec-written
-use Rattle.store.specs.FlatPart.{FlatPart}
 use Rattle.activate.specs.Handled.{Continues, Room, Activates, Resumes, allEffects}
 use Rattle.activate.specs.declared.Handled.{Handled}
 use Rattle.activate.specs.declared.Mode.the-variants.{Auto}
 use Rattle.activate.proofs.Continues.{then-continues, no-outcome, nothing-done, within-none, within-then, within-more}
-use Rattle.activate.proofs.FlatRules.{rule-words}
 use Rattle.activate.proofs.Written.{puts-length}
-use Rattle.wheel.specs.Tick.{tickEnv, Holds, Fires, Changes}
+use Rattle.wheel.specs.Tick.{tickEnv, Fires, Changes}
 
 -- the words keep their number
 module _ {x : Handled} {ow ew : List ℕ} {h : model.Handled} {r : Handled} {ow′ ew′ : List ℕ} (c : Continues x ow ew h r ow′ ew′) where
@@ -36,29 +29,14 @@ module _ {x : Handled} {ow ew : List ℕ} {h : model.Handled} {r : Handled} {ow�
   same-effects = ap length (c .effectWords) ∙ exec-written.puts-length ew (x .effects) (allEffects (h .outcomes))
 
 -- ONE RULE ----------------------------------------------------------------------------------------------------------------------------------
-module _ (store image : List ℕ) (holds : Holds store image) where
-  abbrev flat : List (List Step)
-  flat = setOf image (flattenRules image) .flat
-
-  flat-length : length flat ≡ sizeOf image rules
-  unfolding setOf
-  flat-length = length-map (flattenRules image) (λ (f : Flattened). f .steps) ∙ rules-length image
-
-  -- the steps that the store has for a rule
-  pub steps-are : (i : ℕ) (steps : List ℕ) → i < sizeOf image rules → ((xss : List (List Step)) → FlatPart store xss → i < length xss → steps ≡ layout (getD xss i [])) → steps ≡ layout (getD flat i [])
-  steps-are i steps h is = is flat (holds .flat) (omega (arith, flat-length))
-
-  pub steps-fit : (i : ℕ) (steps : List ℕ) → steps ≡ layout (getD flat i []) → FlatWords steps
-  steps-fit i steps e = subst FlatWords (sym e) (rule-words image (holds .accepted) i)
-
-module _ (snapshot image steps : List ℕ) (i : ℕ) (x : Handled) (ow ew : List ℕ) (r : Handled) (ow′ ew′ : List ℕ) (own : steps ≡ layout (getD (setOf image (flattenRules image) .flat) i [])) where
-  pub activated : (kind : ℕ) → Activates snapshot image steps i kind 0 Auto x ow ew r ow′ ew′ → Fires 1 (model.activate (tickEnv snapshot image) i kind 0 model.Auto) x ow ew r ow′ ew′
+module _ (snapshot image part : List ℕ) (own i : ℕ) (x : Handled) (ow ew : List ℕ) (r : Handled) (ow′ ew′ : List ℕ) (s : Says part own (getD (setOf image (flattenRules image) .flat) i [])) where
+  pub activated : (kind : ℕ) → Activates snapshot image part own i kind 0 Auto x ow ew r ow′ ew′ → Fires 1 (model.activate (tickEnv snapshot image) i kind 0 model.Auto) x ow ew r ow′ ew′
   unfolding tickEnv setOf
-  activated kind a = record { says = a .says (setOf image (flattenRules image) .flat) own; within = a .within }
+  activated kind a = record { says = a .says (setOf image (flattenRules image) .flat) s; within = a .within }
 
-  pub resumed : (c : Pending) → Resumes snapshot image steps i c x ow ew r ow′ ew′ → Fires 1 (model.resume (tickEnv snapshot image) c) x ow ew r ow′ ew′
+  pub resumed : (c : Pending) → Resumes snapshot image part own i c x ow ew r ow′ ew′ → Fires 1 (model.resume (tickEnv snapshot image) c) x ow ew r ow′ ew′
   unfolding tickEnv setOf
-  resumed c a = record { says = a .says (setOf image (flattenRules image) .flat) own; within = a .within }
+  resumed c a = record { says = a .says (setOf image (flattenRules image) .flat) s; within = a .within }
 
 -- PARTS -------------------------------------------------------------------------------------------------------------------------------------
 -- the same, by what the definition gives at this state

@@ -8,9 +8,9 @@ use native.Mathlib.Omega.{arith}
 use lib.ListN.{length, take, drop, getD, length-take, drop-of-length-le}
 use lib.Seq.{drop-cons, getD-take, length-take-le}
 use Rattle.words.specs.Saturating.{saturatingAdd, max64}
+use Rattle.model.specs.Steps.{FlatStep}
 use Rattle.model.specs.Wheel.{hasWallTriggers, least, leastOf, wallPoll, nextDeadline}
 use Rattle.model.specs.declared.Pending.{Pending}
-use Rattle.model.specs.declared.Step.{Step}
 use Rattle.image.specs.Accepted.{Accepted}
 use Rattle.state.specs.Meaning.{option64, offsetFrom, numbered, meaning}
 use Rattle.state.specs.declared.OptionU64.{OptionU64}
@@ -85,7 +85,7 @@ times-numbered base (suc n) (p ∷ ps) = ap (λ (l : List ℕ). p .due ∷ l) (t
 pub next-is :
     (image : List ℕ) (loaded : Bool) (v : Volatile) (last : ℕ) (poll slot timer r : OptionU64) → Poll image loaded v last poll
     → LeastWith (slotTimes (take (v .«every_count») (v .every))) poll slot → LeastWith (timerTimes (take (v .«timer_count») (v .timers))) slot timer
-    → LeastWith (pendingTimes (take (v .«pending_count») (v .pending))) timer r → (flat : List (List Step)) → option64 r ≡ nextDeadline (storeOf image loaded flat v last)
+    → LeastWith (pendingTimes (take (v .«pending_count») (v .pending))) timer r → (flat : List (List FlatStep)) → option64 r ≡ nextDeadline (storeOf image loaded flat v last)
 unfolding nextDeadline meaning
 next-is image loaded v last poll slot timer r a b c d flat =
     let s = storeOf image loaded flat v last in

@@ -3,6 +3,7 @@ pub mod AnyOf
 pub mod Windows
 pub mod DueKind
 pub mod Least
+pub mod RuleParts
 pub mod Fires
 pub mod Going
 pub mod Each

@@ -5,11 +5,11 @@ use mathlib.Core.Bool.{Bool, true, false}
 use mathlib.Core.List.{List, _++_, map}
 use mathlib.Core.Option.{Option, none, some}
 use Rattle.model.specs.State.{RuleSet, Store}
+use Rattle.model.specs.Steps.{FlatStep}
 use Rattle.model.specs.Wheel.{least, wallPoll}
 use Rattle.model.specs.declared.EverySlot.{EverySlot}
 use Rattle.model.specs.declared.NamedTimer.{NamedTimer}
 use Rattle.model.specs.declared.Pending.{Pending}
-use Rattle.model.specs.declared.Step.{Step}
 use Rattle.image.specs.Accepted.{Accepted}
 use Rattle.state.specs.Meaning.{meaning, option64}
 use Rattle.state.specs.declared.OptionU64.{OptionU64}
@@ -30,11 +30,11 @@ abbrev pub LeastWith : List ℕ → OptionU64 → OptionU64 → Type 0
 LeastWith times best r = (others : List ℕ) → option64 best ≡ least others → option64 r ≡ least (times ++ others)
 
 -- a store of these parts
-abbrev pub setIf : Bool → List ℕ → List (List Step) → Option RuleSet
+abbrev pub setIf : Bool → List ℕ → List (List FlatStep) → Option RuleSet
 setIf false image flat = none
 setIf true image flat = some (record { image = image; flat = flat })
 
-abbrev pub storeOf : List ℕ → Bool → List (List Step) → Volatile → ℕ → Store
+abbrev pub storeOf : List ℕ → Bool → List (List FlatStep) → Volatile → ℕ → Store
 storeOf image loaded flat v last = record { now = last; loaded = setIf loaded image flat; vol = meaning v }
 
 abbrev pub AcceptedIf : Bool → List ℕ → Type 0
@@ -43,4 +43,4 @@ AcceptedIf true image = Accepted image
 
 abbrev pub Poll : List ℕ → Bool → Volatile → ℕ → OptionU64 → Type 0
 Poll image loaded v last r =
-    (flat : List (List Step)) → let s = storeOf image loaded flat v last in option64 r ≡ least (wallPoll s (s .loaded))
+    (flat : List (List FlatStep)) → let s = storeOf image loaded flat v last in option64 r ≡ least (wallPoll s (s .loaded))

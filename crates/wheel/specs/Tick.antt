@@ -23,7 +23,7 @@ use Rattle.model.specs.declared.NamedTimer.{NamedTimer}
 use Rattle.model.specs.declared.Pending.{Pending}
 use Rattle.state.specs.Meaning.{Means, AllNumbered, meaning}
 use Rattle.state.specs.declared.Volatile.{Volatile}
-use Rattle.store.specs.FlatPart.{FlatPart}
+use Rattle.store.specs.FlatPart.{Kept}
 use Rattle.activate.specs.Handled.{Continues, Within}
 use Rattle.activate.specs.declared.Handled.{Handled}
 
@@ -34,7 +34,7 @@ tickEnv snapshot image = record { world = worldOf snapshot; set = setOf image (f
 -- the image passes load, and the store's flat part is its flat form
 pub record Holds (store image : List ℕ) : Type 0 where
   pub accepted : imageRefusal image ≡ 0
-  pub flat : FlatPart store (setOf image (flattenRules image) .flat)
+  pub kept : Kept store image (setOf image (flattenRules image))
 
 -- a continuation is one of the set's rules
 abbrev pub fitsSet : List ℕ → Pending → Bool

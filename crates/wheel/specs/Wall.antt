@@ -7,9 +7,9 @@ use Rattle.model.specs.Arith.{hasDay}
 use Rattle.model.specs.Lists.{any}
 use Rattle.model.specs.Rules.{triggersOf}
 use Rattle.model.specs.State.{Env, Rest, isEnabled}
+use Rattle.model.specs.Steps.{FlatStep}
 use Rattle.model.specs.Wheel as model
 use Rattle.model.specs.Wheel.{inWindow, isWallTrigger, dueWallKind}
-use Rattle.model.specs.declared.Step.{Step}
 use Rattle.model.specs.declared.Trigger.{Trigger}
 use Rattle.state.specs.Meaning.{option32}
 use Rattle.eval.specs.Answers.{envOf}
@@ -35,7 +35,7 @@ KindAnywhere base window missed ts r = (e : Env) → wallKind r ≡ missedToo mi
 
 abbrev pub Kind : List ℕ → ℕ → ℕ → Bool → List Trigger → WallKind → Type 0
 Kind snapshot base window missed ts r =
-    (image : List ℕ) (flat : List (List Step)) → wallKind r ≡ missedToo missed (dueWallKind (envOf snapshot image flat) base window ts)
+    (image : List ℕ) (flat : List (List FlatStep)) → wallKind r ≡ missedToo missed (dueWallKind (envOf snapshot image flat) base window ts)
 
 -- rule i is enabled and has a wall trigger
 unfoldable pub enabledWall : List ℕ → Rest → ℕ → Bool

@@ -6,6 +6,7 @@ use image::rule::rule_named;
 use model::Pending;
 use state::pending::due_now;
 use state::pending::without_due;
+use store::flat_part::rule_own;
 use store::flat_part::rule_steps;
 ghost use mathlib.Core.Path.{_≡_};
 ghost use mathlib.Core.Bool.{true};
@@ -34,8 +35,9 @@ fn resume_one(
 {
     match rule_named(image, c.rule) {
         Found::At(i) => {
-            let steps = rule_steps(store, i);
-            resume(snapshot, image, steps, outcomes, effects, x, i, c)
+            let part = rule_steps(store, i);
+            let own = rule_own(store, i);
+            resume(snapshot, image, part, own, outcomes, effects, x, i, c)
         }
         Found::Nothing => x,
     }

@@ -10,8 +10,8 @@ ghost use mathlib.Core.Path.{_≡_};
 ghost use mathlib.Core.List.{List};
 ghost use Prim.Native.Nat.{_≤_};
 ghost use lib.ListN.{take};
+ghost use Rattle.model.specs.Steps.{FlatStep};
 ghost use Rattle.model.specs.Wheel.{leastOf, nextDeadline};
-ghost use Rattle.model.specs.declared.Step.{Step};
 ghost use Rattle.state.specs.Meaning.{Sound, option64};
 ghost use Rattle.wheel.specs.Deadline.{LeastWith, pendingTimes, timerTimes, slotTimes, AcceptedIf, storeOf, Poll};
 
@@ -97,7 +97,7 @@ fn wall_poll(image: &[u32], loaded: bool, v: Volatile, last: u64) -> OptionU64
 // When a store that was last called at `last` next has something to do. `image` is the loaded one, where there is one.
 pub fn next_deadline(image: &[u32], loaded: bool, v: Volatile, last: u64) -> OptionU64
     requires { ⌜ AcceptedIf loaded (now image) × Sound v ⌝ }
-    ensures { λ r. ⌜ ((flat : List (List Step)) → option64 r ≡ nextDeadline (storeOf (now (image .entry)) loaded flat v last)) ⌝ }
+    ensures { λ r. ⌜ ((flat : List (List FlatStep)) → option64 r ≡ nextDeadline (storeOf (now (image .entry)) loaded flat v last)) ⌝ }
 {
     let poll = wall_poll(image, loaded, v, last);
     let xs = v.every;

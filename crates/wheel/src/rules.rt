@@ -1,8 +1,9 @@
-// A rule starts, with the flat steps that the store has for it.
+// A rule starts, with the part of the flat steps that the store has for it.
 use activate::Handled;
 use activate::Mode;
 use activate::activate;
 use state::rules::is_enabled;
+use store::flat_part::rule_own;
 use store::flat_part::rule_steps;
 ghost use Prim.Native.Nat.{_<_};
 ghost use Rattle.model.specs.Activate as model;
@@ -26,11 +27,13 @@ pub fn activate_rule(
     requires { ⌜ Room 1 x ⌝ }
     ensures { λ r. ⌜ Fires 1 (model.activate (tickEnv (now (snapshot .entry)) (now (image .entry))) i kind 0 model.Auto) x (now (outcomes .entry)) (now (effects .entry)) r (now (outcomes .exit)) (now (effects .exit)) ⌝ }
 {
-    let steps = rule_steps(store, i);
+    let part = rule_steps(store, i);
+    let own = rule_own(store, i);
     activate(
         snapshot,
         image,
-        steps,
+        part,
+        own,
         outcomes,
         effects,
         x,

@@ -16,7 +16,7 @@ returns c =
     let s = c .before .before .before .before .before .before .before .before .before .before .before .before .before .before .before in
     let k = c .before .before .before .before in
     let y = k .before .before .before in
-    resumes (now (s .args .snapshot)) (now (s .args .image)) (now (s .args .steps)) (s .args .i) (s .args .c) (s .args .x) (y .count .result) _ _ _ _ _ (y .before .job-of .result) (y .before .job-of .ensures) (s .pre .0 .2) (y .count .ensures) (k .run-wet .ensures)
+    resumes (now (s .args .snapshot)) (now (s .args .image)) (now (s .args .part)) (s .args .own) (s .args .i) (s .args .c) (s .args .x) (y .count .result) _ _ _ _ _ (y .before .job-of .result) (y .before .job-of .ensures) (s .pre .0 .2) (y .count .ensures) (k .run-wet .ensures)
 
 pub resume-spec : {M : Type 1} → statement M
 resume-spec =

@@ -16,7 +16,7 @@ returns : tie.Need-returns
 returns c =
     let s = c .before .before .before .before .before .before .before .before .before .before .before .before .before .before in
     let k = c .before .before .before .before in
-    executes-dry (now (s .args .snapshot)) (now (s .args .image)) (now (s .args .steps)) (s .args .job) (s .args .x) (k .before .before .before .count .result) _ _ _ _ _ (k .before .before .before .before .if1 .taken) (k .before .before .before .count .ensures) (k .run-dry .ensures)
+    executes-dry (now (s .args .snapshot)) (now (s .args .image)) (now (s .args .part)) (s .args .own) (s .args .job) (s .args .x) (k .before .before .before .count .result) _ _ _ _ _ (k .before .before .before .before .if1 .taken) (k .before .before .before .count .ensures) (k .run-dry .ensures)
 
 run-wet-requires : tie.Need-run-wet-requires
 run-wet-requires c κs =
@@ -29,7 +29,7 @@ returns-2 c =
     let s = c .before .before .before .before .before .before .before .before .before .before .before .before .before .before .before in
     let k = c .before .before .before .before in
     let b = k .before .before .before .budget in
-    executes-wet (now (s .args .snapshot)) (now (s .args .image)) (now (s .args .steps)) (s .args .job) (s .args .x) (k .before .before .before .before .start .result) _ _ _ _ _ (b .result) (k .before .before .before .before .before .if1 .left) (b .ensures) (k .before .before .before .before .start .ensures) (k .run-wet .ensures)
+    executes-wet (now (s .args .snapshot)) (now (s .args .image)) (now (s .args .part)) (s .args .own) (s .args .job) (s .args .x) (k .before .before .before .before .start .result) _ _ _ _ _ (b .result) (k .before .before .before .before .before .if1 .left) (b .ensures) (k .before .before .before .before .start .ensures) (k .run-wet .ensures)
 
 pub execute-spec : {M : Type 1} → statement M
 execute-spec =

@@ -17,7 +17,7 @@ push-outcome-requires : tie.Need-push-outcome-requires
 push-outcome-requires c κs =
     let s = c .before .before .before .before .before .before .before .before .before .before .before .before .before in
     let k = c .before .before .before .before in
-    (omega (arith, s .pre .3 .outcomes), dry-grows (now (s .args .snapshot)) (now (s .args .image)) (now (s .args .steps)) (s .args .job) (s .args .x) _ _ (k .run-steps-dry .result) _ (s .pre .1) (k .run-steps-dry .ensures))
+    (omega (arith, s .pre .3 .outcomes), dry-grows (now (s .args .snapshot)) (now (s .args .image)) (now (s .args .part)) (s .args .own) (s .args .job) (s .args .x) _ _ (k .run-steps-dry .result) _ (s .pre .1) (k .run-steps-dry .ensures))
 
 returns : tie.Need-returns
 returns c =
@@ -25,7 +25,7 @@ returns c =
     let k = c .before .before .before .before .before .before .before in
     let b = k .before .before .budget in
     let few = budget-fits (now (s .args .image)) (s .pre .0 .passes) .1 in
-    runs-dry (now (s .args .snapshot)) (now (s .args .image)) (now (s .args .steps)) (s .args .job) (s .args .x) (b .result) _ (k .run-steps-dry .result) _ (s .pre .1) (k .run-steps-dry .ensures) _ _ _ (rw (b .ensures) few) (b .ensures) (c .before .before .push-outcome .ensures)
+    runs-dry (now (s .args .snapshot)) (now (s .args .image)) (now (s .args .part)) (s .args .own) (s .args .job) (s .args .x) (b .result) _ (k .run-steps-dry .result) _ (s .pre .1) (k .run-steps-dry .ensures) _ _ _ (rw (b .ensures) few) (b .ensures) (c .before .before .push-outcome .ensures)
 
 pub run-dry-spec : {M : Type 1} → statement M
 run-dry-spec =

@@ -15,7 +15,7 @@ run-steps-requires c κs =
 sub-finish-wet : tie.Need-sub-finish-wet
 sub-finish-wet c =
     let s = c .before .before .before .before .before .before .before .before .before .before .before .before .before in
-    run-grows (now (s .args .snapshot)) (now (s .args .image)) (now (s .args .steps)) (s .args .job) (s .args .x) (s .args .most) _ (c .before .before .before .before .before .run-steps .result) _ (s .pre .1) (s .args .from) (c .before .before .before .before .before .run-steps .ensures)
+    run-grows (now (s .args .snapshot)) (now (s .args .image)) (now (s .args .part)) (s .args .own) (s .args .job) (s .args .x) (s .args .most) _ (c .before .before .before .before .before .run-steps .result) _ (s .pre .1) (s .args .from) (c .before .before .before .before .before .run-steps .ensures)
 
 finish-wet-requires : tie.Need-finish-wet-requires
 finish-wet-requires c κs = c .before .before .before .before .before .run-steps .ensures .sound
@@ -24,13 +24,13 @@ push-outcome-requires : tie.Need-push-outcome-requires
 push-outcome-requires c κs =
     let s = c .before .before .before .before .before .before .before .before .before .before .before .before .before .before .before in
     let k = c .before .before .before .before .before .before .before in
-    (omega (arith, s .pre .3 .outcomes), run-grows (now (s .args .snapshot)) (now (s .args .image)) (now (s .args .steps)) (s .args .job) (s .args .x) (s .args .most) _ (k .run-steps .result) _ (s .pre .1) (s .args .from) (k .run-steps .ensures))
+    (omega (arith, s .pre .3 .outcomes), run-grows (now (s .args .snapshot)) (now (s .args .image)) (now (s .args .part)) (s .args .own) (s .args .job) (s .args .x) (s .args .most) _ (k .run-steps .result) _ (s .pre .1) (s .args .from) (k .run-steps .ensures))
 
 returns : tie.Need-returns
 returns c =
     let s = c .before .before .before .before .before .before .before .before .before .before .before .before .before .before .before .before .before .before in
     let k = c .before .before .before .before .before .before .before .before .before .before in
-    runs-wet (now (s .args .snapshot)) (now (s .args .image)) (now (s .args .steps)) (s .args .job) (s .args .x) (s .args .most) _ (k .run-steps .result) _ (s .pre .1) (s .args .from) (k .run-steps .ensures) _ _ (c .before .before .before .before .finish-wet .result) _ _ (s .pre .2) refl (c .before .before .before .before .finish-wet .ensures) (c .before .before .push-outcome .ensures)
+    runs-wet (now (s .args .snapshot)) (now (s .args .image)) (now (s .args .part)) (s .args .own) (s .args .job) (s .args .x) (s .args .most) _ (k .run-steps .result) _ (s .pre .1) (s .args .from) (k .run-steps .ensures) _ _ (c .before .before .before .before .finish-wet .result) _ _ (s .pre .2) refl (c .before .before .before .before .finish-wet .ensures) (c .before .before .push-outcome .ensures)
 
 pub run-wet-spec : {M : Type 1} → statement M
 run-wet-spec =

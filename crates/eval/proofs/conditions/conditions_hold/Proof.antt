@@ -5,7 +5,7 @@ use Prim.Native.Nat.{_≤_, _-_}
 use native.Mathlib.Omega.{arith}
 use lib.ListN.{length}
 use Rattle.model.specs.Rules.{conditionsOfRule}
-use Rattle.model.specs.declared.Step.{Step}
+use Rattle.model.specs.Steps.{FlatStep}
 use Rattle.state.specs.Meaning.{meaning}
 use Rattle.eval.specs.Answers.{envOf}
 use Rattle.eval.proofs.Holding.{left, whole, starts, goes, fails, stops, ends}
@@ -17,7 +17,7 @@ abbrev Inv-loop : tie.InvT-loop
 Inv-loop snapshot image v rule n k₀ k =
     let cs = conditionsOfRule image rule in
     (k ≤ n) × (n ≡ length cs)
-    × ((flat : List (List Step)) → left (envOf snapshot image flat) (meaning v .rest) cs k ≡ whole (envOf snapshot image flat) (meaning v .rest) cs)
+    × ((flat : List (List FlatStep)) → left (envOf snapshot image flat) (meaning v .rest) cs k ≡ whole (envOf snapshot image flat) (meaning v .rest) cs)
 
 abbrev μ-loop : tie.MeasureT-loop
 μ-loop snapshot image v rule n k₀ k = n - k

@@ -10,7 +10,7 @@ element-write-r : tie.Need-element-write-r
 element-write-r c = omega (arith, long (c .before .before .before .before .args .run) (c .before .before .before .before .good .0), c .before .before .before .before .pre .1)
 
 returns : tie.Need-returns
-returns c = queue-after (c .before .before .before .before .args .run) (c .before .before .before .before .args .step) (c .before .before .before .before .pre .0) _ _ (c .before .before .enum-told .given .1) (omega (arith, long (c .before .before .before .before .args .run) (c .before .before .before .before .good .0), c .before .before .before .before .pre .1))
+returns c = queue-after (c .before .before .before .before .args .run) (c .before .before .before .before .args .step) (c .before .before .before .before .pre .0) _ (c .before .before .enum-told .given .1) (omega (arith, long (c .before .before .before .before .args .run) (c .before .before .before .before .good .0), c .before .before .before .before .pre .1))
 
 returns-2 : tie.Need-returns-2
 returns-2 c = queue-none (c .before .args .run) (c .before .args .step) (c .before .pre .0) (c .match .keys2)

@@ -12,7 +12,7 @@ use Rattle.exec.proofs.runs.turn.Tie as tie
 exec-requires : tie.Need-exec-requires
 exec-requires c κs =
     let f = c .before .before .before .before .before .before .before .before .before .before .pre .0 .1 in
-    let g = found-near _ _ _ f (sym (ap stepOption (c .before .step .given .1)) ∙ c .before .before .before .step-at .ensures (f .steps) (f .words)) in
+    let g = found-near _ _ _ f (sym (ap stepOption (c .before .step .given .1)) ∙ c .before .before .before .step-at .ensures) in
     (c .before .before .before .before .before .before .before .before .before .before .pre .0 .0, c .before .before .before .before .before .before .before .before .before .before .pre .1 .0, c .before .before .before .before .before .before .before .before .before .before .pre .1 .1, omega (arith, g .0, g .1))
 
 returns : tie.Need-returns

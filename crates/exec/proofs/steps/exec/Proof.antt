@@ -17,7 +17,7 @@ branch-requires : tie.Need-branch-requires
 branch-requires c κs = let h = reach-at _ _ _ (c .before .step3 .given .1) (c .before .before .before .before .before .pre .3) in (c .before .before .before .before .before .pre .0, c .before .before .before .before .before .pre .1, h)
 
 after-requires : tie.Need-after-requires
-after-requires c κs = let h = reach-at _ _ _ (c .before .step4 .given .1) (c .before .before .before .before .before .pre .3) in (c .before .before .before .before .before .pre .1, c .before .before .before .before .before .pre .2, h)
+after-requires c κs = let h = reach-at _ _ _ (c .before .step4 .given .1) (c .before .before .before .before .before .pre .3) in (c .before .before .before .before .before .pre .1, c .before .before .before .before .before .pre .2, omega (arith, h))
 
 fail-requires : tie.Need-fail-requires
 fail-requires c κs = let h = reach-at _ _ _ (c .enum-told .given .1) (c .before .before .before .before .pre .3) in (c .before .before .before .before .pre .1, omega (arith, h))

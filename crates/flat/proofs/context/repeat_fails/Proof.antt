@@ -1,10 +1,4 @@
 -- `flat::context::repeat_fails` meets its contract. Assumes nothing.
-use mathlib.Core.Path.{_≡_, refl, sym, ap, _∙_}
-use mathlib.Core.Bool.{true, false}
-use Prim.Native.Nat.{ℕ, _+_, _*_, _-_, _≤_, _<_}
-use native.Mathlib.Omega.{arith}
-use borrow.Author.Needs.{needs}
-use lib.ListN.{length, take}
 use Rattle.flat.proofs.Definition.{fails-inside, fails-zero, fails-over}
 use Rattle.flat.proofs.context.repeat_fails.Statement.{statement}
 use Rattle.flat.proofs.context.repeat_fails.Tie as tie

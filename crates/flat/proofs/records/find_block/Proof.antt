@@ -1,22 +1,20 @@
 -- `flat::records::find_block` meets its contract: what is left to search is what the whole search finds. Assumes nothing.
-use mathlib.Core.Path.{_≡_, refl, sym, _∙_}
+use mathlib.Core.Path.{_≡_, _∙_}
 use mathlib.Core.List.{List, [], map}
+use mathlib.Core.Option.{Option}
 use Prim.Native.Nat.{ℕ, suc, _+_, _*_, _-_, _/_, _≤_, _<_}
 use native.Mathlib.Numerals.{add-one}
 use native.Mathlib.Nat.{sub-zero}
 use native.Mathlib.Omega.{arith}
 use borrow.Author.Needs.{needs}
 use borrow.Author.Tests.{eq-eqb, ne-eqb}
-use mathlib.Core.Option.{Option}
 use lib.Dec.{eqb}
 use lib.ListN.{length, getD}
 use Rattle.model.specs.declared.Record.{Record}
 use Rattle.model.specs.Lists.{find, upFrom}
 use Rattle.model.specs.Rules.{recordIn}
 use Rattle.model.specs.Flat.{blockNamed}
-use Rattle.flat.specs.Outcome.{foundIn}
-use Rattle.flat.specs.declared.Found.{Found}
-use Rattle.flat.specs.declared.Found.the-variants.{Block, Nothing}
+use Rattle.flat.specs.Outcome.{foundIn, blockAt}
 use Rattle.flat.proofs.records.find_block.Statement.{statement}
 use Rattle.flat.proofs.records.find_block.Tie as tie
 
@@ -28,17 +26,19 @@ module _ (t : List ℕ) (n i name : ℕ) (h : i < n) (r : Record) (e : r ≡ rec
   more : n - i ≡ suc (n - (i + 1))
   more = omega arith
 
-  here : r .kind ≡ name → Block (r .a) (r .b) ≡ foundIn (searched t name i (n - i))
+  here : r .kind ≡ name → blockAt t (i + 1) ≡ foundIn (searched t name i (n - i))
+  unfolding blockAt
   here k =
       let g : getD t (i * 8) 0 ≡ name = rw e at k in
-      rw (e, more, eq-eqb (getD t (i * 8) 0) name g)
+      rw (add-one i, more, eq-eqb (getD t (i * 8) 0) name g)
 
   past : (r .kind ≡ name → ⊥) → foundIn (searched t name (i + 1) (n - (i + 1))) ≡ foundIn (searched t name i (n - i))
   past k =
       let g : getD t (i * 8) 0 ≡ name → ⊥ = rw e at k in
       rw (more, ne-eqb (getD t (i * 8) 0) name g, add-one i)
 
-none-left : (t : List ℕ) (n i name : ℕ) → n ≤ i → foundIn (searched t name i (n - i)) ≡ Nothing
+none-left : (t : List ℕ) (n i name : ℕ) → n ≤ i → blockAt t 0 ≡ foundIn (searched t name i (n - i))
+unfolding blockAt
 none-left t n i name h = let e : n - i ≡ 0 = omega arith in rw e
 
 whole : (t : List ℕ) (name : ℕ) → foundIn (searched t name 0 (length t / 8 - 0)) ≡ foundIn (blockNamed [] t name)
@@ -61,36 +61,32 @@ read-record-requires c κs = search needs
 add-i : tie.Need-add-i Inv-loop μ-loop
 add-i c = search needs
 
+cast-result : tie.Need-cast-result Inv-loop μ-loop
+cast-result c = omega (arith, c .before .before .before .before .before .before .pre)
+
 returns : tie.Need-returns Inv-loop μ-loop
 returns c =
-    let at-read-record = c .before .before in
-    let at-loop-test = at-read-record .before in
-    let at-loop = at-loop-test .before in
-    let a = at-loop .before .before .args in
-    let x = at-read-record .read-record in
-    here (a .blocks .now) (length (a .blocks .now) / 8) (at-loop .loop .i) (a .name) (at-loop-test .loop-test .taken) (x .result) (x .ensures) (c .if1 .taken)
-    ∙ at-loop .loop .inv .1
+    let a = c .before .before .before .before .before .before .args in
+    let x = c .before .before .read-record in (
+      here (a .blocks .now) (length (a .blocks .now) / 8) (c .before .before .before .before .loop .i) (a .name) (c .before .before .before .loop-test .taken) (x .result) (x .ensures) (c .if1 .taken) ∙ c .before .before .before .before .loop .inv .1,
+      omega (arith, c .before .before .before .loop-test .taken),
+    )
 
 loop-less : tie.Need-loop-less Inv-loop μ-loop
 loop-less c = search needs
 
 loop-again : tie.Need-loop-again Inv-loop μ-loop
 loop-again c =
-    let at-read-record = c .before .before in
-    let at-loop-test = at-read-record .before in
-    let at-loop = at-loop-test .before in
-    let a = at-loop .before .before .args in
-    let x = at-read-record .read-record in (
+    let a = c .before .before .before .before .before .before .args in
+    let x = c .before .before .read-record in (
       search needs,
-      past (a .blocks .now) (length (a .blocks .now) / 8) (at-loop .loop .i) (a .name) (at-loop-test .loop-test .taken) (x .result) (x .ensures) (c .if1 .left)
-          ∙ at-loop .loop .inv .1,
+      past (a .blocks .now) (length (a .blocks .now) / 8) (c .before .before .before .before .loop .i) (a .name) (c .before .before .before .loop-test .taken) (x .result) (x .ensures) (c .if1 .left) ∙ c .before .before .before .before .loop .inv .1,
     )
 
 returns-2 : tie.Need-returns-2 Inv-loop μ-loop
 returns-2 c =
-    let at-loop = c .before in
-    let a = at-loop .before .before .args in
-    sym (none-left (a .blocks .now) (length (a .blocks .now) / 8) (at-loop .loop .i) (a .name) (c .loop-test .left)) ∙ at-loop .loop .inv .1
+    let a = c .before .before .before .args in
+    (none-left (a .blocks .now) (length (a .blocks .now) / 8) (c .before .loop .i) (a .name) (c .loop-test .left) ∙ c .before .loop .inv .1, omega arith)
 
 pub find-block-spec : {M : Type 1} → statement M
 find-block-spec =
@@ -101,6 +97,7 @@ find-block-spec =
     loop-holds
     read-record-requires
     add-i
+    cast-result
     returns
     loop-less
     loop-again

@@ -1,6 +1,6 @@
 -- `flat::records::read_action` meets its contract. Assumes nothing.
 use borrow.Author.Needs.{needs}
-use mathlib.Core.Path.{_≡_, ap, _∙_}
+use mathlib.Core.Path.{ap, _∙_}
 use Rattle.model.specs.Rules.{flowOf}
 use Rattle.flat.proofs.records.read_action.Statement.{statement}
 use Rattle.flat.proofs.records.read_action.Tie as tie

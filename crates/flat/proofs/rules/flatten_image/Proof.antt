@@ -1,9 +1,7 @@
 -- `flat::rules::flatten_image` meets its contract: the tables are parts of the image. Assumes nothing.
-use mathlib.Core.Path.{_≡_, refl, sym, ap, _∙_}
-use Prim.Native.Nat.{ℕ, _+_, _*_, _-_, _≤_, _<_}
+use mathlib.Core.Path.{_∙_}
 use native.Mathlib.Omega.{arith}
 use borrow.Author.Needs.{needs}
-use lib.ListN.{length}
 use Rattle.flat.proofs.Checked.{long, short, actions-order, actions-end, blocks-order, blocks-end, rules-order, rules-end, parts-checked, parts-rules}
 use Rattle.flat.proofs.rules.flatten_image.Statement.{statement}
 use Rattle.flat.proofs.rules.flatten_image.Tie as tie

@@ -1,35 +1,25 @@
 -- `flat::rules::flatten_rules` meets its contract: nothing is compared. Assumes nothing.
-use mathlib.Core.Path.{_≡_, refl, sym, ap, _∙_}
-use Prim.Native.Nat.{ℕ, _+_, _*_, _-_, _≤_, _<_}
 use native.Mathlib.Omega.{arith}
 use borrow.Author.Needs.{needs}
 use lib.ListN.{length}
 use Rattle.model.specs.Flat.{flattenRules}
-use Rattle.flat.proofs.Words.{tailOf, tail-size}
+use Rattle.flat.proofs.Words.{tail-size}
 use Rattle.flat.proofs.Checked.{short}
-use Rattle.flat.proofs.FlatPart.{loaded-alone}
+use Rattle.flat.proofs.RuleLists.{loaded-over, loaded-steps}
 use Rattle.flat.proofs.rules.flatten_rules.Statement.{statement}
 use Rattle.flat.proofs.rules.flatten_rules.Tie as tie
 
 mul-flatten-image : tie.Need-mul-flatten-image
-mul-flatten-image c =
-    let o = c .before .before .before .before .before in
-    omega (arith, short (o .args .image .now) (o .pre .0))
+mul-flatten-image c = omega (arith, short (c .before .before .before .before .before .args .image .now) (c .before .before .before .before .before .pre .0))
 
 sub-flatten-image : tie.Need-sub-flatten-image
-sub-flatten-image c =
-    let o = c .before .before .before .before .before in
-    omega (arith, short (o .args .image .now) (o .pre .0))
+sub-flatten-image c = omega (arith, short (c .before .before .before .before .before .args .image .now) (c .before .before .before .before .before .pre .0))
 
 part-flatten-image-start : tie.Need-part-flatten-image-start
-part-flatten-image-start c =
-    let o = c .before .before .before .before .before in
-    omega (arith, short (o .args .image .now) (o .pre .0))
+part-flatten-image-start c = omega (arith, short (c .before .before .before .before .before .args .image .now) (c .before .before .before .before .before .pre .0))
 
 part-flatten-image-end : tie.Need-part-flatten-image-end
-part-flatten-image-end c =
-    let o = c .before .before .before .before .before in
-    omega (arith, short (o .args .image .now) (o .pre .0))
+part-flatten-image-end c = omega (arith, short (c .before .before .before .before .before .args .image .now) (c .before .before .before .before .before .pre .0))
 
 flatten-image-requires : tie.Need-flatten-image-requires
 flatten-image-requires c κs =
@@ -39,9 +29,14 @@ flatten-image-requires c κs =
 
 returns : tie.Need-returns
 returns c =
-    let i = c .before .before .before .before .before .before .before .before .before .before .before .args .image .now in
-    let r = c .before .before .before .before .flatten-image in
-    loaded-alone (flattenRules i) (tailOf i (length i)) (r .last .1 .0) (r .last .1 .1 .0) (r .result) (omega (arith, tail-size i (length i))) (r .ensures)
+    let fs = flattenRules (c .before .before .before .before .before .before .before .before .before .before .before .before .before .args .image .now) in
+    (loaded-over fs (rw (c .enum-told .given .1) at (c .before .before .before .before .before .before .flatten-image .ensures)), tt)
+
+returns-2 : tie.Need-returns-2
+returns-2 c =
+    let fs = flattenRules (c .before .before .before .before .before .before .before .before .before .before .before .before .before .before .args .image .now) in
+    let z = rw (c .before .n .given .1) at (c .before .before .before .before .before .before .before .flatten-image .ensures) in
+    (loaded-steps fs _ (z .few) (z .count), z .parts)
 
 pub flatten-rules-spec : {M : Type 1} → statement M
 flatten-rules-spec =
@@ -54,4 +49,9 @@ flatten-rules-spec =
     flatten-image-requires
     (λ c. search needs)
     (λ c. search needs)
-    returns)
+    (λ c. search needs)
+    (λ c. search needs)
+    returns
+    (λ c. search needs)
+    (λ c. search needs)
+    returns-2)

@@ -1,9 +1,8 @@
 -- `flat::rules::same_words` meets its contract: after i turns the first i words are the same. Assumes nothing.
 use mathlib.Core.Path.{_≡_, refl, sym, ap}
 use mathlib.Core.List.{List}
-use Prim.Native.Nat.{ℕ, _+_, _-_, _≤_, _<_}
+use Prim.Native.Nat.{ℕ, _-_, _≤_}
 use native.Mathlib.Omega.{arith}
-use borrow.Author.Needs.{needs}
 use lib.ListN.{length, take, getD}
 use Rattle.flat.proofs.FlatPart.{same-false, agree-more, agree-all}
 use Rattle.flat.proofs.rules.same_words.Statement.{statement}

@@ -6,7 +6,7 @@ use native.Mathlib.Omega.{arith}
 use lib.ListN.{length}
 use borrow.Author.Needs.{needs}
 use Rattle.model.specs.Rules.{triggersOf}
-use Rattle.model.specs.declared.Step.{Step}
+use Rattle.model.specs.Steps.{FlatStep}
 use Rattle.eval.specs.Answers.{envOf}
 use Rattle.wheel.proofs.DueKind.{Left, starts, ends-here, goes, ends}
 use Rattle.wheel.proofs.wall.due_wall_kind.Statement.{statement}
@@ -15,7 +15,7 @@ use Rattle.wheel.proofs.wall.due_wall_kind.Tie as tie
 abbrev Inv-loop : tie.InvT-loop
 Inv-loop snapshot image base window i missed n unsynced₀ k₀ unsynced k =
     (k ≤ n) × (n ≡ length (triggersOf image i))
-    × ((img : List ℕ) (flat : List (List Step)) → Left (envOf snapshot img flat) base window (triggersOf image i) missed k unsynced)
+    × ((img : List ℕ) (flat : List (List FlatStep)) → Left (envOf snapshot img flat) base window (triggersOf image i) missed k unsynced)
 
 abbrev μ-loop : tie.MeasureT-loop
 μ-loop snapshot image base window i missed n unsynced₀ k₀ unsynced k = n - k

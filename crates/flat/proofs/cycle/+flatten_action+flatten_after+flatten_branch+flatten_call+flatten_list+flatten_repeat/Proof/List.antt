@@ -1,281 +1,165 @@
--- The answers for `flatten_list`: after each turn the actions before record i stand in front. Assumes nothing.
+-- The answers for `flatten_list`: after each turn, whatever the records from i on answer, the whole answers. Assumes nothing.
 use mathlib.Core.Path.{_≡_, refl, _∙_}
 use Prim.Native.Nat.{ℕ, _-_, _/_}
 use native.Mathlib.Omega.{arith}
 use lib.ListN.{length}
 use borrow.Author.Needs.{needs}
 use borrow.Fn.Kinds.{In, Out}
-use Rattle.model.specs.declared.Step.the-variants.{Fail}
-use Rattle.flat.proofs.Words.{whole-length}
-use Rattle.flat.proofs.Outcomes.{start, tail-le, seen-le}
-use Rattle.flat.proofs.Lists.{Passed, at-first, finished, full-refused, full-wrote, none-allowed, action-refused, next}
+use Rattle.flat.proofs.Starts.{start-next}
+use Rattle.flat.proofs.Lists.{Passing, at-first, finished, full, refused, next}
 use Rattle.flat.proofs.cycle.flatten_action.Reads as flatten-action
 use Rattle.flat.proofs.cycle.flatten_list.Reads as flatten-list
-use Rattle.flat.proofs.steps.tail_start.Reads as tail-start
-use Rattle.flat.proofs.steps.push.Reads as push
+use Rattle.flat.proofs.steps.put.Reads as put
 use Rattle.flat.proofs.cycle.flatten_list.Kinds as kinds
 use Rattle.flat.proofs.cycle.+flatten_action+flatten_after+flatten_branch+flatten_call+flatten_list+flatten_repeat.Lts-flatten_list as lts
 use Rattle.flat.proofs.cycle.+flatten_action+flatten_after+flatten_branch+flatten_call+flatten_list+flatten_repeat.Proof.Measures.{action-below, list-at, left-is}
 
 abbrev claims : ℕ → lts.Claims
-claims t = (tail-start.Asked, tail-start.Learnt, push.Asked, push.Learnt, action-below t, flatten-action.Post)
+claims t = (put.Asked, put.Learnt, action-below t, flatten-action.Post)
 
 abbrev Inv-loop : lts.InvT-loop
-Inv-loop acts blocks words₀ seen first count p end i₀ n₀ size₀ left₀ words i n size left =
-    Passed acts blocks (p .depth) first count (p .ctx) (p .n) (p .left) seen (length words₀) words i n size left
+Inv-loop acts blocks calls list₀ body₀ bodies₀ seen first count p end i₀ n₀ m₀ left₀ same₀ list body bodies i n m left same =
+    Passing
+    (record {
+      acts = acts;
+      blocks = blocks;
+      depth = p .depth;
+      first = first;
+      count = count;
+      ctx = p .ctx;
+      n = p .n;
+      m = p .m;
+      left = p .left;
+      same = p .same;
+      seen = seen;
+      list = list₀;
+      bodies = bodies₀;
+    }) i n m left same list bodies × (length body ≡ length body₀)
 
 abbrev μ-loop : lts.MeasureT-loop
-μ-loop acts blocks words₀ seen first count p end i₀ n₀ size₀ left₀ words i n size left = end - i
+μ-loop acts blocks calls list₀ body₀ bodies₀ seen first count p end i₀ n₀ m₀ left₀ same₀ list body bodies i n m left same = end - i
 
-abbrev Of : ℕ → (lts.Claims → In 4 kinds.ps → Out 4 kinds.ps kinds.r → lts.InvT-loop → lts.MeasureT-loop → Type 0) → Type 0
+abbrev Of : ℕ → (lts.Claims → In 7 kinds.ps → Out 7 kinds.ps kinds.r → lts.InvT-loop → lts.MeasureT-loop → Type 0) → Type 0
 Of t need = need (claims t) (list-at t) flatten-list.Post Inv-loop μ-loop
 
 module _ (t : ℕ) where
   add-end : Of t lts.Need-add-end
-  add-end c = omega (arith, c .before .before .before .before .pre .1 .1, c .before .before .before .before .pre .1 .0 .tables .few)
+  add-end c = omega (arith, c .before .before .before .before .before .before .before .pre .1 .1, c .before .before .before .before .before .before .before .pre .1 .0 .tables .few)
 
   loop-holds : Of t lts.Need-loop-holds
-  loop-holds c =
-      let a = c .before .before .before .before .args in
-      at-first (a .acts .now) (a .blocks .now) (a .p .depth) (a .first) (a .count) (a .p .ctx) (a .p .n) (a .p .left) (a .seen .now) (a .words .now)
+  loop-holds c = (at-first _, refl)
 
-  tail-start-requires : Of t lts.Need-tail-start-requires
-  tail-start-requires c κs = search needs
+  put-requires : Of t lts.Need-put-requires
+  put-requires c κs = omega (arith, c .before .before .before .loop .inv .0 .few, c .before .before .before .before .before .before .before .before .before .before .before .pre .1 .0 .listed-le, c .before .before .before .before .before .before .before .before .before .before .before .pre .1 .0 .allowed-le, c .before .before .before .before .before .before .before .before .before .before .before .pre .1 .0 .stored-le)
 
-  tail-start-requires-2 : Of t lts.Need-tail-start-requires-2
-  tail-start-requires-2 c κs = search needs
-
-  mul-push : Of t lts.Need-mul-push
-  mul-push c = omega (arith, c .before .before .tail-start .ensures .0, c .before .before .before .before .loop .inv .room-is, c .before .before .before .before .before .before .before .before .before .pre .1 .0 .room-le)
-
-  sub-push : Of t lts.Need-sub-push
-  sub-push c = omega (arith, c .before .before .tail-start .ensures .0, c .before .before .before .before .loop .inv .room-is, c .before .before .before .before .before .before .before .before .before .pre .1 .0 .room-le)
-
-  part-push-start : Of t lts.Need-part-push-start
-  part-push-start c = omega (arith, c .before .before .tail-start .ensures .0, c .before .before .before .before .loop .inv .room-is, c .before .before .before .before .before .before .before .before .before .pre .1 .0 .room-le)
-
-  part-push-end : Of t lts.Need-part-push-end
-  part-push-end c = omega (arith, c .before .before .tail-start .ensures .0, c .before .before .before .before .loop .inv .room-is, c .before .before .before .before .before .before .before .before .before .pre .1 .0 .room-le)
-
-  mul-push-2 : Of t lts.Need-mul-push-2
-  mul-push-2 c = omega (arith, c .before .before .tail-start2 .ensures .0, c .before .before .before .before .before .before .before .before .before .before .pre .1 .0 .seen-le)
-
-  sub-push-2 : Of t lts.Need-sub-push-2
-  sub-push-2 c = omega (arith, c .before .before .tail-start2 .ensures .0, c .before .before .before .before .before .before .before .before .before .before .pre .1 .0 .seen-le)
-
-  part-push-start-2 : Of t lts.Need-part-push-start-2
-  part-push-start-2 c = omega (arith, c .before .before .tail-start2 .ensures .0, c .before .before .before .before .before .before .before .before .before .before .pre .1 .0 .seen-le)
-
-  part-push-end-2 : Of t lts.Need-part-push-end-2
-  part-push-end-2 c = omega (arith, c .before .before .tail-start2 .ensures .0, c .before .before .before .before .before .before .before .before .before .before .pre .1 .0 .seen-le)
-
-  push-requires : Of t lts.Need-push-requires
-  push-requires c κs = search needs
-
-  enum-known-c : Of t lts.Need-enum-known-c
-  enum-known-c c = search needs
-
-  enum-told : Of t lts.Need-enum-told
-  enum-told c = search needs
+  add-t26 : Of t lts.Need-add-t26
+  add-t26 c = omega (arith, c .before .before .before .before .before .before .loop .inv .0 .few, c .before .before .before .before .before .before .before .before .before .before .before .before .before .before .pre .1 .0 .listed-le, c .before .before .before .before .before .before .before .before .before .before .before .before .before .before .pre .1 .0 .allowed-le, c .before .before .before .before .before .before .before .before .before .before .before .before .before .before .pre .1 .0 .stored-le)
 
   same-length : Of t lts.Need-same-length
-  same-length c =
-      let l = c .before .before .before .before .before .before .before .before .before .before .before .loop in
-      let k = c .before .before .before .before .before .before .before .before .before .tail-start in
-      let r = c .before .before .before .before .push in
-      whole-length (l .words) (r .last .0) (k .result) (k .ensures .0) (r .kept .0) ∙ l .inv .room-is
-
-  returns : Of t lts.Need-returns
-  returns c =
-      let l = c .before .before .before .before .before .before .before .before .before .before .before .loop in
-      let m = c .before .before .before .before .before .before .before .before .tail-start2 in
-      let r = rw (c .enum-told .given .1) at (c .before .before .before .before .push .ensures Fail refl (c .before .before .before .before .before .before .before .before .before .before .before .before .before .before .before .before .args .p .ctx .«in_repeat»)) in
-      full-refused (l .inv) (c .before .before .before .before .before .before .before .before .before .before .before .before .before .before .before .before .pre .1 .1) (c .before .before .before .before .before .before .before .before .before .before .loop-test .taken) (m .result) (m .ensures .1) (c .before .before .before .before .before .before .before .if1 .taken) (m .ensures .2) r
-
-  sub-t25 : Of t lts.Need-sub-t25
-  sub-t25 c = omega (arith, c .before .before .before .before .before .before .before .before .before .before .before .before .before .loop .inv .n-is)
-
-  add-t32 : Of t lts.Need-add-t32
-  add-t32 c =
-      let q = c .before .before .before .before .before .before .before .before .before .before .before .before .before .loop .inv .wrote in
-      let r = rw (c .before .before .c .given .1) at (c .before .before .before .before .before .before .push .ensures Fail refl (c .before .before .before .before .before .before .before .before .before .before .before .before .before .before .before .before .before .before .args .p .ctx .«in_repeat»)) in
-      omega (arith, q .counted-le, q .bounded, q .taken-is, r .counted-is, c .before .before .before .before .before .before .before .before .before .before .before .before .before .before .before .before .before .before .pre .1 .0 .allowed-le)
-
-  add-t30 : Of t lts.Need-add-t30
-  add-t30 c =
-      let q = c .before .before .before .before .before .before .before .before .before .before .before .before .before .loop .inv .wrote in
-      let r = rw (c .before .before .c .given .1) at (c .before .before .before .before .before .before .push .ensures Fail refl (c .before .before .before .before .before .before .before .before .before .before .before .before .before .before .before .before .before .before .args .p .ctx .«in_repeat»)) in
-      omega (arith, q .counted-le, q .bounded, q .taken-is, r .counted-is, r .size-is, c .before .before .before .before .before .before .before .before .before .before .before .before .before .before .before .before .before .before .pre .1 .0 .allowed-le)
+  same-length c = c .before .before .put .kept .0 ∙ c .before .before .before .before .before .before .loop .inv .0 .room
 
   same-length-2 : Of t lts.Need-same-length-2
-  same-length-2 c =
-      let l = c .before .before .before .before .before .before .before .before .before .before .before .before .before .loop in
-      let k = c .before .before .before .before .before .before .before .before .before .before .before .tail-start in
-      let r = c .before .before .before .before .before .before .push in
-      whole-length (l .words) (r .last .0) (k .result) (k .ensures .0) (r .kept .0) ∙ l .inv .room-is
-
-  returns-2 : Of t lts.Need-returns-2
-  returns-2 c =
-      let l = c .before .before .before .before .before .before .before .before .before .before .before .before .before .loop in
-      let k = c .before .before .before .before .before .before .before .before .before .before .before .tail-start in
-      let m = c .before .before .before .before .before .before .before .before .before .before .tail-start2 in
-      let x = c .before .before .before .before .before .before .push in
-      let r = rw (c .before .before .c .given .1) at (x .ensures Fail refl (c .before .before .before .before .before .before .before .before .before .before .before .before .before .before .before .before .before .before .args .p .ctx .«in_repeat»)) in
-      full-wrote (l .inv) (c .before .before .before .before .before .before .before .before .before .before .before .before .before .before .before .before .before .before .pre .1 .1) (c .before .before .before .before .before .before .before .before .before .before .before .before .loop-test .taken) (m .result) (m .ensures .1) (c .before .before .before .before .before .before .before .before .before .if1 .taken) (x .last .0) (k .result) _ _ _ (k .ensures .0) (k .ensures .1) (x .kept .0) r
+  same-length-2 c = c .before .before .before .before .before .before .loop .inv .1
 
   same-length-3 : Of t lts.Need-same-length-3
-  same-length-3 c = c .before .before .before .before .before .loop .inv .room-is
+  same-length-3 c = c .before .before .before .before .before .before .loop .inv .0 .room′
 
-  returns-3 : Of t lts.Need-returns-3
-  returns-3 c =
-      let l = c .before .before .before .before .before .loop in
-      let m = c .before .before .tail-start2 in
-      none-allowed (l .inv) (c .before .before .before .before .before .before .before .before .before .before .pre .1 .1) (c .before .before .before .before .loop-test .taken) (m .result) (m .ensures .1) (c .before .if1 .left) (c .if2 .taken)
+  returns : Of t lts.Need-returns
+  returns c = full (c .before .before .before .before .before .before .loop .inv .0) (c .before .before .before .before .before .before .before .before .before .before .before .before .before .before .pre .1 .1) (c .before .before .before .before .before .loop-test .taken) (c .before .before .before .before .if1 .taken) _ (c .before .before .put .ensures)
 
-  sub-flatten-action : Of t lts.Need-sub-flatten-action
-  sub-flatten-action c = omega (arith, c .if2 .left)
+  same-length-4 : Of t lts.Need-same-length-4
+  same-length-4 c = c .before .before .before .loop .inv .0 .room
 
-  mul-flatten-action : Of t lts.Need-mul-flatten-action
-  mul-flatten-action c = omega (arith, c .before .before .before .before .tail-start .ensures .0, c .before .before .before .before .before .before .loop .inv .room-is, c .before .before .before .before .before .before .before .before .before .before .before .pre .1 .0 .room-le)
+  same-length-5 : Of t lts.Need-same-length-5
+  same-length-5 c = c .before .before .before .loop .inv .1
 
-  sub-flatten-action-2 : Of t lts.Need-sub-flatten-action-2
-  sub-flatten-action-2 c = omega (arith, c .before .before .before .before .tail-start .ensures .0, c .before .before .before .before .before .before .loop .inv .room-is, c .before .before .before .before .before .before .before .before .before .before .before .pre .1 .0 .room-le)
+  same-length-6 : Of t lts.Need-same-length-6
+  same-length-6 c = c .before .before .before .loop .inv .0 .room′
 
-  part-flatten-action-start : Of t lts.Need-part-flatten-action-start
-  part-flatten-action-start c = omega (arith, c .before .before .before .before .tail-start .ensures .0, c .before .before .before .before .before .before .loop .inv .room-is, c .before .before .before .before .before .before .before .before .before .before .before .pre .1 .0 .room-le)
+  returns-2 : Of t lts.Need-returns-2
+  returns-2 c = refused (c .before .before .before .loop .inv .0) (c .before .before .before .before .before .before .before .before .before .before .before .pre .1 .1) (c .before .before .loop-test .taken) (c .before .if1 .left) (omega (arith, c .if2 .taken))
 
-  part-flatten-action-end : Of t lts.Need-part-flatten-action-end
-  part-flatten-action-end c = omega (arith, c .before .before .before .before .tail-start .ensures .0, c .before .before .before .before .before .before .loop .inv .room-is, c .before .before .before .before .before .before .before .before .before .before .before .pre .1 .0 .room-le)
-
-  mul-flatten-action-2 : Of t lts.Need-mul-flatten-action-2
-  mul-flatten-action-2 c = omega (arith, c .before .before .before .before .tail-start2 .ensures .0, c .before .before .before .before .before .before .before .before .before .before .before .before .pre .1 .0 .seen-le)
-
-  sub-flatten-action-3 : Of t lts.Need-sub-flatten-action-3
-  sub-flatten-action-3 c = omega (arith, c .before .before .before .before .tail-start2 .ensures .0, c .before .before .before .before .before .before .before .before .before .before .before .before .pre .1 .0 .seen-le)
-
-  part-flatten-action-start-2 : Of t lts.Need-part-flatten-action-start-2
-  part-flatten-action-start-2 c = omega (arith, c .before .before .before .before .tail-start2 .ensures .0, c .before .before .before .before .before .before .before .before .before .before .before .before .pre .1 .0 .seen-le)
-
-  part-flatten-action-end-2 : Of t lts.Need-part-flatten-action-end-2
-  part-flatten-action-end-2 c = omega (arith, c .before .before .before .before .tail-start2 .ensures .0, c .before .before .before .before .before .before .before .before .before .before .before .before .pre .1 .0 .seen-le)
+  sub-t27 : Of t lts.Need-sub-t27
+  sub-t27 c = omega (arith, c .if2 .left)
 
   flatten-action-requires : Of t lts.Need-flatten-action-requires
   flatten-action-requires c κs =
-      let o = c .before .before .before .before .before .before .before .before .before .before .before .before .before in
+      let o = c .before .before .before .before .before .before .before .before .before .before .before .before .before .before .before in
       let a = o .args in
-      let l = c .before .before .before .before .before .before .before .before .loop in
-      let k = c .before .before .before .before .before .before .tail-start in
-      let some : a .count ≡ 0 → ⊥ = λ e. omega (arith, l .inv .from, c .before .before .before .before .before .before .before .loop-test .taken) in (
-        omega (arith, left-is (a .count) (length (a .acts .now) / 8 - a .first) some, o .pre .0, o .pre .1 .1, l .inv .from, c .before .before .before .before .before .before .before .loop-test .taken),
+      let l = c .before .before .before .before .before .before .before .loop in
+      let some : a .count ≡ 0 → ⊥ = λ e. omega (arith, l .inv .0 .from, c .before .before .before .before .before .before .loop-test .taken) in (
+        omega (arith, left-is (a .count) (length (a .acts .now) / 8 - a .first) some, o .pre .0, o .pre .1 .1, l .inv .0 .from, c .before .before .before .before .before .before .loop-test .taken),
         (
-          start (a .acts .now) (a .blocks .now) (length (a .words .now)) _ (length (a .seen .now)) _ (a .p .ctx) (a .p .ctx) (a .p .left) _ (o .pre .1 .0)
-              (omega (arith, tail-le (l .words) (k .result) (k .ensures .0), l .inv .room-is)) (seen-le (a .seen .now) (c .before .before .before .before .before .tail-start2 .result)) refl (omega (arith, l .inv .wrote .taken-is)),
-          (omega (arith, o .pre .1 .1, c .before .before .before .before .before .before .before .loop-test .taken), c .before .before .before .before .if1 .left),
+          start-next (o .pre .1 .0) (l .inv .1) (omega (arith, c .before .before .before .before .before .if1 .left)) (omega (arith, l .inv .0 .less)) (omega (arith, l .inv .0 .few′)),
+          (omega (arith, o .pre .1 .1, c .before .before .before .before .before .before .loop-test .taken), c .before .before .before .before .before .if1 .left),
         ),
       )
 
-  enum-known-c-2 : Of t lts.Need-enum-known-c-2
-  enum-known-c-2 c = search needs
+  same-length-7 : Of t lts.Need-same-length-7
+  same-length-7 c = c .before .before .before .before .before .before .before .before .flatten-action .kept .1 .1 .1 .0 ∙ c .before .before .before .before .before .before .before .before .before .before .before .before .before .before .before .before .loop .inv .0 .room
 
-  enum-told-2 : Of t lts.Need-enum-told-2
-  enum-told-2 c = search needs
+  same-length-8 : Of t lts.Need-same-length-8
+  same-length-8 c = c .before .before .before .before .before .before .before .before .flatten-action .kept .1 .1 .1 .1 .0 ∙ c .before .before .before .before .before .before .before .before .before .before .before .before .before .before .before .before .loop .inv .1
 
-  same-length-4 : Of t lts.Need-same-length-4
-  same-length-4 c =
-      let l = c .before .before .before .before .before .before .before .before .before .before .before .before .before .loop in
-      let k = c .before .before .before .before .before .before .before .before .before .before .before .tail-start in
-      let r = c .before .before .before .before .flatten-action in
-      whole-length (l .words) (r .last .1 .1 .0) (k .result) (k .ensures .0) (r .kept .1 .1 .0) ∙ l .inv .room-is
+  same-length-9 : Of t lts.Need-same-length-9
+  same-length-9 c = c .before .before .before .before .before .before .before .before .flatten-action .kept .1 .1 .1 .1 .1 .0 ∙ c .before .before .before .before .before .before .before .before .before .before .before .before .before .before .before .before .loop .inv .0 .room′
 
-  returns-4 : Of t lts.Need-returns-4
-  returns-4 c =
-      let l = c .before .before .before .before .before .before .before .before .before .before .before .before .before .loop in
-      let m = c .before .before .before .before .before .before .before .before .before .before .tail-start2 in
-      let r = rw (c .enum-told2 .given .1) at (c .before .before .before .before .flatten-action .ensures) in
-      action-refused (l .inv) (c .before .before .before .before .before .before .before .before .before .before .before .before .before .before .before .before .before .before .pre .1 .1) (c .before .before .before .before .before .before .before .before .before .before .before .before .loop-test .taken) (m .result) (m .ensures .1) (c .before .before .before .before .before .before .before .before .before .if1 .left) (m .ensures .2) r
-
-  add-n : Of t lts.Need-add-n
-  add-n c =
-      let q = c .before .before .before .before .before .before .before .before .before .before .before .before .before .before .loop .inv .wrote in
-      let r = rw (c .before .c2 .given .1) at (c .before .before .before .before .before .flatten-action .ensures) in
-      omega (arith, r .counted-le, r .bounded, r .taken-is, q .taken-is, c .before .before .before .before .before .before .before .before .before .before .before .before .before .before .before .before .before .before .before .pre .1 .0 .allowed-le, c .before .before .before .before .before .before .before .before .before .before .if1 .left)
-
-  add-size : Of t lts.Need-add-size
-  add-size c =
-      let q = c .before .before .before .before .before .before .before .before .before .before .before .before .before .before .loop .inv .wrote in
-      let r = rw (c .before .c2 .given .1) at (c .before .before .before .before .before .flatten-action .ensures) in
-      omega (arith, r .bounded, r .taken-is, q .bounded, q .taken-is, c .before .before .before .before .before .before .before .before .before .before .before .before .before .before .before .before .before .before .before .pre .1 .0 .allowed-le)
+  returns-3 : Of t lts.Need-returns-3
+  returns-3 c =
+      let r = rw (c .enum-told .given .1) at (c .before .before .before .before .before .before .before .before .flatten-action .ensures) in
+      refused (c .before .before .before .before .before .before .before .before .before .before .before .before .before .before .before .before .loop .inv .0) (c .before .before .before .before .before .before .before .before .before .before .before .before .before .before .before .before .before .before .before .before .before .before .before .before .pre .1 .1) (c .before .before .before .before .before .before .before .before .before .before .before .before .before .before .before .loop-test .taken) (c .before .before .before .before .before .before .before .before .before .before .before .before .before .before .if1 .left) (omega (arith, r, c .before .before .before .before .before .before .before .before .before .before .before .before .before .if2 .left))
 
   add-i : Of t lts.Need-add-i
-  add-i c = omega (arith, c .before .before .before .before .before .before .before .before .before .before .before .before .before .loop-test .taken, c .before .before .before .before .before .before .before .before .before .before .before .before .before .before .before .before .before .before .before .pre .1 .1, c .before .before .before .before .before .before .before .before .before .before .before .before .before .before .before .before .before .before .before .pre .1 .0 .tables .few)
+  add-i c = omega (arith, c .before .before .before .before .before .before .before .before .before .before .before .before .before .before .before .before .loop-test .taken, c .before .before .before .before .before .before .before .before .before .before .before .before .before .before .before .before .before .before .before .before .before .before .before .before .before .pre .1 .1, c .before .before .before .before .before .before .before .before .before .before .before .before .before .before .before .before .before .before .before .before .before .before .before .before .before .pre .1 .0 .tables .few)
 
   loop-less : Of t lts.Need-loop-less
-  loop-less c = omega (arith, c .before .before .before .before .before .before .before .before .before .before .before .before .before .loop-test .taken)
+  loop-less c = omega (arith, c .before .before .before .before .before .before .before .before .before .before .before .before .before .before .before .before .loop-test .taken)
 
   loop-again : Of t lts.Need-loop-again
-  loop-again c =
-      let l = c .before .before .before .before .before .before .before .before .before .before .before .before .before .before .loop in
-      let k = c .before .before .before .before .before .before .before .before .before .before .before .before .tail-start in
-      let m = c .before .before .before .before .before .before .before .before .before .before .before .tail-start2 in
-      let x = c .before .before .before .before .before .flatten-action in
-      let r = rw (c .before .c2 .given .1) at (x .ensures) in
-      next (l .inv) (c .before .before .before .before .before .before .before .before .before .before .before .before .before .before .before .before .before .before .before .pre .1 .1) (c .before .before .before .before .before .before .before .before .before .before .before .before .before .loop-test .taken) (m .result) (m .ensures .1) (c .before .before .before .before .before .before .before .before .before .before .if1 .left) (c .before .before .before .before .before .before .before .before .before .if2 .left) (x .last .1 .1 .0) (k .result) _ _ _ (k .ensures .0) (k .ensures .1) (x .kept .1 .1 .0) r
+  loop-again c = (
+    next (c .before .before .before .before .before .before .before .before .before .before .before .before .before .before .before .before .before .loop .inv .0) (c .before .before .before .before .before .before .before .before .before .before .before .before .before .before .before .before .before .before .before .before .before .before .before .before .before .pre .1 .1) (c .before .before .before .before .before .before .before .before .before .before .before .before .before .before .before .before .loop-test .taken) (c .before .before .before .before .before .before .before .before .before .before .before .before .before .before .before .if1 .left) (c .before .before .before .before .before .before .before .before .before .before .before .before .before .before .if2 .left) (c .before .before .before .before .before .before .before .before .before .flatten-action .kept .1 .1 .1 .0) (c .before .before .before .before .before .before .before .before .before .flatten-action .kept .1 .1 .1 .1 .1 .0) (rw (c .before .a .given .1) at (c .before .before .before .before .before .before .before .before .before .flatten-action .ensures)),
+    c .before .before .before .before .before .before .before .before .before .flatten-action .kept .1 .1 .1 .1 .0 ∙ c .before .before .before .before .before .before .before .before .before .before .before .before .before .before .before .before .before .loop .inv .1,
+  )
 
-  sub-t47 : Of t lts.Need-sub-t47
-  sub-t47 c = omega (arith, c .before .before .loop .inv .n-is)
+  same-length-10 : Of t lts.Need-same-length-10
+  same-length-10 c = c .before .loop .inv .0 .room
 
-  same-length-5 : Of t lts.Need-same-length-5
-  same-length-5 c = c .before .before .loop .inv .room-is
+  same-length-11 : Of t lts.Need-same-length-11
+  same-length-11 c = c .before .loop .inv .1
 
-  returns-5 : Of t lts.Need-returns-5
-  returns-5 c = finished (c .before .before .loop .inv) (c .before .loop-test .left)
+  same-length-12 : Of t lts.Need-same-length-12
+  same-length-12 c = c .before .loop .inv .0 .room′
+
+  returns-4 : Of t lts.Need-returns-4
+  returns-4 c = finished (c .before .loop .inv .0) (c .before .before .before .before .before .before .before .before .before .pre .1 .1) (λ h. omega (arith, c .loop-test .left))
 
 pub closed : (M : Type 1) (t : ℕ) → lts.Closed (claims t) (list-at t) flatten-list.Post M
 closed M t =
     lts.spec (claims t) (list-at t) flatten-list.Post Inv-loop μ-loop
     (add-end t)
     (loop-holds t)
-    (tail-start-requires t)
-    (tail-start-requires-2 t)
-    (mul-push t)
-    (sub-push t)
-    (part-push-start t)
-    (part-push-end t)
-    (mul-push-2 t)
-    (sub-push-2 t)
-    (part-push-start-2 t)
-    (part-push-end-2 t)
-    (push-requires t)
-    (enum-known-c t)
-    (enum-told t)
+    (put-requires t)
+    (add-t26 t)
     (same-length t)
-    (returns t)
-    (sub-t25 t)
-    (add-t32 t)
-    (add-t30 t)
     (same-length-2 t)
-    (returns-2 t)
     (same-length-3 t)
-    (returns-3 t)
-    (sub-flatten-action t)
-    (mul-flatten-action t)
-    (sub-flatten-action-2 t)
-    (part-flatten-action-start t)
-    (part-flatten-action-end t)
-    (mul-flatten-action-2 t)
-    (sub-flatten-action-3 t)
-    (part-flatten-action-start-2 t)
-    (part-flatten-action-end-2 t)
-    (flatten-action-requires t)
-    (enum-known-c-2 t)
-    (enum-told-2 t)
+    (returns t)
     (same-length-4 t)
-    (returns-4 t)
-    (add-n t)
-    (add-size t)
+    (same-length-5 t)
+    (same-length-6 t)
+    (returns-2 t)
+    (sub-t27 t)
+    (flatten-action-requires t)
+    (λ c. search needs)
+    (λ c. search needs)
+    (same-length-7 t)
+    (same-length-8 t)
+    (same-length-9 t)
+    (returns-3 t)
     (add-i t)
     (loop-less t)
     (loop-again t)
-    (sub-t47 t)
-    (same-length-5 t)
-    (returns-5 t)
+    (same-length-10 t)
+    (same-length-11 t)
+    (same-length-12 t)
+    (returns-4 t)

@@ -43,8 +43,8 @@ pub struct KeptPending {
     pub rule: String,
     pub trigger_kind: &'static str,
     pub budget_left: u32,
-    /// A place of the rule's lists from which the same steps are left.
-    pub place: Option<KeptPlace>,
+    /// The places of the rule's lists from which these steps are left: one, unless steps are repeated.
+    pub places: Vec<KeptPlace>,
 }
 
 /// A place of a rule's list as `flatten_rule` makes it.
@@ -53,8 +53,8 @@ pub struct KeptPlace {
     /// The step whose body the list is; None for the rule's own list.
     pub after: Option<usize>,
     pub step: usize,
-    /// The branch whose then-region holds the step.
-    pub branch: Option<usize>,
+    /// Inside a then-region: its end, and the end of the else-region behind it.
+    pub jump: Option<(usize, usize)>,
 }
 
 impl Engine {
@@ -86,9 +86,9 @@ fn slot(slot: &super::state::EverySlot) -> KeptSlot {
 
 fn pending(held: &Continuation, rules: Option<&RuleSet>) -> KeptPending {
     let rule = rules.and_then(|set| set.rule(&held.rule).map(|rule| (set, rule)));
-    let place = rule.and_then(|(set, rule)| {
+    let places = rule.map_or_else(Vec::new, |(set, rule)| {
         let own: Vec<FlatStep> = flatten_rule(&rule.actions, &set.blocks).into();
-        place_in_lists(&own, &held.steps)
+        places_in_lists(&own, &held.steps)
     });
     KeptPending {
         seq: held.seq,
@@ -96,39 +96,38 @@ fn pending(held: &Continuation, rules: Option<&RuleSet>) -> KeptPending {
         rule: held.rule.clone(),
         trigger_kind: held.trigger_kind,
         budget_left: held.budget_left,
-        place,
+        places,
     }
 }
 
-/// The first place of the rule's own list, or of a body in it, from which these steps are left.
-fn place_in_lists(own: &[FlatStep], left: &[FlatStep]) -> Option<KeptPlace> {
+/// The places of the rule's own list, then of the bodies in it, from which these steps are left.
+fn places_in_lists(own: &[FlatStep], left: &[FlatStep]) -> Vec<KeptPlace> {
     let bodies = own.iter().enumerate().filter_map(|(at, step)| match step {
         FlatStep::AfterSched { body, .. } => Some((Some(at), body.as_slice())),
         _ => None,
     });
-    std::iter::once((None, own))
-        .chain(bodies)
-        .find_map(|(after, list)| place_in(list, left).map(|(step, branch)| KeptPlace { after, step, branch }))
+    std::iter::once((None, own)).chain(bodies).flat_map(|(after, list)| places_in(after, list, left)).collect()
 }
 
-fn place_in(list: &[FlatStep], left: &[FlatStep]) -> Option<(usize, Option<usize>)> {
-    (0..=list.len()).find_map(|step| {
-        let region = region_around(list, step);
-        let rest = match region {
-            Some((_, end, past)) => [&list[step..end], &list[past..]],
+fn places_in(after: Option<usize>, list: &[FlatStep], left: &[FlatStep]) -> Vec<KeptPlace> {
+    let place = |step: usize| {
+        let jump = region_around(list, step);
+        let rest = match jump {
+            Some((end, past)) => [&list[step..end], &list[past..]],
             None => [&list[step..], &[]],
         };
         let same = rest[0].len() + rest[1].len() == left.len()
             && rest[0].iter().chain(rest[1]).eq(left.iter());
-        same.then_some((step, region.map(|(branch, ..)| branch)))
-    })
+        same.then_some(KeptPlace { after, step, jump })
+    };
+    (0..=list.len()).filter_map(place).collect()
 }
 
-/// The branch whose then-region holds a place, the region's end, and the end of the else-region.
-fn region_around(list: &[FlatStep], place: usize) -> Option<(usize, usize, usize)> {
+/// The end of the then-region that holds a place, and the end of the else-region behind it.
+fn region_around(list: &[FlatStep], place: usize) -> Option<(usize, usize)> {
     list.iter().enumerate().take(place).find_map(|(at, step)| match step {
         FlatStep::Branch { then_len, else_len, .. } if place <= at + then_len => {
-            Some((at, at + 1 + then_len, at + 1 + then_len + else_len))
+            Some((at + 1 + then_len, at + 1 + then_len + else_len))
         }
         _ => None,
     })
