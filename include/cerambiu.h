@@ -81,7 +81,7 @@ enum cerambiu_refusal {
     CERAMBIU_IMAGE_FIELD = 13,   /* unknown kind, field out of range, or unused word not 0; in any record, used or not */
     CERAMBIU_IMAGE_INDEX = 14,   /* index or list outside its table, or a nested list, not empty, that does not start after its holder */
     CERAMBIU_IMAGE_NAMES = 15,   /* two rules of one name */
-    CERAMBIU_IMAGE_STEPS = 16,   /* over 2,048 flat steps, or over 65,536 actions taken to flatten all rules */
+    CERAMBIU_IMAGE_STEPS = 16,   /* over 2,048 flat steps, after bodies shared by the copies of a Repeat once, or over 65,536 actions taken */
     CERAMBIU_IMAGE_COUNT = 17,   /* over 64 rules, blocks or Every slots */
 
     /* the bus driver: tick and run */

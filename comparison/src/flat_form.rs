@@ -1,5 +1,5 @@
-//! The flat form of an image that load accepts: document 01, "Flat steps", and `flatten_rule`. A rule's own list is the Rust's; the bodies
-//! of its afters stand apart, and the copies that one repeat makes share theirs.
+//! The flat form of an image that load accepts: document 01, "Flat steps", `flatten_rule`, and document 02, request 8. A rule's own list is the
+//! Rust's; the bodies of its afters stand apart, and the copies that one repeat makes share theirs.
 
 use crate::tables::{Tables, ACTIONS, BLOCKS, RULES};
 
@@ -30,12 +30,7 @@ impl Lists {
         self.bodies.get(after[2] as usize..(after[2] + after[3]) as usize)
     }
 
-    /// With "bodies of afters counted in every copy", as refusal 16 counts.
-    pub fn every_copy(&self) -> u32 {
-        self.own.iter().map(|step| if step[0] == AFTER { 1 + step[3] } else { 1 }).sum()
-    }
-
-    /// As they stand in a store: the bodies, then the own list.
+    /// As they stand in a store: the bodies, then the own list. Refusal 16 counts these: document 02, request 8.
     pub fn stored(&self) -> impl Iterator<Item = &Step> {
         self.bodies.iter().chain(&self.own)
     }

@@ -3,6 +3,7 @@
 use std::collections::BTreeMap;
 
 use oracle::access::{Kept, KeptPending, KeptPlace};
+use oracle::check;
 use oracle::decode::{name, number};
 use oracle::house::{self, Answer, Call, House};
 use oracle::model::{Text, VarValue};
@@ -20,6 +21,7 @@ pub type Place = (u32, u32, Option<(u32, u32)>);
 pub struct Player {
     house: House,
     image: Option<Vec<u32>>,
+    by_sharing: bool,
 }
 
 impl Player {
@@ -27,8 +29,11 @@ impl Player {
         let answer = self.house.call(call);
         if answer == Answer::Silent {
             match call {
-                Call::Load { image, .. } => self.image = Some(image.clone()),
-                Call::New { .. } | Call::Unload { .. } => self.image = None,
+                Call::Load { image, .. } => {
+                    self.by_sharing = check::flat_size(image).is_some_and(|size| size.fits_by_sharing());
+                    self.image = Some(image.clone());
+                }
+                Call::New { .. } | Call::Unload { .. } => (self.image, self.by_sharing) = (None, false),
                 _ => {}
             }
         }
@@ -38,6 +43,11 @@ impl Player {
     /// Whether a tick's clock was set back: from then on the house has the wheel's variant for request 5 of document 02.
     pub fn is_set_back(&self) -> bool {
         self.house.is_set_back()
+    }
+
+    /// Whether the loaded set is one that fits only by sharing (document 02, request 8).
+    pub fn fits_by_sharing(&self) -> bool {
+        self.by_sharing
     }
 
     /// Whether the loaded set has an action of kind 28, which the published engine does not know: what runs then is the stand-in.

@@ -7,7 +7,7 @@ use oracle::check;
 use oracle::generate;
 use oracle::house::Call;
 
-use crate::flat_form::{self, Lists};
+use crate::flat_form;
 use crate::proved;
 use crate::worst;
 
@@ -48,15 +48,13 @@ impl Tally {
         *slowest = took.max(*slowest);
         self.count("image", proved, check::image_refusal(image).unwrap_or(0), image);
         if proved == 0 {
-            let steps = check::flat_size(image).map_or(u32::MAX, |(stored, _)| stored as u32);
+            let oracle = check::flat_size(image).map_or(u32::MAX, |size| size.stored as u32);
             let stored = proved::flat_steps(image) as u32;
-            let lists = flat_form::lists(image);
-            let written: u32 = lists.iter().map(|lists| lists.stored().count() as u32).sum();
-            let copies: u32 = lists.iter().map(Lists::every_copy).sum();
+            let written: u32 = flat_form::lists(image).iter().map(|lists| lists.stored().count() as u32).sum();
             *self.answers.entry(("flat steps", 0)).or_insert(0) += 1;
-            if stored != written || copies != steps {
+            if stored != written || stored != oracle {
                 self.differences += 1;
-                println!("flat steps: proved {stored}, flat form {written}; every copy: oracle {steps}, flat form {copies}: {image:?}");
+                println!("flat steps: proved {stored}, flat form {written}, oracle {oracle}: {image:?}");
             }
         }
         proved
@@ -104,7 +102,8 @@ impl Tally {
     /// Images and snapshots of so many generated histories, and so many of the accepted ones varied word by word.
     pub fn histories(&mut self, histories: u64, sweeps: u64, seed: u64) {
         let (mut images, mut snapshots) = (Vec::new(), Vec::new());
-        for call in (seed..seed + histories).flat_map(generate::history) {
+        let calls = |seed| [generate::history(seed), generate::sharing::history(seed)].concat();
+        for call in (seed..seed + histories).flat_map(calls) {
             match call {
                 Call::Load { image, .. } if self.image(&image) == 0 => images.push(image),
                 Call::Tick { snapshot } | Call::Run { snapshot, .. } if self.snapshot(&snapshot) == 0 => {

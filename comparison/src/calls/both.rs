@@ -30,6 +30,8 @@ pub struct Both<'a> {
     counted: u32,
     random: Random,
     tally: &'a mut Tally,
+    /// Whether a set was loaded that fits only by sharing.
+    pub shares: bool,
 }
 
 impl<'a> Both<'a> {
@@ -37,7 +39,8 @@ impl<'a> Both<'a> {
         let (player, house) = (Player::default(), House::default());
         let mut random = Random::new(seed);
         let counted = if random.once_in(8) { u32::MAX - random.below(8) } else { 0 };
-        let mut both = Both { player, house, lent: LARGE, ahead: vec![(0, 0)], counted, random, tally };
+        let ahead = vec![(0, 0)];
+        let mut both = Both { player, house, lent: LARGE, ahead, counted, random, tally, shares: false };
         both.fill_counters();
         both
     }
@@ -95,6 +98,7 @@ impl<'a> Both<'a> {
 
     /// One of the eight calls.
     pub fn call(&mut self, call: &Call) -> Result<(), Difference> {
+        let before = self.player.fits_by_sharing();
         let mut answer = self.player.call(call);
         if let Answer::Counters(counters) = &mut answer {
             counters[..COUNTERS.len()].iter_mut().for_each(|counter| *counter = counter.saturating_add(self.counted));
@@ -103,7 +107,13 @@ impl<'a> Both<'a> {
             self.compare(call, &Answer::Refused(30), lent)?;
         }
         let lent = self.room(&answer);
+        let shared = [before, self.player.fits_by_sharing()];
+        let words = (shared != [false; 2]).then(|| self.house.store.clone());
         self.compare(call, &answer, lent)?;
+        if let Some(words) = words.filter(|_| !matches!(answer, Answer::Refused(_))) {
+            self.shares |= shared[1];
+            self.tally.sharing.see(call, &answer, shared, &words, &self.house.store);
+        }
         if answer == Answer::Silent && matches!(call, Call::New { .. }) {
             self.fill_counters();
         }

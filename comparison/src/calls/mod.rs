@@ -3,6 +3,7 @@
 //! - Edges: every script of the folder EDGES.
 //! - Histories: so many generated ones from SEED on, valid and hostile; behind each, its store with random words.
 //! - Clocks set back: as many histories around the ticks that document 02's request 5 changes.
+//! - Sharing: as many histories, and 2,200 at least, of sets that fit only by sharing (document 02's request 8).
 //! - Lists: every list of up to LENGTH of the small actions, as a rule.
 //! - Levels: action kind 28 on every entry and every middle of the dimming curve and their neighbours, and on values without a level.
 //! - Stores: every word of good stores to VALUES other values; a store for each rule that is broken.
@@ -14,6 +15,7 @@ mod both;
 pub mod house;
 mod levels;
 mod lists;
+mod sharing;
 mod stores;
 mod tally;
 
@@ -32,6 +34,7 @@ use tally::Tally;
 
 const MOST_SHOWN: u64 = 10;
 const MOST_LETTERS: usize = 600;
+const LEAST_SHARED: u64 = 2_200;
 
 /// The status of the command; None for another command.
 pub fn command() -> Option<ExitCode> {
@@ -51,6 +54,7 @@ pub fn command() -> Option<ExitCode> {
     calls.edges(Path::new(edges));
     calls.histories(histories, seed);
     calls.set_backs(histories, seed);
+    calls.sharing(histories.max(LEAST_SHARED), seed);
     calls.lists(length as u32);
     calls.levels();
     calls.stores(values as usize, seed);
@@ -77,8 +81,10 @@ impl Calls {
     fn play(&mut self, name: &str, seed: u64, history: &[Call]) -> Option<Vec<u32>> {
         let mut both = Both::new(seed, &mut self.tally);
         let found = history.iter().enumerate().find_map(|(at, call)| Some((at, both.line(call).err()?)));
+        let (store, shares) = (both.store().to_vec(), both.shares);
+        self.tally.sharing.histories += u64::from(shares);
         match found {
-            None => Some(both.store().to_vec()),
+            None => Some(store),
             Some((at, text)) => {
                 self.differs(&format!("{name}, call {at}"), &text);
                 None
@@ -131,6 +137,14 @@ impl Calls {
         self.part("clocks set back", count as usize, before);
     }
 
+    fn sharing(&mut self, count: u64, seed: u64) {
+        let before = self.tally.calls;
+        for seed in seed..seed + count {
+            self.play(&format!("shared bodies, history {seed}"), seed, &generate::sharing::history(seed));
+        }
+        self.part("shared bodies", count as usize, before);
+    }
+
     fn lists(&mut self, length: u32) {
         let before = self.tally.calls;
         for (at, list) in lists::all(length).enumerate() {
@@ -162,7 +176,7 @@ impl Calls {
     fn report(&self) -> bool {
         let whole = self.tally.report() && !self.empty;
         let calls = format!("calls: {} calls, {} differences", self.tally.calls, self.differences);
-        println!("{calls}; {}; {}", self.tally.wheels(), self.tally.percents());
+        println!("{calls}; {}; {}; {}", self.tally.wheels(), self.tally.percents(), self.tally.sharing());
         whole && self.differences == 0
     }
 }

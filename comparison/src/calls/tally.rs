@@ -4,6 +4,7 @@ use std::collections::BTreeMap;
 
 use oracle::house::{Answer, Call};
 
+use super::sharing::{self, Sharing};
 use crate::store::{Store, MOST_PENDING, MOST_SLOTS, MOST_TIMERS, MOST_VARIABLES, RULES};
 
 const CALLS: [&str; 8] = ["new", "load", "unload", "enable", "tick", "run", "deadline", "counters"];
@@ -64,6 +65,8 @@ pub struct Tally {
     wheels: [u64; 2],
     /// Beside them, ticks and runs on sets with action kind 28: the Rust has no such kind, so they are compared with the definition only.
     pub percents: u64,
+    /// Sets that fit only by sharing.
+    pub sharing: Sharing,
     answers: BTreeMap<(usize, u32), u64>,
     /// Of what a call said yes, no, a time or none.
     said: BTreeMap<&'static str, u64>,
@@ -113,6 +116,10 @@ impl Tally {
         format!("{} ticks and runs with action kind 28 with the definition only", self.percents)
     }
 
+    pub fn sharing(&self) -> String {
+        format!("{} histories load a set that fits only by sharing", self.sharing.histories)
+    }
+
     /// An answer with no values: a refusal.
     pub fn count(&mut self, call: usize, number: u32) {
         self.calls += 1;
@@ -147,6 +154,8 @@ impl Tally {
         empty += row("outcomes", [("all".to_owned(), self.outcomes), ("dry".to_owned(), self.dry)].into_iter());
         empty += named_row("wheel", &WHEELS, &self.wheels);
         empty += usize::from(self.percents == 0);
+        empty += named_row("sharing", &sharing::CELLS, &self.sharing.counts);
+        empty += usize::from(self.sharing.histories <= sharing::LEAST);
         let most: Vec<u64> = self.most.iter().map(|count| *count as u64).collect();
         named_row("most", &TABLES, &most);
         empty += self.most.iter().zip(FULL).filter(|(most, full)| *most != full).count();

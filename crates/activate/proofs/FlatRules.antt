@@ -1,20 +1,21 @@
 -- The flat steps of a loaded set's rules, as the runner asks for them. Assumes nothing.
-use Prim.Native.Nat.{ℕ, zero, suc, _≤_}
+use Prim.Native.Nat.{ℕ, zero, suc, _+_, _≤_}
 use native.Mathlib.Omega.{arith}
 use mathlib.Core.Path.{_≡_, refl, sym, subst}
 use mathlib.Core.Bool.{true, false}
 use mathlib.Core.List.{List, [], _∷_, map}
 use lib.ListN.{length, getD, length-append}
-use Rattle.model.specs.Flat.{Flattened, noSteps, flattenRule, flattenRules, everyCopy, stepsIn, listIn, partOf, tooManySteps}
+use Rattle.model.specs.Flat.{Flattened, noSteps, flattenRule, flattenRules, listIn, partOf, tooManySteps}
+use Rattle.model.specs.Image.{callDepth}
 use Rattle.model.specs.Lists.{all, flatten}
 use Rattle.model.specs.Load.{imageRefusal}
 use Rattle.model.specs.Rules.{ruleIndices}
 use Rattle.model.specs.Steps.{FlatStep}
 use Rattle.image.specs.Accepted.{Accepted}
-use Rattle.image.proofs.Accepted.{accepted, tables-accepted, steps-accepted}
+use Rattle.image.proofs.Accepted.{accepted, tables-accepted, steps-accepted, call-depth-fits}
 use Rattle.flat.specs.Load.{stored}
 use Rattle.flat.specs.Words.{layout, Says}
-use Rattle.flat.proofs.Counts.{few-steps, few-stored}
+use Rattle.flat.proofs.Counts.{rule-counted, rule-short-bodies, longer, few-stored}
 use Rattle.flat.proofs.RuleSays.{part-says, rule-says}
 use Rattle.flat.proofs.Words.{layout-length}
 use Rattle.exec.specs.Lists.{FlatWords, isNear}
@@ -35,11 +36,6 @@ none-near : (n : ℕ) → all isNear (listIn [] n) ≡ true
 unfolding listIn
 none-near zero = refl
 none-near (suc p) = refl
-
-one-counts : (fs : List Flattened) (i : ℕ) → everyCopy (getD fs i noSteps .steps) ≤ stepsIn fs
-one-counts [] i = omega arith
-one-counts (f ∷ fs) zero = omega arith
-one-counts (f ∷ fs) (suc i) = omega (arith, one-counts fs i)
 
 one-stored : (fs : List Flattened) (i : ℕ) → length (partOf (getD fs i noSteps)) ≤ length (stored fs)
 unfolding stored
@@ -62,10 +58,14 @@ module _ (img : List ℕ) (ok : imageRefusal img ≡ 0) where
   part-says-lists : (i : ℕ) → Says (layout (partOf (rule i))) (length (rule i .bodies)) (rule i .steps)
   part-says-lists = each-rule (λ f. Says (layout (partOf f)) (length (f .bodies)) (f .steps)) (part-says [] [] [] tt) img (rule-says img)
 
+  -- no list passes 256 + D + 4 steps
+  rule-lists-near : (j n : ℕ) → all isNear (listIn (flattenRule img j .steps) n) ≡ true
+  rule-lists-near j n =
+      let d = call-depth-fits img (image-accepted .passes) in
+      rule-near img j 2048 (omega (arith, d, rule-counted img j)) (longer (256 + callDepth img + 4) 2048 (flattenRule img j .steps) (omega (arith, d)) (rule-short-bodies img j)) n
+
   lists-near : (i n : ℕ) → all isNear (listIn (rule i .steps) n) ≡ true
-  lists-near i n =
-      each-rule (λ f. everyCopy (f .steps) ≤ 2048 → all isNear (listIn (f .steps) n) ≡ true) (λ h. none-near n) img (λ j h. rule-near img j 2048 h n) i
-      (omega (arith, one-counts (flattenRules img) i, few-steps (flattenRules img) not-many))
+  lists-near i n = each-rule (λ f. all isNear (listIn (f .steps) n) ≡ true) (none-near n) img (λ j. rule-lists-near j n) i
 
   -- what `activate` and `resume` require of a rule's part; a place past the last rule has none
   pub rule-words : (i : ℕ) → FlatWords (layout (partOf (rule i))) (length (rule i .bodies))

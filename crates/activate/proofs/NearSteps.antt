@@ -1,4 +1,4 @@
--- No step of a rule leads further than the rule's steps count. Assumes nothing.
+-- No step of a rule leads further than its list is long. Assumes nothing.
 use Prim.Native.Nat.{ℕ, zero, suc, _+_, _≤_}
 use native.Mathlib.Omega.{arith}
 use mathlib.Core.Path.{_≡_, refl, sym, _∙_}
@@ -6,14 +6,14 @@ use mathlib.Core.Bool.{Bool, true, false, _&&_, false≢true}
 use mathlib.Core.List.{List, [], _∷_, _++_}
 use lib.Dec.{leb}
 use lib.ListN.{length, getElem?, length-append, length-map}
-use borrow.Author.Tests.{le-leb}
-use Rattle.model.specs.Flat.{Flattened, noSteps, again, withinAfter, withinRepeat, copies, flattenAfter, flattenRepeat, flattenBranch, flattenRule, everyCopy, bodyIn, listIn}
+use borrow.Author.Tests.{le-leb, leb-true}
+use Rattle.model.specs.Flat.{Flattened, noSteps, again, withinAfter, withinRepeat, copies, flattenAfter, flattenRepeat, flattenBranch, flattenRule, bodyIn, listIn}
 use Rattle.model.specs.Lists.{all}
 use Rattle.model.specs.Steps.{FlatStep, stepsOf}
 use Rattle.model.specs.declared.FlattenCtx.{FlattenCtx}
 use Rattle.model.specs.declared.Step.{Step}
 use Rattle.model.proofs.Bools.{both, join, all-append}
-use Rattle.flat.proofs.Counts.{every-append, list-le}
+use Rattle.flat.proofs.Counts.{shortBodies, longer}
 use Rattle.flat.proofs.EachRule.{of-rule}
 use Rattle.flat.proofs.Induction.{by, Closed}
 use Rattle.exec.specs.Paid.{reach}
@@ -27,31 +27,38 @@ abbrev within : ℕ → FlatStep → Bool
 within k x = reaches k (x .step) && all (reaches k) (x .body)
 
 -- FLATTENING ----------------------------------------------------------------------------------------------------------------------------
--- within an after no step has a body, and so each counts once
+-- within an after no step has a body
 record Near (c : FlattenCtx) (f : Flattened) : Type 0 where
-  once : c .«in_after» ≡ true → everyCopy (f .steps) ≡ length (f .steps)
-  near : (k : ℕ) → everyCopy (f .steps) ≤ k → all (within k) (f .steps) ≡ true
+  bare : c .«in_after» ≡ true → shortBodies 0 (f .steps) ≡ true
+  near : (k : ℕ) → length (f .steps) ≤ k → shortBodies k (f .steps) ≡ true → all (within k) (f .steps) ≡ true
 
 near-none : (c : FlattenCtx) → Near c noSteps
-near-none c = record { once = λ t. refl; near = λ k h. refl }
+near-none c = record { bare = λ t. refl; near = λ k h s. refl }
 
 -- a step that leads to the next
 near-one : (c : FlattenCtx) (f : Flattened) (x : FlatStep) → f .steps ≡ x ∷ [] → x .body ≡ [] → reach (x .step) ≡ 0 → Near c f
 near-one c f x e b r =
     record {
-      once = λ t. rw (e, b);
-      near = λ k h. let l : leb (reach (x .step)) k ≡ true = le-leb (reach (x .step)) k (omega (arith, r)) in rw (e, b, l);
+      bare = λ t. rw (e, b);
+      near = λ k h s. let l : leb (reach (x .step)) k ≡ true = le-leb (reach (x .step)) k (omega (arith, r)) in rw (e, b, l);
     }
+
+short-parts : (k : ℕ) (xs ys : List FlatStep) → shortBodies k (xs ++ ys) ≡ true → (shortBodies k xs ≡ true) × (shortBodies k ys ≡ true)
+short-parts k [] ys h = (refl, h)
+short-parts k (x ∷ xs) ys h =
+    let p = both (leb (length (x .body)) k) (shortBodies k (xs ++ ys)) h in
+    let q = short-parts k xs ys (p .1) in
+    (join (p .0) (q .0), q .1)
 
 near-append : (c : FlattenCtx) (a b f : Flattened) → f .steps ≡ a .steps ++ b .steps → Near c a → Near c b → Near c f
 near-append c a b f e p q =
-    let l = length-append (a .steps) (b .steps) in
-    let m = every-append (a .steps) (b .steps) in
     record {
-      once = λ t. rw e (omega (arith, p .once t, q .once t));
-      near = λ k h.
-          let g : everyCopy (a .steps ++ b .steps) ≤ k = rw e at h in
-          rw e (all-append (within k) (a .steps) (b .steps) (p .near k (omega arith)) (q .near k (omega arith)));
+      bare = λ t. rw e (all-append (λ (x : FlatStep). leb (length (x .body)) 0) (a .steps) (b .steps) (p .bare t) (q .bare t));
+      near = λ k h s.
+          let l : length (a .steps ++ b .steps) ≤ k = rw e at h in
+          let g = short-parts k (a .steps) (b .steps) (rw e at s) in
+          let m = length-append (a .steps) (b .steps) in
+          rw e (all-append (within k) (a .steps) (b .steps) (p .near k (omega arith) (g .0)) (q .near k (omega arith) (g .1)));
     }
 
 near-copies : (c : FlattenCtx) (t : ℕ) (b : Flattened) (n : ℕ) → Near c b → Near c (copies t b n)
@@ -59,13 +66,13 @@ near-copies c zero b n p = near-none c
 near-copies c (suc t) b n p =
     let k = n + length (b .steps) in
     by (leb k 256)
-    (λ e. rw (e, copies) (near-append c b (copies t (again b) k) _ refl p (near-copies c t (again b) k (record { once = p .once; near = p .near }))))
+    (λ e. rw (e, copies) (near-append c b (copies t (again b) k) _ refl p (near-copies c t (again b) k (record { bare = p .bare; near = p .near }))))
     (λ e. rw (e, copies) (near-one c _ _ refl refl refl))
 
 near-repeat : (c : FlattenCtx) (t : ℕ) (b : Flattened) (n : ℕ) → Near (withinRepeat c) b → Near c (flattenRepeat t b n)
 near-repeat c t b n p =
-    let q = near-copies c t b n (record { once = p .once; near = p .near }) in
-    record { once = q .once; near = q .near }
+    let q = near-copies c t b n (record { bare = p .bare; near = p .near }) in
+    record { bare = q .bare; near = q .near }
 
 -- the steps of a list, its bodies left out
 own-near : (k : ℕ) (xs : List FlatStep) → all (within k) xs ≡ true → all (reaches k) (stepsOf xs) ≡ true
@@ -77,22 +84,24 @@ own-near k (x ∷ xs) h =
 near-after : (c : FlattenCtx) (ms m : ℕ) (b : Flattened) → c .«in_after» ≡ false → Near (withinAfter c) b → Near c (flattenAfter ms m b)
 near-after c ms m b e p =
     record {
-      once = λ t. absurd (false≢true (sym e ∙ t));
-      near = λ k h.
+      bare = λ t. absurd (false≢true (sym e ∙ t));
+      near = λ k h s.
           let l : leb 0 k ≡ true = le-leb 0 k (omega arith) in
-          let s = own-near k (b .steps) (p .near k (omega (arith, p .once refl, length-map (b .steps) (λ (x : FlatStep). x .step)))) in
-          rw (l, s);
+          let g = leb-true (length (stepsOf (b .steps))) k (both (leb (length (stepsOf (b .steps))) k) true s .0) in
+          let n : length (b .steps) ≤ k = omega (arith, g, length-map (b .steps) (λ (x : FlatStep). x .step)) in
+          rw (l, own-near k (b .steps) (p .near k n (longer 0 k (b .steps) (omega arith) (p .bare refl))));
     }
 
 near-branch : (c : FlattenCtx) (q : ℕ) (y e : Flattened) → Near c y → Near c e → Near c (flattenBranch q y e)
 near-branch c q y e p r =
-    let m = every-append (y .steps) (e .steps) in
+    let m = length-append (y .steps) (e .steps) in
     let s = near-append c y e (record { steps = y .steps ++ e .steps; rows = []; bodies = []; taken = 0 }) refl p r in
     record {
-      once = λ t. omega (arith, s .once t);
-      near = λ k h.
-          let l : leb (length (y .steps) + length (e .steps)) k ≡ true = le-leb (length (y .steps) + length (e .steps)) k (omega (arith, list-le (y .steps), list-le (e .steps))) in
-          rw (l, s .near k (omega arith));
+      bare = s .bare;
+      near = λ k h g.
+          let l : leb (length (y .steps) + length (e .steps)) k ≡ true = le-leb (length (y .steps) + length (e .steps)) k (omega arith) in
+          let o : length (y .steps ++ e .steps) ≤ k = omega arith in
+          rw (l, s .near k o (both (leb 0 k) (shortBodies k (y .steps ++ e .steps)) g .1));
     }
 
 abbrev NearAt : ℕ → FlattenCtx → ℕ → ℕ → Flattened → Type 0
@@ -110,7 +119,7 @@ near-closed =
       afters = λ d c n m ms b e p. near-after c ms m b e p;
       calls = λ d c n m f p. p;
       repeats = λ d c n m t b e p. near-repeat c t b n p;
-      branches = λ d c n m q y e t p r. near-branch c q y e (record { once = p .once; near = p .near }) (record { once = r .once; near = r .near });
+      branches = λ d c n m q y e t p r. near-branch c q y e (record { bare = p .bare; near = p .near }) (record { bare = r .bare; near = r .near });
     }
 
 -- EVERY LIST OF A RULE --------------------------------------------------------------------------------------------------------------------
@@ -124,5 +133,6 @@ unfolding listIn
 list-near k xs zero h = own-near k xs h
 list-near k xs (suc p) h = body-near k xs p h
 
-pub rule-near : (img : List ℕ) (i k : ℕ) → everyCopy (flattenRule img i .steps) ≤ k → (n : ℕ) → all (reaches k) (listIn (flattenRule img i .steps) n) ≡ true
-rule-near img i k h n = list-near k (flattenRule img i .steps) n (of-rule NearAt NearAt near-closed img i .near k h)
+pub rule-near : (img : List ℕ) (i k : ℕ) → length (flattenRule img i .steps) ≤ k → shortBodies k (flattenRule img i .steps) ≡ true
+    → (n : ℕ) → all (reaches k) (listIn (flattenRule img i .steps) n) ≡ true
+rule-near img i k h s n = list-near k (flattenRule img i .steps) n (of-rule NearAt NearAt near-closed img i .near k h s)

@@ -15,7 +15,6 @@ pub mod ListsOf
 pub mod EachRule
 pub mod RuleSays
 pub mod RuleLists
-mod RowCounts
 pub mod Checked
 pub mod Counts
 pub mod OpenBound

@@ -16,18 +16,17 @@ use Rattle.model.specs.Codec as codec
 use Rattle.model.specs.Codec.{wordsOf}
 use Rattle.model.specs.Parts.{listRow}
 use Rattle.model.specs.Store.{listRows}
-use Rattle.model.specs.Flat.{Row, Flattened, partOf, everyCopy, stepsIn, takenIn, tooManySteps}
+use Rattle.model.specs.Flat.{Row, Flattened, partOf, stepsIn, takenIn, tooManySteps}
 use Rattle.model.proofs.ListLaws.{length-upFrom, upFrom-last, map-append}
 use Rattle.model.proofs.Bools.{or-true}
 use Rattle.flat.specs.declared.Loaded.the-variants.{Over, Steps}
 use Rattle.flat.specs.Words.{layout, sameAt}
 use Rattle.flat.specs.Outcome.{Resolved, Start, Behinds, holdsAt, Wrote, listAt}
-use Rattle.flat.specs.Load.{stored, stepPart, listPart, countedIn, loaded, RuleWrote, EachWrote, MadeOf, CheckedTables, ruleContext, ruleAt, rulesUpTo, flattenTables}
+use Rattle.flat.specs.Load.{stored, stepPart, listPart, loaded, RuleWrote, EachWrote, MadeOf, CheckedTables, ruleContext, ruleAt, rulesUpTo, flattenTables}
 use Rattle.flat.proofs.Words.{layout-append, and-assoc, same-none, same-rows-append, same-drop, tailOf, tail-drop}
 use Rattle.flat.proofs.Rows.{whole-length, tail-behinds}
 use Rattle.flat.proofs.Parts.{Placed, drop-placed}
 use Rattle.flat.proofs.Lengths.{list-length}
-use Rattle.flat.proofs.RuleSays.{list-counted}
 
 -- LISTS OF LISTS --------------------------------------------------------------------------------------------------------------------
 flatten-more : {A : Type 0} (xss : List (List A)) (xs : List A) → flatten (xss ++ (xs ∷ [])) ≡ flatten xss ++ xs
@@ -40,11 +39,13 @@ words-append r [] m = refl
 words-append r (x ∷ l) m = rw (words-append r l m, append-assoc)
 
 -- FLATTENED RULES -------------------------------------------------------------------------------------------------------------------
-module _ (f : Flattened) where
-  steps-more : (fs : List Flattened) → stepsIn (fs ++ (f ∷ [])) ≡ stepsIn fs + everyCopy (f .steps)
-  steps-more [] = omega arith
-  steps-more (g ∷ fs) = omega (arith, steps-more fs)
+-- 16 counts what is stored
+pub stored-count : (fs : List Flattened) → length (stored fs) ≡ stepsIn fs
+unfolding stored
+stored-count [] = refl
+stored-count (f ∷ fs) = omega (arith, stored-count fs, length-append (partOf f) (stored fs))
 
+module _ (f : Flattened) where
   taken-more : (fs : List Flattened) → takenIn (fs ++ (f ∷ [])) ≡ takenIn fs + f .taken
   taken-more [] = omega arith
   taken-more (g ∷ fs) = omega (arith, taken-more fs)
@@ -143,7 +144,7 @@ module _ (f : Flattened) (allowed : ℕ) (same : Bool) (seen own₀ words₀ own
 
   pub rule-wrote : (words′ : List ℕ) (r : Bool) → 1072 ≤ length own₀ → length words ≡ length words₀ → length words′ ≡ length words
       → ((rs : List Row) → take (n * 4) own ≡ layout rs → Behinds words m rs words′ (m + n) × (r ≡ s && holdsAt seen m rs))
-      → RuleWrote f allowed same seen own words′ n m left r
+      → RuleWrote f allowed same seen words′ n m left r
   rule-wrote words′ r l e e′ g =
       let u : n ≡ length (f .rows) = omega (arith, h .counted, h .rows) in
       let v : n ≤ 268 = omega (arith, h .counted) in
@@ -155,7 +156,6 @@ module _ (f : Flattened) (allowed : ℕ) (same : Bool) (seen own₀ words₀ own
         short = v;
         stored = omega (arith, z);
         taken = h .taken;
-        own-is = o;
         written = λ k. b .0 (omega arith) ∙ ap (λ (x : List ℕ). x ++ layout (f .rows)) (h .bodied (omega arith)) ∙ sym (layout-append (f .bodies) (f .rows));
         agrees =
             b .1 ∙ ap (λ (x : Bool). x && holdsAt seen m (f .rows)) (h .agrees) ∙ and-assoc same (holdsAt seen 0 (f .bodies)) (holdsAt seen m (f .rows))
@@ -172,20 +172,18 @@ same-tail seen k size w p =
 
 -- THE LOOP OVER THE RULES -----------------------------------------------------------------------------------------------------------
 -- the parts of fs stand in front of w, and it is told whether they stand in front of `seen`; their rows stand in front of l
-pub record Front (fs : List Flattened) (seen : List ℕ) (room rows-room : ℕ) (w l : List ℕ) (k size counted left : ℕ) (same : Bool) : Type 0 where
+pub record Front (fs : List Flattened) (seen : List ℕ) (room rows-room : ℕ) (w l : List ℕ) (k size left : ℕ) (same : Bool) : Type 0 where
   pub room-is : length w ≡ room
   pub rows-room-is : length l ≡ rows-room
   pub count-is : k ≡ length fs
   pub size-is : size ≡ length (stored fs)
-  pub counted-is : counted ≡ stepsIn fs
-  pub counted-le : counted ≤ k * 2 ^ 41
   pub taken-is : left + takenIn fs ≡ 65536
   pub bounded : size + 514 * left ≤ 514 * 65536 + k
   pub written : size * 4 ≤ length w → take (size * 4) w ≡ stepPart fs
   pub agrees : same ≡ sameAt seen 0 (stepPart fs)
   pub listed : k * 2 ≤ length l → take (k * 2) l ≡ listPart fs
 
-pub at-start : (seen w l : List ℕ) → Front [] seen (length w) (length l) w l 0 0 0 65536 true
+pub at-start : (seen w l : List ℕ) → Front [] seen (length w) (length l) w l 0 0 65536 true
 unfolding wordsOf stored
 at-start seen w l =
     record {
@@ -193,8 +191,6 @@ at-start seen w l =
       rows-room-is = refl;
       count-is = refl;
       size-is = refl;
-      counted-is = refl;
-      counted-le = omega arith;
       taken-is = omega arith;
       bounded = omega arith;
       written = λ h. refl;
@@ -202,16 +198,15 @@ at-start seen w l =
       listed = λ h. refl;
     }
 
-module _ (fs : List Flattened) (seen : List ℕ) (room rows-room : ℕ) (w l : List ℕ) (k size counted left : ℕ) (same : Bool)
-    (h : Front fs seen room rows-room w l k size counted left same) where
+module _ (fs : List Flattened) (seen : List ℕ) (room rows-room : ℕ) (w l : List ℕ) (k size left : ℕ) (same : Bool)
+    (h : Front fs seen room rows-room w l k size left same) where
   -- one more part was written into the tail from i on, and compared with the tail from j on, and its row behind the others
-  pub next : (f : Flattened) (own v l′ : List ℕ) (i j n m c left′ : ℕ) (s : Bool) → Placed size (length w) i → Placed size (length seen) j
+  pub next : (f : Flattened) (v l′ : List ℕ) (i j n m left′ : ℕ) (s : Bool) → Placed size (length w) i → Placed size (length seen) j
       → length v ≡ length (midOf i (length w - i) w)
-      → RuleWrote f left same (tailOf seen j) own v n m left′ s
+      → RuleWrote f left same (tailOf seen j) v n m left′ s
       → length l′ ≡ length l → ((k + 1) * 2 ≤ length l → take ((k + 1) * 2) l′ ≡ take (k * 2) l ++ ((size + m) ∷ n ∷ []))
-      → c ≡ everyCopy (f .steps) → c ≤ n * 2 ^ 32
-      → Front (fs ++ (f ∷ [])) seen room rows-room (putMid i (length w - i) w v) l′ (k + 1) (size + (m + n)) (counted + c) left′ s
-  next f own v l′ i j n m c left′ s at at′ kept z same-rows row ec lc =
+      → Front (fs ++ (f ∷ [])) seen room rows-room (putMid i (length w - i) w v) l′ (k + 1) (size + (m + n)) left′ s
+  next f v l′ i j n m left′ s at at′ kept z same-rows row =
       let sizes : length (partOf f) ≡ m + n = omega (arith, length-append (f .bodies) (f .rows), z .stored, z .listed) in
       let e : 0 + length (stored fs) ≡ size = omega (arith, h .size-is) in
       record {
@@ -219,8 +214,6 @@ module _ (fs : List Flattened) (seen : List ℕ) (room rows-room : ℕ) (w l : L
         rows-room-is = same-rows ∙ h .rows-room-is;
         count-is = omega (arith, h .count-is, length-append fs (f ∷ []));
         size-is = omega (arith, h .size-is, sizes, ap length (stored-more f fs), length-append (stored fs) (partOf f));
-        counted-is = omega (arith, h .counted-is, ec, steps-more f fs);
-        counted-le = omega (arith, h .counted-le, z .short);
         taken-is = omega (arith, h .taken-is, z .taken, taken-more f fs);
         bounded = omega (arith, h .bounded, z .few);
         written = λ g.
@@ -239,13 +232,13 @@ module _ (fs : List Flattened) (seen : List ℕ) (room rows-room : ℕ) (w l : L
             (row (omega arith) ∙ ap (λ (q : List ℕ). q ++ ((size + m) ∷ n ∷ [])) (h .listed (omega arith)));
       }
 
-  too-many : 2048 < counted → tooManySteps fs ≡ true
-  too-many g = over-steps fs (omega (arith, h .counted-is))
+  too-many : 2048 < size → tooManySteps fs ≡ true
+  too-many g = over-steps fs (omega (arith, h .size-is, stored-count fs))
 
-  accepted : counted ≤ 2048 → EachWrote fs size same seen w l
+  accepted : size ≤ 2048 → EachWrote fs size same seen w l
   accepted m =
       record {
-        few = within fs (omega (arith, h .taken-is)) (omega (arith, h .counted-is));
+        few = within fs (omega (arith, h .taken-is)) (omega (arith, h .size-is, stored-count fs));
         count = h .size-is;
         written = h .written;
         listed = rw (← h .count-is) (h .listed);
@@ -308,20 +301,14 @@ module _ (acts blocks rules : List ℕ) (d limit : ℕ) where
       ap takenIn (rules-more k) ∙ taken-more (ruleAt acts blocks rules d limit k) (rulesUpTo acts blocks rules d limit k) in
       over-taken (rulesUpTo acts blocks rules d limit n) (omega arith)
 
-  -- what rule k's rows count for
-  pub rule-counted : (k : ℕ) (own : List ℕ) (n c : ℕ) → take (n * 4) own ≡ layout (ruleAt acts blocks rules d limit k .rows)
-      → ((rs : List Row) → take (n * 4) own ≡ layout rs → c ≡ countedIn rs) → c ≡ everyCopy (ruleAt acts blocks rules d limit k .steps)
-  rule-counted k own n c e h =
-      h (ruleAt acts blocks rules d limit k .rows) e ∙ list-counted acts blocks d (getD rules (k * 16 + 8) 0) (getD rules (k * 16 + 9) 0) (ruleContext limit) 0 0
-
   -- after the last turn
-  module _ (k : ℕ) (le : k ≤ length rules / 16) (all : length rules / 16 ≤ k) (seen : List ℕ) (room rows-room : ℕ) (w l : List ℕ) (size counted left : ℕ) (same : Bool)
-      (h : Front (rulesUpTo acts blocks rules d limit k) seen room rows-room w l k size counted left same) where
+  module _ (k : ℕ) (le : k ≤ length rules / 16) (all : length rules / 16 ≤ k) (seen : List ℕ) (room rows-room : ℕ) (w l : List ℕ) (size left : ℕ) (same : Bool)
+      (h : Front (rulesUpTo acts blocks rules d limit k) seen room rows-room w l k size left same) where
     whole : rulesUpTo acts blocks rules d limit k ≡ flattenTables acts blocks rules d limit
     whole = let e : k ≡ length rules / 16 = omega arith in ap (rulesUpTo acts blocks rules d limit) e
 
-    pub all-over : 2048 < counted → tooManySteps (flattenTables acts blocks rules d limit) ≡ true
-    all-over g = rw whole at (too-many (rulesUpTo acts blocks rules d limit k) seen room rows-room w l k size counted left same h g)
+    pub all-over : 2048 < size → tooManySteps (flattenTables acts blocks rules d limit) ≡ true
+    all-over g = rw whole at (too-many (rulesUpTo acts blocks rules d limit k) seen room rows-room w l k size left same h g)
 
-    pub all-wrote : counted ≤ 2048 → EachWrote (flattenTables acts blocks rules d limit) size same seen w l
-    all-wrote g = rw whole at (accepted (rulesUpTo acts blocks rules d limit k) seen room rows-room w l k size counted left same h g)
+    pub all-wrote : size ≤ 2048 → EachWrote (flattenTables acts blocks rules d limit) size same seen w l
+    all-wrote g = rw whole at (accepted (rulesUpTo acts blocks rules d limit k) seen room rows-room w l k size left same h g)

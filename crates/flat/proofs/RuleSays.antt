@@ -8,18 +8,16 @@ use native.Mathlib.Nat.{zero-add}
 use native.Mathlib.Omega.{arith}
 use borrow.Author.Tests.{leb-true, leb-false, le-leb, lt-leb}
 use lib.Dec.{leb, eqb}
-use lib.ListN.{length, take, drop, getD, getElem?, replicate, length-append, length-replicate, length-map}
+use lib.ListN.{length, take, drop, getD, getElem?, length-append}
 use lib.Seq.{take-append-seam, drop-at}
 use Rattle.model.specs.declared.FlattenCtx.{FlattenCtx}
 use Rattle.model.specs.Steps.{FlatStep, stepsOf}
 use Rattle.model.specs.Codec.{rowsAt}
 use Rattle.model.specs.Parts.{stepRow}
-use Rattle.model.specs.Flat.{Row, Flattened, again, copies, flattenAfter, flattenRule, everyCopy, bodyIn, listIn, partOf}
+use Rattle.model.specs.Flat.{Row, Flattened, again, copies, flattenAfter, flattenRule, bodyIn, listIn, partOf}
 use Rattle.flat.specs.Words.{layout, stepOf, stepsIn, bodyWords, Says}
-use Rattle.flat.specs.Outcome.{listAt}
-use Rattle.flat.specs.Load.{countedIn}
 use Rattle.flat.proofs.Words.{layout-length, four-more, drop-words, take-words}
-use Rattle.flat.proofs.Induction.{by, Closed, of-table}
+use Rattle.flat.proofs.Induction.{by, Closed}
 use Rattle.flat.proofs.EachRule.{of-rule}
 
 -- ROWS AND STEPS ----------------------------------------------------------------------------------------------------------------------
@@ -32,7 +30,6 @@ rowBody part (some r) = cond (eqb (r .0) 3) (take (r .1 .1 .1) (drop (r .1 .1 .0
 pub record RowSays (part : List Row) (r : Row) (x : FlatStep) : Type 0 where
   pub step : stepOf r ≡ x .step
   pub body : map stepOf (rowBody part (some r)) ≡ x .body
-  pub size : cond (eqb (r .0) 3) (r .1 .1 .1) 0 ≡ length (x .body)
 
 abbrev pub RowsSay : List Row → List Row → List FlatStep → Type 0
 RowsSay part [] [] = Unit {0}
@@ -54,18 +51,6 @@ module _ (part : List Row) where
   say-body (r ∷ rs) (x ∷ xs) zero h = h .0 .body
   say-body (r ∷ rs) (x ∷ xs) (suc p) h = say-body rs xs p (h .1)
 
-  pub say-counted : (rs : List Row) (xs : List FlatStep) → RowsSay part rs xs → countedIn rs ≡ everyCopy xs
-  say-counted [] [] h = refl
-  say-counted [] (x ∷ xs) h = absurd h
-  say-counted (r ∷ rs) [] h = absurd h
-  say-counted (r ∷ rs) (x ∷ xs) h = rw (h .0 .size, say-counted rs xs (h .1))
-
-  pub say-length : (rs : List Row) (xs : List FlatStep) → RowsSay part rs xs → length rs ≡ length xs
-  say-length [] [] h = refl
-  say-length [] (x ∷ xs) h = absurd h
-  say-length (r ∷ rs) [] h = absurd h
-  say-length (r ∷ rs) (x ∷ xs) h = ap suc (say-length rs xs (h .1))
-
   say-append : (rs : List Row) (xs : List FlatStep) (ss : List Row) (ys : List FlatStep) → RowsSay part rs xs → RowsSay part ss ys → RowsSay part (rs ++ ss) (xs ++ ys)
   say-append [] [] ss ys h k = k
   say-append [] (x ∷ xs) ss ys h k = absurd h
@@ -77,7 +62,7 @@ module _ (part : List Row) where
   say-copies (suc t) n b h =
       by (leb (n + length (b .steps)) 256)
       (λ e. rw (e, copies) (say-append (b .rows) (b .steps) _ _ h (say-copies t (n + length (b .steps)) (again b) h)))
-      (λ e. rw (e, copies) (record { step = refl; body = refl; size = refl }, tt))
+      (λ e. rw (e, copies) (record { step = refl; body = refl }, tt))
 
 -- EVERY LIST --------------------------------------------------------------------------------------------------------------------------
 -- in front of the bodies that are added stand m steps of bodies
@@ -109,7 +94,7 @@ says-copies m (suc t) n b h p s e =
     rw (q, copies, a)
     (say-append (p ++ (b .bodies ++ (r .bodies ++ s))) (b .rows) (b .steps) (r .rows) (r .steps) g
     (say-copies (p ++ (b .bodies ++ (r .bodies ++ s))) t (n + length (b .steps)) (again b) g)))
-    (λ q. rw (q, copies) (record { step = refl; body = refl; size = refl }, tt))
+    (λ q. rw (q, copies) (record { step = refl; body = refl }, tt))
 
 says-after : (ms m : ℕ) (b : Flattened) → ((p s : List Row) → length p ≡ m → RowsSay (p ++ (b .bodies ++ s)) (b .rows) (b .steps))
     → (p s : List Row) → length p ≡ m → RowsSay (p ++ (b .rows ++ s)) (flattenAfter ms m b .rows) (flattenAfter ms m b .steps)
@@ -119,7 +104,6 @@ says-after ms m b h p s e =
       record {
         step = refl;
         body = rw (drop-at p (b .rows ++ s) m e, take-append-seam (b .rows) s) (say-steps part (b .rows) (b .steps) k);
-        size = say-length part (b .rows) (b .steps) k ∙ sym (length-map (b .steps) (λ (x : FlatStep). x .step));
       },
       tt,
     )
@@ -128,25 +112,16 @@ pub says-closed : Closed SaysAt SaysAt
 says-closed =
     record {
       nil = λ d c n m p s e. tt;
-      full = λ d c n m p s e. (record { step = refl; body = refl; size = refl }, tt);
+      full = λ d c n m p s e. (record { step = refl; body = refl }, tt);
       more = λ d c n m a b l h k. says-append m a b h k;
-      plain = λ d c n m i p s e. (record { step = refl; body = refl; size = refl }, tt);
-      waits = λ d c n m ms p s e. (record { step = refl; body = refl; size = refl }, tt);
-      fails = λ d c n m p s e. (record { step = refl; body = refl; size = refl }, tt);
+      plain = λ d c n m i p s e. (record { step = refl; body = refl }, tt);
+      waits = λ d c n m ms p s e. (record { step = refl; body = refl }, tt);
+      fails = λ d c n m p s e. (record { step = refl; body = refl }, tt);
       afters = λ d c n m ms b z h. says-after ms m b h;
       calls = λ d c n m f h. h;
       repeats = λ d c n m t b z h. says-copies m t n b h;
-      branches = λ d c n m q y e z h k p s w. (record { step = refl; body = refl; size = refl }, says-append m y e h k p s w);
+      branches = λ d c n m q y e z h k p s w. (record { step = refl; body = refl }, says-append m y e h k p s w);
     }
-
--- every list counts as its rows do
-pub list-counted : (acts blks : List ℕ) (d first count : ℕ) (c : FlattenCtx) (n m : ℕ)
-    → countedIn (listAt acts blks d first count c n m .rows) ≡ everyCopy (listAt acts blks d first count c n m .steps)
-list-counted acts blks d first count c n m =
-    let f = listAt acts blks d first count c n m in
-    let p : List Row = replicate m (0, (0, (0, 0))) in
-    say-counted (p ++ (f .bodies ++ [])) (f .rows) (f .steps)
-    (of-table SaysAt SaysAt says-closed acts blks d first count c n m p [] (length-replicate m (0, (0, (0, 0)))))
 
 -- WORDS -------------------------------------------------------------------------------------------------------------------------------
 rows-read : (rs : List Row) → rowsAt stepRow (length rs) (layout rs) ≡ rs
@@ -217,6 +192,3 @@ rule-rows img i = of-rule SaysAt SaysAt says-closed img i [] (flattenRule img i 
 -- the part of rule i says its lists
 pub rule-says : (img : List ℕ) (i : ℕ) → Says (layout (partOf (flattenRule img i))) (length (flattenRule img i .bodies)) (flattenRule img i .steps)
 rule-says img i = part-says (flattenRule img i .bodies) (flattenRule img i .rows) (flattenRule img i .steps) (rule-rows img i)
-
-pub rule-counted-rows : (img : List ℕ) (i : ℕ) → countedIn (flattenRule img i .rows) ≡ everyCopy (flattenRule img i .steps)
-rule-counted-rows img i = say-counted (partOf (flattenRule img i)) (flattenRule img i .rows) (flattenRule img i .steps) (rule-rows img i)

@@ -2,8 +2,8 @@
 use mathlib.Core.Bool.{Bool, true, false, cond, not, _&&_}
 use lib.Dec.{eqb}
 use mathlib.Core.Path.{_≡_}
-use mathlib.Core.List.{List, [], _∷_, _++_, map}
-use Prim.Native.Nat.{ℕ, suc, _+_, _*_, _-_, _/_, _≤_, _<_}
+use mathlib.Core.List.{List, [], _++_, map}
+use Prim.Native.Nat.{ℕ, _+_, _*_, _-_, _/_, _≤_, _<_}
 use lib.ListN.{length, take, getD, replicate}
 use Rattle.model.specs.declared.FlattenCtx.{FlattenCtx}
 use Rattle.model.specs.Lists.{upFrom, flatten}
@@ -33,15 +33,6 @@ stepPart fs = layout (stored fs)
 abbrev pub listPart : List Flattened → List ℕ
 listPart fs = wordsOf listRow (listRows 0 fs)
 
--- what rows count for, an after's with its body
-abbrev pub countedIn : List Row → ℕ
-countedIn [] = 0
-countedIn (r ∷ rs) = suc (cond (eqb (r .0) 3) (r .1 .1 .1) 0) + countedIn rs
-
--- the same of row i in words
-unfoldable pub bodySize : List ℕ → ℕ → ℕ
-bodySize w i = cond (eqb (getD w (i * 4) 0) 3) (getD w (i * 4 + 3) 0) 0
-
 -- refusal 16, or so many stored steps
 unfoldable pub loaded : List Flattened → Loaded
 loaded fs = cond (tooManySteps fs) Over (Steps (length (stored fs)))
@@ -55,22 +46,21 @@ abbrev pub Stored : List Flattened → List ℕ → List ℕ → Loaded → Type
 Stored fs words lists Over = Unit {0}
 Stored fs words lists (Steps n) = Parts fs n words lists
 
--- one rule was flattened with so many actions allowed: the sizes of its own list and of its bodies are told; its own list stands in front of
--- `own`, its part in front of the words, if they have room; and whether it stands in front of `seen`, if all before did. A list has at
--- most 268 steps; the last keeps the numbers small
-pub record RuleWrote (f : Flattened) (allowed : ℕ) (same : Bool) (seen own words : List ℕ) (n m left : ℕ) (same′ : Bool) : Type 0 where
+-- one rule was flattened with so many actions allowed: the sizes of its own list and of its bodies are told; its part stands in front of the
+-- words, if they have room; and whether it stands in front of `seen`, if all before did. A list has at most 268 steps; the last keeps the
+-- numbers small
+pub record RuleWrote (f : Flattened) (allowed : ℕ) (same : Bool) (seen words : List ℕ) (n m left : ℕ) (same′ : Bool) : Type 0 where
   pub listed : n ≡ length (f .rows)
   pub short : n ≤ 268
   pub stored : m ≡ length (f .bodies)
   pub taken : left + f .taken ≡ allowed
-  pub own-is : take (n * 4) own ≡ layout (f .rows)
   pub written : (m + n) * 4 ≤ length words → take ((m + n) * 4) words ≡ layout (partOf f)
   pub agrees : same′ ≡ same && sameAt seen 0 (layout (partOf f))
   pub few : m + n + 514 * left ≤ 514 * allowed + 1
 
-abbrev pub RuleOut : Flattened → ℕ → Bool → List ℕ → List ℕ → List ℕ → Answer → Type 0
-RuleOut f allowed same seen own words Refused = allowed < f .taken
-RuleOut f allowed same seen own words (Done n m left same′) = RuleWrote f allowed same seen own words n m left same′
+abbrev pub RuleOut : Flattened → ℕ → Bool → List ℕ → List ℕ → Answer → Type 0
+RuleOut f allowed same seen words Refused = allowed < f .taken
+RuleOut f allowed same seen words (Done n m left same′) = RuleWrote f allowed same seen words n m left same′
 
 -- what flattening all rules gives: the set is over the limits; or its parts are told, stand in front of the words that have room for them,
 -- and are compared

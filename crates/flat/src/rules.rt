@@ -11,17 +11,16 @@ use crate::steps::clear;
 use crate::steps::place;
 use model::FlattenCtx;
 ghost use mathlib.Core.Path.{_≡_};
-ghost use mathlib.Core.List.{List, [], _∷_, _++_};
-ghost use Prim.Native.Nat.{_+_, _*_, _/_, _^_, _≤_, _<_};
+ghost use mathlib.Core.List.{[], _∷_, _++_};
+ghost use Prim.Native.Nat.{_+_, _*_, _/_, _≤_, _<_};
 ghost use lib.ListN.{length, take};
 ghost use Rattle.model.specs.Image.{trailer as trailerIn, firstOf, sizeOf};
-ghost use Rattle.model.specs.Flat.{Row, flattenRules};
+ghost use Rattle.model.specs.Flat.{flattenRules};
 ghost use Rattle.model.specs.Rows.{rules};
 ghost use Rattle.model.specs.Store.{sameList};
 ghost use lib.Dec.{eqb};
-ghost use Rattle.flat.specs.Words.{layout};
 ghost use Rattle.flat.specs.Outcome.{Resolved};
-ghost use Rattle.flat.specs.Load.{RuleOut, EachOut, ruleAt, Checked, CheckedTables, Loading, Stored, bodySize, countedIn, flattenTables, loaded, sameFlat};
+ghost use Rattle.flat.specs.Load.{RuleOut, EachOut, ruleAt, Checked, CheckedTables, Loading, Stored, flattenTables, loaded, sameFlat};
 
 // The row of list k: where it begins, and how many steps it has; written if there is room.
 fn put_list(lists: &mut [u32], k: usize, first: u32, size: u32)
@@ -40,33 +39,6 @@ fn rows_end(n: usize, len: usize) -> usize
     ensures { λ r. ⌜ (r ≤ len) × ((n * 2 ≤ len → r ≡ n * 2)) ⌝ }
 {
     if n <= len / 2 { n * 2 } else { len }
-}
-
-// How many steps the body has that row i names, 0 if the row is no after's.
-fn body_size(list: &[u32], i: usize) -> usize
-    requires { ⌜ (i * 4 + 4 ≤ length (now list)) × (i < 268) ⌝ }
-    ensures { λ r. ⌜ r ≡ bodySize (now (list .entry)) i ⌝ }
-    ensures { λ r. ⌜ r < 2 ^ 32 ⌝ }
-{
-    if list[i * 4] == 3 {
-        return wide(list[i * 4 + 3]);
-    }
-    0
-}
-
-// How many steps an own list counts for, "bodies of afters counted in every copy": an after's row has its body's size.
-fn every_copy(list: &[u32], n: usize) -> usize
-    requires { ⌜ (n * 4 ≤ length (now list)) × (n ≤ 268) ⌝ }
-    ensures { λ r. ⌜ ((rs : List Row) → take (n * 4) (now (list .entry)) ≡ layout rs → r ≡ countedIn rs) ⌝ }
-    ensures { λ r. ⌜ r ≤ n * 2 ^ 32 ⌝ }
-{
-    let mut sum = n;
-    let mut i = 0;
-    while i < n {
-        sum += body_size(list, i);
-        i += 1;
-    }
-    sum
 }
 
 // The part of rule k, whose list is said by words 8 and 9 of its 16: the bodies of its afters go to the front of the words, its own list
@@ -89,7 +61,7 @@ fn flatten_rule(
     requires { ⌜ CheckedTables (now acts) (now blocks) (now rules) depth limit ⌝ }
     requires { ⌜ Resolved (now acts) (now blocks) (now calls) (length (now acts) / 8) × (length (now acts) / 8 ≤ length (now calls)) ⌝ }
     requires { ⌜ (1072 ≤ length (now own)) × (1072 ≤ length (now body)) × (k < length (now rules) / 16) × (left ≤ 65536) ⌝ }
-    ensures { λ r. ⌜ RuleOut (ruleAt (now (acts .entry)) (now (blocks .entry)) (now (rules .entry)) depth limit k) left same (now (seen .entry)) (now (own .exit)) (now (words .exit)) r ⌝ }
+    ensures { λ r. ⌜ RuleOut (ruleAt (now (acts .entry)) (now (blocks .entry)) (now (rules .entry)) depth limit k) left same (now (seen .entry)) (now (words .exit)) r ⌝ }
 {
     let first = wide(rules[k * 16 + 8]);
     let count = wide(rules[k * 16 + 9]);
@@ -147,7 +119,6 @@ fn flatten_each(
     let n = rules.len() / 16;
     let mut k: usize = 0;
     let mut size: usize = 0;
-    let mut counted: usize = 0;
     let mut left: usize = 65536;
     let mut same = true;
     while k < n {
@@ -171,13 +142,12 @@ fn flatten_each(
             return Made::Over;
         };
         put_list(lists, k, (size + stored) as u32, listed as u32);
-        counted += every_copy(own, listed);
         size += stored + listed;
         left = l;
         same = s;
         k += 1;
     }
-    if 2048 < counted {
+    if 2048 < size {
         return Made::Over;
     }
     Made::Steps(size, same)

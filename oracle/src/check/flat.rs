@@ -5,7 +5,7 @@ use super::image::{Limits, Tables, ACTIONS, BLOCKS, RULES};
 
 /// "A list at 256 or more steps with an action left takes one Fail and ends"
 const LIST_CAP: u64 = 256;
-/// "a loaded set has at most 2,048, bodies of afters counted in every copy"
+/// "a loaded set has at most 2,048": request 8 of document 02 says how they are counted.
 const MAX_STORED: u64 = 2_048;
 /// "`flatten_action` taken over 65,536 times for all rules together"
 const MAX_TAKEN: u64 = 65_536;
@@ -15,28 +15,54 @@ const CALL: u32 = 25;
 const REPEAT: u32 = 26;
 const CONDITIONAL: u32 = 27;
 
-/// The size of a list of flat steps. An after is one step of the Rust's list,
-/// whose body is stored with it.
+/// The size of a list of flat steps. An after is one step of the Rust's list; its body is stored apart. Document 02: "Let the copies made by
+/// one Repeat, each time it is flattened, share the after bodies of its first copy, each counted once; no others are shared."
 #[derive(Clone, Copy, Default)]
 struct Steps {
     len: u64,
-    stored: u64,
+    bodies: u64,
+    /// The same "counted in every copy", as document 01 did.
+    every_copy: u64,
 }
 
 impl Steps {
     fn push(&mut self) {
         self.len += 1;
-        self.stored += 1;
     }
 
     fn push_after(&mut self, body: Steps) {
         self.len += 1;
-        self.stored += 1 + body.stored;
+        self.bodies += body.len;
+        self.every_copy += body.len;
     }
 
-    fn append(&mut self, body: Steps) {
+    fn append(&mut self, body: Steps, first: bool) {
         self.len += body.len;
-        self.stored += body.stored;
+        self.every_copy += body.every_copy;
+        if first {
+            self.bodies += body.bodies;
+        }
+    }
+}
+
+/// What refusal 16 counts of a set: stored flat steps, and how often `flatten_action` is taken; and the flat steps with the bodies of
+/// afters counted in every copy.
+#[derive(Clone, Copy, Debug, Default, PartialEq, Eq)]
+pub struct Size {
+    pub stored: u64,
+    pub taken: u64,
+    pub every_copy: u64,
+}
+
+impl Size {
+    /// Whether only sharing keeps the set within the limits.
+    #[must_use]
+    pub fn fits_by_sharing(&self) -> bool {
+        !self.over() && self.every_copy > MAX_STORED
+    }
+
+    fn over(&self) -> bool {
+        self.stored > MAX_STORED || self.taken > MAX_TAKEN
     }
 }
 
@@ -57,24 +83,25 @@ struct Count<'a> {
 
 /// Whether the rules together pass one of the two limits of refusal 16.
 pub(super) fn over_limits(tables: &Tables<'_>, limits: &Limits) -> bool {
-    let (stored, taken) = size(tables, limits);
-    stored > MAX_STORED || taken > MAX_TAKEN
+    size(tables, limits).over()
 }
 
-/// Stored flat steps and taken actions of all rules. The counting ends early
-/// once it is certain that a limit is passed, so it ends fast on every image.
-pub(super) fn size(tables: &Tables<'_>, limits: &Limits) -> (u64, u64) {
+/// The sizes of all rules together. The counting ends early once it is certain
+/// that a limit is passed, so it ends fast on every image.
+pub(super) fn size(tables: &Tables<'_>, limits: &Limits) -> Size {
     let mut count = Count { tables, limits, taken: 0 };
-    let mut stored = 0;
+    let mut size = Size::default();
     for rule in tables.records(RULES) {
         let mut steps = Steps::default();
         count.list(rule[8], rule[9], &mut steps, Inside::default());
-        stored += steps.stored;
-        if stored > MAX_STORED || count.taken > MAX_TAKEN {
+        size.stored += steps.len + steps.bodies;
+        size.every_copy += steps.len + steps.every_copy;
+        size.taken = count.taken;
+        if size.over() {
             break;
         }
     }
-    (stored, count.taken)
+    size
 }
 
 impl Count<'_> {
@@ -135,12 +162,12 @@ impl Count<'_> {
         }
         let mut body = Steps::default();
         self.list(record[2], record[3], &mut body, Inside { repeat: true, ..inside });
-        for _ in 0..times {
+        for copy in 0..times {
             if out.len + body.len > LIST_CAP {
                 out.push();
                 return;
             }
-            out.append(body);
+            out.append(body, copy == 0);
         }
     }
 

@@ -117,7 +117,7 @@ fn flatten_limits(trailer: &[u32]) -> Limits {
     Limits { call_depth: u64::from(trailer[1]), repeat: trailer[2] }
 }
 
-pub(super) fn flat_size(image: &[u32]) -> Option<(u64, u64)> {
+pub(super) fn flat_size(image: &[u32]) -> Option<flat::Size> {
     if image.len() < TRAILER || image_refusal(image).is_some_and(|number| number < 16) {
         return None;
     }

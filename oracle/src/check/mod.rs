@@ -1,5 +1,5 @@
 //! Refusals 10 to 17 of rule images and 20 to 22 of snapshots, read from
-//! document 01 alone. Nothing here is shared with the decoder, so that a
+//! documents 01 and 02 alone. Nothing here is shared with the decoder, so that a
 //! misreading in one of the two shows as a disagreement.
 //!
 //! Document 01: "Lowest number wins, and a refusal returns its number only."
@@ -15,11 +15,11 @@ mod tests_image;
 #[cfg(test)]
 mod tests_snapshot;
 
+pub use flat::Size;
 pub use image::image_refusal;
 pub use snapshot::snapshot_refusal;
 
-/// The flat steps that load would store for an accepted image, and how often
-/// `flatten_action` is taken: for tests and generators that aim at refusal 16.
-pub fn flat_size(image: &[u32]) -> Option<(u64, u64)> {
+/// What refusal 16 counts of an image that passes the tests before it.
+pub fn flat_size(image: &[u32]) -> Option<Size> {
     image::flat_size(image)
 }

@@ -8,8 +8,10 @@ fn logs(count: usize) -> Vec<Action> {
     vec![Action::Log(1); count]
 }
 
+/// Stored steps and taken actions.
 fn size_of(image: &Image) -> (u64, u64) {
-    flat_size(&image.words()).unwrap_or((0, 0))
+    let size = flat_size(&image.words()).unwrap_or_default();
+    (size.stored, size.taken)
 }
 
 fn size_of_actions(actions: Vec<Action>) -> (u64, u64) {
@@ -29,16 +31,62 @@ fn lists_end_at_256() {
 }
 
 #[test]
-fn bodies_count_in_every_copy() {
+fn copies_of_one_repeat_share_bodies() {
     let after = |count| Action::After(1, logs(count));
     assert_eq!(size_of_actions(vec![after(10)]), (11, 11));
-    assert_eq!(size_of_actions(vec![Action::Repeat(20, vec![after(10)])]), (220, 12));
+    assert_eq!(size_of_actions(vec![Action::Repeat(20, vec![after(10)])]), (30, 12));
+    assert_eq!(size_of_actions(vec![Action::Repeat(100, vec![after(30)])]), (130, 32));
+    assert_eq!(size_of_actions(vec![Action::Repeat(2, vec![after(1), Action::Log(1)])]), (5, 4));
     // A copy that does not fit is one Fail, the copies before it stay.
     let body = [logs(99), vec![after(10)]].concat();
-    assert_eq!(size_of_actions(vec![Action::Repeat(3, body)]), (221, 111));
+    assert_eq!(size_of_actions(vec![Action::Repeat(3, body)]), (211, 111));
     // A body that does not fit once is thrown away with its afters.
     let large = [logs(1), vec![Action::Repeat(1, [logs(255), vec![after(10)]].concat())]].concat();
     assert_eq!(size_of_actions(large), (2, 268));
+    let afters = [logs(200), vec![Action::Repeat(2, vec![Action::After(1, vec![Action::Call(1)]); 57])]].concat();
+    let block = Block { name: 1, actions: logs(100) };
+    let image = Image { blocks: vec![block], ..Image::of(vec![Rule::new(1, afters)]) };
+    assert_eq!(size_of(&image).0, 201);
+    // Through regions.
+    let branch = Action::Conditional(Condition::ControllerActive, vec![after(10)], logs(1));
+    assert_eq!(size_of_actions(vec![Action::Repeat(3, vec![branch])]), (19, 14));
+}
+
+#[test]
+fn no_others_share_bodies() {
+    let repeat = |times| Action::Repeat(times, vec![Action::After(1, logs(10))]);
+    assert_eq!(size_of_actions(vec![repeat(2), repeat(3)]), (25, 24));
+    assert_eq!(size_of_actions(vec![Action::Repeat(2, vec![Action::After(1, logs(10)); 2])]), (24, 23));
+    let block = Block { name: 1, actions: vec![Action::Repeat(5, vec![Action::After(1, logs(100))])] };
+    let image = Image { blocks: vec![block], ..Image::of(vec![Rule::new(1, vec![Action::Call(1); 2])]) };
+    assert_eq!(size_of(&image), (210, 206));
+    let size = flat_size(&image.words()).unwrap_or_default();
+    assert_eq!((size.every_copy, size.fits_by_sharing()), (1_010, false));
+}
+
+#[test]
+fn actions_are_taken_once_for_all_copies() {
+    let calls = Block { name: 1, actions: vec![Action::Call(2); 299] };
+    let blocks = vec![calls, Block { name: 2, actions: vec![] }];
+    let repeat = vec![Action::Repeat(255, vec![Action::Call(1)])];
+    assert_eq!(size_of(&Image { blocks, ..Image::of(vec![Rule::new(1, repeat)]) }), (0, 301));
+}
+
+/// Repeat 36 of seven Afters of the same 256 Logs, then Logs.
+fn full(last: usize) -> Image {
+    let seven = vec![Action::After(1, vec![Action::Call(1)]); 7];
+    let actions = [vec![Action::Repeat(36, seven)], logs(last)].concat();
+    let block = Block { name: 1, actions: logs(256) };
+    Image { blocks: vec![block], ..Image::of(vec![Rule::new(1, actions)]) }
+}
+
+#[test]
+fn number_16_stands_at_2_048_shared_steps() {
+    assert_eq!(size_of(&full(4)).0, 2_048);
+    assert_eq!(image_refusal(&full(4).words()), None);
+    assert!(flat_size(&full(4).words()).is_some_and(|size| size.fits_by_sharing()));
+    assert_eq!(size_of(&full(5)).0, 2_049);
+    assert_eq!(image_refusal(&full(5).words()), Some(16));
 }
 
 #[test]
@@ -65,7 +113,7 @@ fn nesting_through_calls_gives_fail() {
 #[test]
 fn number_16_for_stored_steps() {
     let rules = |last: usize| {
-        let body = vec![Action::Repeat(8, vec![Action::After(1, logs(31))])];
+        let body = vec![Action::Repeat(8, logs(32))];
         let mut rules: Vec<Rule> = (0..7).map(|name| Rule::new(name, body.clone())).collect();
         rules.push(Rule::new(7, logs(last)));
         Image::of(rules)
@@ -156,8 +204,9 @@ fn number_17_counts_slots_of_rules_not_records() {
 #[test]
 fn number_16_comes_before_17() {
     let mut rules: Vec<Rule> = (0..65).map(|name| Rule::new(name, vec![])).collect();
-    rules[64].actions = vec![Action::Repeat(8, vec![Action::After(1, logs(256))])];
+    let repeat = vec![Action::Repeat(255, logs(1))];
+    rules.iter_mut().take(9).for_each(|rule| rule.actions = repeat.clone());
     assert_eq!(image_refusal(&Image::of(rules.clone()).words()), Some(16));
-    rules[64].actions = vec![Action::VarAdd(1, Value::Literal(1))];
+    rules[0].actions = vec![Action::VarAdd(1, Value::Literal(1))];
     assert_eq!(image_refusal(&Image::of(rules).words()), Some(17));
 }

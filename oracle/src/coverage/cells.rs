@@ -20,8 +20,9 @@ pub(super) const REFUSALS: usize = 9;
 pub(super) const EVENTS: usize = 10;
 pub(super) const SATURATIONS: usize = 11;
 pub(super) const SET_BACKS: usize = 12;
+pub(super) const SHARING: usize = 13;
 
-pub(super) const PARTS: [Part; 13] = [
+pub(super) const PARTS: [Part; 14] = [
     Part {
         name: "action",
         rows: &[
@@ -109,6 +110,14 @@ pub(super) const PARTS: [Part; 13] = [
         name: "clock behind",
         rows: &["0 minutes", "1 minute", "2 to 119 minutes", "120 minutes", "121 minutes"],
         columns: &["tick", "sun missed", "wall start"],
+    },
+    Part {
+        name: "set that fits only by sharing",
+        rows: &[
+            "loaded", "wet run", "dry run", "tick that resumes", "resumption that waits", "32 pending",
+            "disable that drops", "load that drops",
+        ],
+        columns: &["seen"],
     },
 ];
 

@@ -5,6 +5,7 @@
 mod cells;
 mod look;
 mod set_back;
+mod sharing;
 mod table;
 
 use std::io::Write;
@@ -24,6 +25,7 @@ pub fn measure(seed: u64, count: u64) -> Coverage {
         let seed = seed.wrapping_add(number);
         play(&mut coverage, &generate::history(seed));
         play(&mut coverage, &generate::set_back::history(seed));
+        play(&mut coverage, &generate::sharing::history(seed));
         let mut random = Random::new(!seed);
         for _ in 0..PROBES {
             let probe = probe::draw(&mut random);
@@ -37,11 +39,13 @@ pub fn measure(seed: u64, count: u64) -> Coverage {
 fn play(coverage: &mut Coverage, calls: &[Call]) -> Vec<crate::house::Answer> {
     let mut house = House::new();
     let mut watcher = look::Watcher::default();
+    let mut sharing = sharing::Watcher::default();
     let mut answers = Vec::new();
     for call in calls {
         let clock = set_back::Clock::of(&mut house, call);
         let answer = house.call(call);
         clock.see(coverage, &answer, &mut house);
+        sharing.see(coverage, call, &answer, &mut house);
         watcher.see(coverage, call, &answer, &mut house);
         answers.push(answer);
     }

@@ -7,6 +7,9 @@ use crate::build::{
 };
 use crate::random::Random;
 
+/// A block that no generated action calls.
+const LOGS: u32 = 99;
+
 fn odd_word(random: &mut Random, old: u32) -> u32 {
     match random.below(6) {
         0 => old.wrapping_add(1),
@@ -133,14 +136,15 @@ fn deep(random: &mut Random) -> Image {
     Image { blocks, ..Image::of(vec![Rule::new(1, vec![Action::Call(0); 2])]) }
 }
 
-/// About 2,048 flat steps: afters in repeats.
+/// About 2,048 flat steps: repeats of an after, whose copies share its body.
 fn long(random: &mut Random, profile: &Profile) -> Image {
-    let body = vec![Action::Log(1); random.from_to(14, 16) as usize];
+    let logs = vec![Action::Log(1); random.from_to(14, 16) as usize];
     let times = random.from_to(16, 17);
+    let body = vec![Action::Call(LOGS); 16];
     let actions = vec![Action::Repeat(times, vec![Action::After(5, body)])];
     let mut rules: Vec<Rule> = (10..18).map(|name| Rule::new(name, actions.clone())).collect();
     rules.push(Rule::new(1, parts::actions(random, profile, 1)));
-    Image::of(rules)
+    Image { blocks: vec![Block { name: LOGS, actions: logs }], ..Image::of(rules) }
 }
 
 /// A snapshot near the border of what tick and run accept.

@@ -6,6 +6,7 @@ mod hostile;
 mod parts;
 pub mod probe;
 pub mod set_back;
+pub mod sharing;
 mod world;
 
 use crate::build::{Action, Block, Image, Limits, Rule, Trigger};

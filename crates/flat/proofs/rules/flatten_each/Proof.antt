@@ -6,17 +6,17 @@ use borrow.Author.Needs.{needs}
 use lib.ListN.{length}
 use Rattle.flat.specs.Load.{ruleAt, rulesUpTo}
 use Rattle.flat.proofs.Rows.{whole-length}
-use Rattle.flat.proofs.RuleLists.{Front, at-start, next, rules-none, rules-more, rule-refused, rule-counted, all-over, all-wrote}
+use Rattle.flat.proofs.RuleLists.{Front, at-start, next, rules-none, rules-more, rule-refused, all-over, all-wrote}
 use Rattle.flat.proofs.rules.flatten_each.Statement.{statement}
 use Rattle.flat.proofs.rules.flatten_each.Tie as tie
 
 abbrev Inv-loop : tie.InvT-loop
-Inv-loop acts blocks rules calls own₀ body₀ words₀ lists₀ seen depth limit n k₀ size₀ counted₀ left₀ same₀ own body words lists k size counted left same =
+Inv-loop acts blocks rules calls own₀ body₀ words₀ lists₀ seen depth limit n k₀ size₀ left₀ same₀ own body words lists k size left same =
     (k ≤ length rules / 16) × (length own ≡ length own₀) × (length body ≡ length body₀)
-    × Front (rulesUpTo acts blocks rules depth limit k) seen (length words₀) (length lists₀) words lists k size counted left same
+    × Front (rulesUpTo acts blocks rules depth limit k) seen (length words₀) (length lists₀) words lists k size left same
 
 abbrev μ-loop : tie.MeasureT-loop
-μ-loop acts blocks rules calls own₀ body₀ words₀ lists₀ seen depth limit n k₀ size₀ counted₀ left₀ same₀ own body words lists k size counted left same =
+μ-loop acts blocks rules calls own₀ body₀ words₀ lists₀ seen depth limit n k₀ size₀ left₀ same₀ own body words lists k size left same =
     length rules / 16 - k
 
 loop-holds : tie.Need-loop-holds Inv-loop μ-loop
@@ -95,65 +95,52 @@ cast-put-list-2 c =
 put-list-requires : tie.Need-put-list-requires Inv-loop μ-loop
 put-list-requires c κs = omega (arith, c .before .before .before .before .before .before .before .before .before .before .before .before .before .before .before .before .before .loop-test .taken, c .before .before .before .before .before .before .before .before .before .before .before .before .before .before .before .before .before .before .before .before .before .before .before .before .before .before .before .before .pre .0 .rules-few)
 
-every-copy-requires : tie.Need-every-copy-requires Inv-loop μ-loop
-every-copy-requires c κs =
-    let z = rw (c .before .before .before .before .before .before .listed .given .1) at (c .before .before .before .before .before .before .before .before .before .before .before .before .before .before .flatten-rule .ensures) in
-    (omega (arith, z .short, c .before .before .before .before .before .before .before .before .before .before .before .before .before .before .flatten-rule .kept .1 .1 .1 .1 .0, c .before .before .before .before .before .before .before .before .before .before .before .before .before .before .before .before .before .before .before .before .before .before .loop .inv .1, c .before .before .before .before .before .before .before .before .before .before .before .before .before .before .before .before .before .before .before .before .before .before .before .before .before .before .before .before .before .before .before .before .pre .1 .1 .0), z .short)
-
-add-counted : tie.Need-add-counted Inv-loop μ-loop
-add-counted c =
-    let z = rw (c .before .before .before .before .before .before .before .listed .given .1) at (c .before .before .before .before .before .before .before .before .before .before .before .before .before .before .before .flatten-rule .ensures) in
-    omega (arith, z .short, c .every-copy .ensures .1, c .before .before .before .before .before .before .before .before .before .before .before .before .before .before .before .before .before .before .before .before .before .before .before .loop .inv .3 .counted-le, c .before .before .before .before .before .before .before .before .before .before .before .before .before .before .before .before .before .before .before .before .before .before .before .loop .inv .0, c .before .before .before .before .before .before .before .before .before .before .before .before .before .before .before .before .before .before .before .before .before .before .before .before .before .before .before .before .before .before .before .before .before .pre .0 .rules-few)
-
 add-size : tie.Need-add-size Inv-loop μ-loop
 add-size c =
-    let z = rw (c .before .before .before .before .before .before .before .listed .given .1) at (c .before .before .before .before .before .before .before .before .before .before .before .before .before .before .before .flatten-rule .ensures) in
-    omega (arith, z .few, c .before .before .before .before .before .before .before .before .before .before .before .before .before .before .before .before .before .before .before .before .before .before .before .loop .inv .3 .taken-is)
+    let z = rw (c .before .before .before .before .before .listed .given .1) at (c .before .before .before .before .before .before .before .before .before .before .before .before .before .flatten-rule .ensures) in
+    omega (arith, z .few, c .before .before .before .before .before .before .before .before .before .before .before .before .before .before .before .before .before .before .before .before .before .loop .inv .3 .taken-is)
 
 add-size-2 : tie.Need-add-size-2 Inv-loop μ-loop
 add-size-2 c =
-    let z = rw (c .before .before .before .before .before .before .before .listed .given .1) at (c .before .before .before .before .before .before .before .before .before .before .before .before .before .before .before .flatten-rule .ensures) in
-    omega (arith, z .few, c .before .before .before .before .before .before .before .before .before .before .before .before .before .before .before .before .before .before .before .before .before .before .before .loop .inv .3 .bounded, c .before .before .before .before .before .before .before .before .before .before .before .before .before .before .before .before .before .before .before .before .before .before .before .loop .inv .0, c .before .before .before .before .before .before .before .before .before .before .before .before .before .before .before .before .before .before .before .before .before .before .before .before .before .before .before .before .before .before .before .before .before .pre .0 .rules-few)
+    let z = rw (c .before .before .before .before .before .listed .given .1) at (c .before .before .before .before .before .before .before .before .before .before .before .before .before .flatten-rule .ensures) in
+    omega (arith, z .few, c .before .before .before .before .before .before .before .before .before .before .before .before .before .before .before .before .before .before .before .before .before .loop .inv .3 .bounded, c .before .before .before .before .before .before .before .before .before .before .before .before .before .before .before .before .before .before .before .before .before .loop .inv .0, c .before .before .before .before .before .before .before .before .before .before .before .before .before .before .before .before .before .before .before .before .before .before .before .before .before .before .before .before .before .before .before .pre .0 .rules-few)
 
 add-k : tie.Need-add-k Inv-loop μ-loop
-add-k c = omega (arith, c .before .before .before .before .before .before .before .before .before .before .before .before .before .before .before .before .before .before .before .before .before .before .loop-test .taken, c .before .before .before .before .before .before .before .before .before .before .before .before .before .before .before .before .before .before .before .before .before .before .before .before .before .before .before .before .before .before .before .before .before .pre .0 .rules-few)
+add-k c = omega (arith, c .before .before .before .before .before .before .before .before .before .before .before .before .before .before .before .before .before .before .before .before .loop-test .taken, c .before .before .before .before .before .before .before .before .before .before .before .before .before .before .before .before .before .before .before .before .before .before .before .before .before .before .before .before .before .before .before .pre .0 .rules-few)
 
 loop-less : tie.Need-loop-less Inv-loop μ-loop
-loop-less c = omega (arith, c .before .before .before .before .before .before .before .before .before .before .before .before .before .before .before .before .before .before .before .before .before .before .loop-test .taken)
+loop-less c = omega (arith, c .before .before .before .before .before .before .before .before .before .before .before .before .before .before .before .before .before .before .before .before .loop-test .taken)
 
 loop-again : tie.Need-loop-again Inv-loop μ-loop
 loop-again c =
-    let o = c .before .before .before .before .before .before .before .before .before .before .before .before .before .before .before .before .before .before .before .before .before .before .before .before .before .before .before .before .before .before .before .before .before in
+    let o = c .before .before .before .before .before .before .before .before .before .before .before .before .before .before .before .before .before .before .before .before .before .before .before .before .before .before .before .before .before .before .before in
     let a = o .args in
-    let l = c .before .before .before .before .before .before .before .before .before .before .before .before .before .before .before .before .before .before .before .before .before .before .before .loop in
-    let r = c .before .before .before .before .before .before .before .before .before .before .before .before .before .before .before .flatten-rule in
-    let z = rw (c .before .before .before .before .before .before .before .listed .given .1) at (r .ensures) in
-    let p = c .before .before .before .before .put-list in
-    let e = c .every-copy in
+    let l = c .before .before .before .before .before .before .before .before .before .before .before .before .before .before .before .before .before .before .before .before .before .loop in
+    let r = c .before .before .before .before .before .before .before .before .before .before .before .before .before .flatten-rule in
+    let z = rw (c .before .before .before .before .before .listed .given .1) at (r .ensures) in
+    let p = c .before .before .put-list in
     let f = ruleAt (a .acts .now) (a .blocks .now) (a .rules .now) (a .depth) (a .limit) (l .k) in (
-      omega (arith, c .before .before .before .before .before .before .before .before .before .before .before .before .before .before .before .before .before .before .before .before .before .before .loop-test .taken),
+      omega (arith, c .before .before .before .before .before .before .before .before .before .before .before .before .before .before .before .before .before .before .before .before .loop-test .taken),
       r .kept .1 .1 .1 .1 .0 ∙ l .inv .1,
       r .kept .1 .1 .1 .1 .1 .0 ∙ l .inv .2,
       rw (rules-more (a .acts .now) (a .blocks .now) (a .rules .now) (a .depth) (a .limit) (l .k))
-          (next (rulesUpTo (a .acts .now) (a .blocks .now) (a .rules .now) (a .depth) (a .limit) (l .k)) (a .seen .now) (length (a .words .now)) (length (a .lists .now)) (l .words) (l .lists) (l .k) (l .size) (l .counted) (l .left) (l .same) (l .inv .3) f (r .last .1 .1 .1 .1 .0) (r .last .1 .1 .1 .1 .1 .1 .0) (p .last .0) (c .before .before .before .before .before .before .before .before .before .before .before .before .before .before .before .before .before .before .before .before .before .place .result) (c .before .before .before .before .before .before .before .before .before .before .before .before .before .before .before .before .before .before .before .before .place2 .result) (c .before .before .before .before .before .before .before .listed .given .0 .0) (c .before .before .before .before .before .before .before .listed .given .0 .1 .0) (e .result) (c .before .before .before .before .before .before .before .listed .given .0 .1 .1 .0) (c .before .before .before .before .before .before .before .listed .given .0 .1 .1 .1 .0)
-          (record { inside = c .before .before .before .before .before .before .before .before .before .before .before .before .before .before .before .before .before .before .before .before .before .place .ensures .0; there = c .before .before .before .before .before .before .before .before .before .before .before .before .before .before .before .before .before .before .before .before .before .place .ensures .1; past = c .before .before .before .before .before .before .before .before .before .before .before .before .before .before .before .before .before .before .before .before .before .place .ensures .2 })
-          (record { inside = c .before .before .before .before .before .before .before .before .before .before .before .before .before .before .before .before .before .before .before .before .place2 .ensures .0; there = c .before .before .before .before .before .before .before .before .before .before .before .before .before .before .before .before .before .before .before .before .place2 .ensures .1; past = c .before .before .before .before .before .before .before .before .before .before .before .before .before .before .before .before .before .before .before .before .place2 .ensures .2 })
-          (r .kept .1 .1 .1 .1 .1 .1 .0) z (p .kept .0) (p .ensures)
-          (rule-counted (a .acts .now) (a .blocks .now) (a .rules .now) (a .depth) (a .limit) (l .k) (r .last .1 .1 .1 .1 .0) (c .before .before .before .before .before .before .before .listed .given .0 .0) (e .result) (z .own-is) (e .ensures .0))
-          (e .ensures .1)),
+          (next (rulesUpTo (a .acts .now) (a .blocks .now) (a .rules .now) (a .depth) (a .limit) (l .k)) (a .seen .now) (length (a .words .now)) (length (a .lists .now)) (l .words) (l .lists) (l .k) (l .size) (l .left) (l .same) (l .inv .3) f (r .last .1 .1 .1 .1 .1 .1 .0) (p .last .0) (c .before .before .before .before .before .before .before .before .before .before .before .before .before .before .before .before .before .before .before .place .result) (c .before .before .before .before .before .before .before .before .before .before .before .before .before .before .before .before .before .before .place2 .result) (c .before .before .before .before .before .listed .given .0 .0) (c .before .before .before .before .before .listed .given .0 .1 .0) (c .before .before .before .before .before .listed .given .0 .1 .1 .0) (c .before .before .before .before .before .listed .given .0 .1 .1 .1 .0)
+          (record { inside = c .before .before .before .before .before .before .before .before .before .before .before .before .before .before .before .before .before .before .before .place .ensures .0; there = c .before .before .before .before .before .before .before .before .before .before .before .before .before .before .before .before .before .before .before .place .ensures .1; past = c .before .before .before .before .before .before .before .before .before .before .before .before .before .before .before .before .before .before .before .place .ensures .2 })
+          (record { inside = c .before .before .before .before .before .before .before .before .before .before .before .before .before .before .before .before .before .before .place2 .ensures .0; there = c .before .before .before .before .before .before .before .before .before .before .before .before .before .before .before .before .before .before .place2 .ensures .1; past = c .before .before .before .before .before .before .before .before .before .before .before .before .before .before .before .before .before .before .place2 .ensures .2 })
+          (r .kept .1 .1 .1 .1 .1 .1 .0) z (p .kept .0) (p .ensures)),
     )
 
 returns-2 : tie.Need-returns-2 Inv-loop μ-loop
 returns-2 c =
     let a = c .before .before .before .before .before .before .before .before .before .before .before .before .args in
     let l = c .before .before .loop in
-    all-over (a .acts .now) (a .blocks .now) (a .rules .now) (a .depth) (a .limit) (l .k) (l .inv .0) (c .before .loop-test .left) (a .seen .now) (length (a .words .now)) (length (a .lists .now)) (l .words) (l .lists) (l .size) (l .counted) (l .left) (l .same) (l .inv .3) (c .if1 .taken)
+    all-over (a .acts .now) (a .blocks .now) (a .rules .now) (a .depth) (a .limit) (l .k) (l .inv .0) (c .before .loop-test .left) (a .seen .now) (length (a .words .now)) (length (a .lists .now)) (l .words) (l .lists) (l .size) (l .left) (l .same) (l .inv .3) (c .if1 .taken)
 
 returns-3 : tie.Need-returns-3 Inv-loop μ-loop
 returns-3 c =
     let a = c .before .before .before .before .before .before .before .before .before .before .before .before .args in
     let l = c .before .before .loop in
-    all-wrote (a .acts .now) (a .blocks .now) (a .rules .now) (a .depth) (a .limit) (l .k) (l .inv .0) (c .before .loop-test .left) (a .seen .now) (length (a .words .now)) (length (a .lists .now)) (l .words) (l .lists) (l .size) (l .counted) (l .left) (l .same) (l .inv .3) (c .if1 .left)
+    all-wrote (a .acts .now) (a .blocks .now) (a .rules .now) (a .depth) (a .limit) (l .k) (l .inv .0) (c .before .loop-test .left) (a .seen .now) (length (a .words .now)) (length (a .lists .now)) (l .words) (l .lists) (l .size) (l .left) (l .same) (l .inv .3) (c .if1 .left)
 
 pub flatten-each-spec : {M : Type 1} → statement M
 flatten-each-spec =
@@ -184,8 +171,6 @@ flatten-each-spec =
     cast-put-list
     cast-put-list-2
     put-list-requires
-    every-copy-requires
-    add-counted
     add-size
     add-size-2
     add-k

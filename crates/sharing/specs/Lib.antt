@@ -1,0 +1,3 @@
+pub mod Unshared
+pub mod Sharing
+pub mod Large
