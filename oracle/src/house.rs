@@ -8,6 +8,7 @@ use dali2rust_rules_runtime::runtime::engine::{
     PartialReason,
 };
 
+use crate::script::{self, Given};
 use crate::{check, decode};
 
 const STORE_WORDS: u32 = 16_384;
@@ -35,6 +36,8 @@ pub enum Call {
     Size { words: u32 },
     Poke { place: u32, word: u32 },
     Peek { place: u32 },
+    /// A call that the published engine has not.
+    Own { name: &'static str, given: Given },
 }
 
 #[derive(Clone, Debug, PartialEq)]
@@ -46,6 +49,8 @@ pub enum Answer {
     Counters([u32; 17]),
     Word(u32),
     Refused(u32),
+    /// The lines for a call that the published engine has not.
+    Own(String),
     /// What the oracle cannot do, as call and place.
     Unsupported(String),
 }
@@ -134,6 +139,7 @@ impl House {
             }
             Call::Poke { place, word } => self.poke(*place, *word),
             Call::Peek { place } => self.peek(*place),
+            Call::Own { name, given } => self.own(name, given),
             _ if self.size != STORE_WORDS => Answer::Refused(1),
             _ => self.engine_call(call),
         }
@@ -161,9 +167,25 @@ impl House {
             }
             Call::Deadline => Answer::Deadline(self.engine.next_deadline_ms()),
             Call::Counters => Answer::Counters(counter_words(&self.engine.counters())),
-            Call::Lend { .. } | Call::Size { .. } | Call::Poke { .. } | Call::Peek { .. } => {
-                Answer::Silent
-            }
+            Call::Lend { .. }
+            | Call::Size { .. }
+            | Call::Poke { .. }
+            | Call::Peek { .. }
+            | Call::Own { .. } => Answer::Silent,
+        }
+    }
+
+    /// Whether a store of the right size is given: a call that asks one of another size is refused with 1.
+    #[must_use]
+    pub fn is_sized(&self) -> bool {
+        self.size == STORE_WORDS
+    }
+
+    fn own(&self, name: &str, given: &Given) -> Answer {
+        match script::own(name).map(|answer| answer(self, given)) {
+            Some(Ok(lines)) => Answer::Own(lines),
+            Some(Err(number)) => Answer::Refused(number),
+            None => Answer::Unsupported(name.to_owned()),
         }
     }
 

@@ -8,6 +8,17 @@ use crate::store::{pair, WORDS};
 /// What stands in lent words before a call.
 const FILLED: u32 = 0xdead_beef;
 
+/// So many words to lend, with other words in them than a call leaves: also for a call that answers into a store of its own.
+pub fn filled(words: usize) -> Vec<u32> {
+    vec![FILLED; words]
+}
+
+/// What must stand in so many lent words after a call: its answer, and zeros behind it; after a refusal zeros.
+pub fn zeros_behind(mut answer: Vec<u32>, words: usize) -> Vec<u32> {
+    answer.resize(words, 0);
+    answer
+}
+
 /// Words lent for a call's values, outcomes and effects.
 #[derive(Clone, Copy, Debug, Default)]
 pub struct Lent {
@@ -34,7 +45,7 @@ pub struct House {
 impl Default for House {
     /// A store made new at time 0.
     fn default() -> House {
-        let mut house = House { store: vec![FILLED; WORDS], size: WORDS };
+        let mut house = House { store: filled(WORDS), size: WORDS };
         house.call(&Call::New { time: 0 }, Lent::default());
         house
     }
@@ -61,9 +72,9 @@ impl House {
 pub fn made(store: &mut [u32], call: &Call, lent: Lent) -> Seen {
     let handles = usize::from(matches!(call, Call::Tick { .. } | Call::Run { .. }));
     let has_answer = usize::from(!matches!(call, Call::New { .. } | Call::Load { .. } | Call::Unload { .. }));
-    let mut answer = vec![FILLED; lent.answer * has_answer];
-    let mut outcomes = vec![FILLED; lent.outcomes * handles];
-    let mut effects = vec![FILLED; lent.effects * handles];
+    let mut answer = filled(lent.answer * has_answer);
+    let mut outcomes = filled(lent.outcomes * handles);
+    let mut effects = filled(lent.effects * handles);
     let number = number(store, call, &mut answer, &mut outcomes, &mut effects);
     Seen { number, answer, outcomes, effects }
 }
@@ -79,7 +90,7 @@ pub fn number(store: &mut [u32], call: &Call, answer: &mut [u32], outcomes: &mut
         Call::Run { rule, dry, snapshot } => words::run(store, *rule, *dry, snapshot, outcomes, effects, answer),
         Call::Deadline => words::next_deadline(store, answer),
         Call::Counters => words::counters(store, answer),
-        Call::Lend { .. } | Call::Size { .. } | Call::Poke { .. } | Call::Peek { .. } => 0,
+        Call::Lend { .. } | Call::Size { .. } | Call::Poke { .. } | Call::Peek { .. } | Call::Own { .. } => 0,
     }
 }
 
@@ -100,11 +111,11 @@ pub fn expected(call: &Call, answer: &Answer, lent: Lent) -> Seen {
     }
     let mut values = values(answer, effects.len() / cerambiu::EFFECT_WORDS);
     if !matches!(call, Call::New { .. } | Call::Load { .. } | Call::Unload { .. }) {
-        values.resize(lent.answer, 0);
+        values = zeros_behind(values, lent.answer);
     }
     if matches!(call, Call::Tick { .. } | Call::Run { .. }) {
-        outcomes.resize(lent.outcomes, 0);
-        effects.resize(lent.effects, 0);
+        outcomes = zeros_behind(outcomes, lent.outcomes);
+        effects = zeros_behind(effects, lent.effects);
     }
     Seen { number, answer: values, outcomes, effects }
 }
@@ -116,6 +127,6 @@ fn values(answer: &Answer, effects: usize) -> Vec<u32> {
         Answer::Deadline(None) => vec![0; 3],
         Answer::Deadline(Some(time)) => [[1].as_slice(), &pair(*time)].concat(),
         Answer::Counters(counters) => counters.to_vec(),
-        Answer::Silent | Answer::Refused(_) | Answer::Word(_) | Answer::Unsupported(_) => Vec::new(),
+        Answer::Silent | Answer::Refused(_) | Answer::Word(_) | Answer::Own(_) | Answer::Unsupported(_) => Vec::new(),
     }
 }

@@ -6,7 +6,6 @@ use Prim.Native.Nat.{ℕ, _≤_}
 use native.Mathlib.Omega.{arith}
 use lib.Dec.{eqb}
 use lib.ListN.{length}
-use borrow.Author.Tests.{eq-eqb, ne-eqb}
 use Rattle.words.specs.Pairs.{lowOf, highOf}
 use Rattle.model.specs.OnWords.{Result}
 use Rattle.engine.specs.Seen.{Seen, seen}
@@ -14,7 +13,10 @@ use Rattle.engine.specs.Answers.{numberOf, valuesOf, shown, shownCounters}
 use Rattle.engine.specs.declared.Answer.{Answer}
 use Rattle.engine.specs.declared.Answer.the-variants.{Done, Refused, Enabled, Handled, Due, NoDeadline}
 use Rattle.engine.specs.declared.Counted.{Counted}
+use Rattle.engine.specs.Asked.{Asked, shownAsked}
 use Rattle.cerambiu.specs.Called.{Called, called, lentAnswer, answered}
+use Rattle.cerambiu.specs.Told as Told
+use Rattle.cerambiu.specs.Told.{tells}
 
 -- THE ANSWER'S WORDS ---------------------------------------------------------------------------------------------------------------------
 pub few-values : (a : Answer) → length (valuesOf a) ≤ 3
@@ -70,14 +72,13 @@ unfolding lentAnswer
 told-none r a number w os es e m = told 0 r a number [] w os es e m refl
 
 -- the counters
-module _ (n : ℕ) (r : Result) (c : Counted) (w answer : List ℕ) (e : shownCounters c w ≡ seen r) where
-  counted : (vs : List ℕ) → cond (eqb (c .refusal) 0) (c .values) [] ≡ vs → answer ≡ lentAnswer n vs → called (c .refusal) answer w [] [] ≡ answered n r
-  unfolding viewed shownCounters seen answered
-  counted vs v q = (λ i. called (c .refusal) ((q ∙ ap (lentAnswer n) (sym v)) i) w [] []) ∙ ap (viewed n) e
+pub counters-told : (n : ℕ) (r : Result) (c : Counted) (number : ℕ) (answer w : List ℕ) → shownCounters c w ≡ seen r
+    → number ≡ c .refusal → answer ≡ lentAnswer n (cond (eqb (c .refusal) 0) (c .values) []) → called number answer w [] [] ≡ answered n r
+unfolding viewed shownCounters seen answered
+counters-told n r c number answer w e m v = (λ i. called (m i) (v i) w [] []) ∙ ap (viewed n) e
 
-  pub counters-refused : (c .refusal ≡ 0 → ⊥) → answer ≡ lentAnswer n [] → called (c .refusal) answer w [] [] ≡ answered n r
-  counters-refused z q = counted [] (rw (ne-eqb (c .refusal) 0 z) refl) q
-
-  pub counters-told : c .refusal ≡ 0 → answer ≡ lentAnswer n (c .values) → called 0 answer w [] [] ≡ answered n r
-  counters-told z q =
-      ap (λ (x : ℕ). called x answer w [] []) (sym z) ∙ counted (c .values) (rw (eq-eqb (c .refusal) 0 z) refl) q
+-- A CALL THAT ASKS -----------------------------------------------------------------------------------------------------------------------
+pub asks-told : (n : ℕ) (a : Asked) (k : ℕ) (values lent : List ℕ) (number : ℕ) (answer : List ℕ) → shownAsked k values lent ≡ a
+    → number ≡ k → answer ≡ lentAnswer n (cond (eqb k 0) values []) → tells number answer lent ≡ Told.told n a
+unfolding shownAsked Told.told
+asks-told n a k values lent number answer e m v = (λ i. tells (m i) (v i) lent) ∙ ap (Told.told n) e

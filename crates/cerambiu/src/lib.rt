@@ -5,6 +5,7 @@ use engine::Answer;
 ghost use mathlib.Core.Path.{_≡_};
 ghost use mathlib.Core.Bool.{cond};
 ghost use mathlib.Core.List.{[]};
+ghost use lib.Dec.{eqb};
 ghost use lib.ListN.{length};
 ghost use Rattle.model.specs.Calls.{new, load, unload, enable, tick, run, deadline, counters};
 ghost use Rattle.model.specs.OnWords.{callOn};
@@ -65,6 +66,19 @@ fn put_answer(answer: &mut [u32], a: Answer) -> u32
     let values = values_of(a);
     put_values(answer, &values);
     number_of(a)
+}
+
+// The answer of a call that asks: its values, unless it is refused.
+fn put_asked(answer: &mut [u32], number: u32, values: &[u32]) -> u32
+    ensures { λ r. ⌜ (r ≡ number) × (now (answer .exit) ≡ lentAnswer (length (now (answer .entry))) (cond (eqb number 0) (now (values .entry)) [])) ⌝ }
+{
+    if number != 0 {
+        let none = [0u32; 1];
+        put_values(answer, &none[1..]);
+        return number;
+    }
+    put_values(answer, values);
+    0
 }
 
 #[no_mangle]
@@ -138,12 +152,6 @@ pub extern "C" fn cerambiu_counters(store: &[u32], answer: &mut [u32]) -> u32
     ensures { λ r. ⌜ called r (now (answer .exit)) (now (store .entry)) [] [] ≡ answered (length (now (answer .entry))) (callOn counters (now (store .entry))) ⌝ }
 {
     let c = engine::counters(store);
-    if c.refusal != 0 {
-        let none = [0u32; 1];
-        put_values(answer, &none[1..]);
-        return c.refusal;
-    }
     let values = c.values;
-    put_values(answer, &values);
-    0
+    put_asked(answer, c.refusal, &values)
 }

@@ -9,6 +9,7 @@ ghost use Rattle.model.specs.OnWords.{callOn};
 ghost use Rattle.engine.specs.Seen.{seen};
 ghost use Rattle.engine.specs.Answers.{shown, shownCounters};
 
+pub mod asked;
 mod handle;
 mod sets;
 mod stored;

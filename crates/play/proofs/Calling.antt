@@ -2,7 +2,7 @@
 use mathlib.Core.Path.{_≡_, refl, sym, ap, _∙_, subst}
 use mathlib.Core.List.{List, [], _++_}
 use Prim.Native.Nat.{ℕ, min}
-use lib.ListN.{length, take, drop, take-append-drop}
+use lib.ListN.{length, getD, take, drop, take-append-drop}
 use lib.Seq.{take-at}
 use Rattle.model.specs.Calls.{Call}
 use Rattle.model.specs.OnWords.{callOn}
@@ -89,10 +89,15 @@ module _ (c : ℕ → ℕ → Call) (call time size n : ℕ) (w : List ℕ) (l :
         (rw (numbers (min outcomes (length ow)) (min effects (length ew)), lines (min outcomes (length ow)) (min effects (length ew)) x) (rw (to, te) at g))
 
 -- A LINE ------------------------------------------------------------------------------------------------------------------------------
-module _ (os es k : ℕ) (list : List ℕ) (t : Settings) (w b : List ℕ) (o : Stream) where
-  pub does-line : (l v : Line) (w′ after : List ℕ) (r : Stream) → l ≡ v → Does (obeyed os es k v list t w) b o w′ after r
-      → Does (obeyed os es k l list t w) b o w′ after r
-  does-line l v w′ after r e d = subst (λ z. Does (obeyed os es k z list t w) b o w′ after r) (sym e) d
+-- the call of a number
+pub does-command : (call k : ℕ) (table : List (List ℕ → Obeyed)) (w b : List ℕ) (o : Stream) (w′ after : List ℕ) (r : Stream) → call ≡ k
+    → Does (getD table k quiet w) b o w′ after r → Does (getD table call quiet w) b o w′ after r
+does-command call k table w b o w′ after r e d = subst (λ z. Does (getD table z quiet w) b o w′ after r) (sym e) d
+
+module _ (os es k : ℕ) (list text : List ℕ) (t : Settings) (w b : List ℕ) (o : Stream) where
+  pub does-line : (l v : Line) (w′ after : List ℕ) (r : Stream) → l ≡ v → Does (obeyed os es k v list text t w) b o w′ after r
+      → Does (obeyed os es k l list text t w) b o w′ after r
+  does-line l v w′ after r e d = subst (λ z. Does (obeyed os es k z list text t w) b o w′ after r) (sym e) d
 
 -- nothing is printed
 pub does-quietly : (w w′ b : List ℕ) (o : Stream) → w′ ≡ w → Does (quiet w) b o w′ b o

@@ -9,6 +9,7 @@ use borrow.Author.Tests.{lt-ltb, le-ltb, ltb-false}
 use lib.Dec.{ltb}
 use lib.ListN.{length, take, set, length-set, length-take, length-append}
 use lib.Seq.{take-nil, take-all, take-append-le, take-suc-set}
+use Rattle.script.specs.Table.{rows}
 use Rattle.script.specs.Script.{Parsed, plain, parse}
 use Rattle.script.specs.Scan.{Parses}
 use Rattle.script.specs.declared.Line.{Line}
@@ -54,12 +55,18 @@ module _ (line : List ℕ) (c : Cut) (bytes : List ℕ) (h : Holds line c bytes)
         long = sym (lt-ltb (length line) (length (bytes ++ b ∷ [])) f);
       }
 
+  -- the bytes of a line that is not too long stand at the start of the buffer
+  pub whole-there : length bytes ≤ length line → (take (length bytes) line ≡ bytes) × (min (c .len) (length line) ≡ length bytes)
+  whole-there l =
+      let n : c .len ≡ length bytes = omega (arith, count) in
+      (ap (λ (z : ℕ). take z line) (sym n) ∙ whole l, omega arith)
+
   module _ (m : Room) (e : m .line ≡ length line) where
     pub says-long : (list : List ℕ) → c .long ≡ true → Parses (said m bytes) list list (Bad LineTooLong)
     unfolding said
     says-long list t = rw (e, sym (h .long) ∙ t) (plainly (Bad LineTooLong) list)
 
-    pub says-it : (list list′ : List ℕ) (r : Line) → m .list ≡ length list → c .long ≡ false → Parses (parse (length list) (take (c .len) line)) list list′ r
+    pub says-it : (list list′ : List ℕ) (r : Line) → m .list ≡ length list → c .long ≡ false → Parses (parse rows (length list) (take (c .len) line)) list list′ r
         → Parses (said m bytes) list list′ r
     unfolding said
     says-it list list′ r f t p =

@@ -2,14 +2,14 @@
 use mathlib.Core.Path.{_≡_, refl, sym, ap, _∙_, subst}
 use mathlib.Core.Bool.{true}
 use mathlib.Core.List.{List, [], _∷_, _++_, append-nil, append-assoc}
-use Prim.Native.Nat.{ℕ, _+_, _<_, _≤_}
+use Prim.Native.Nat.{ℕ, _+_, _-_, _<_, _≤_, min}
 use native.Mathlib.Numerals.{add-one}
-use borrow.Author.Tests.{eq-eqb, ne-eqb}
+use borrow.Author.Tests.{eq-eqb, ne-eqb, ltb-false}
 use lib.ListN.{length, getD, take, drop}
 use lib.Seq.{take-suc, take-all}
 use Rattle.words.specs.Saturating.{saturatingAdd, max64}
 use Rattle.script.specs.Script.{Parsed}
-use Rattle.script.specs.Scan.{Parses, over}
+use Rattle.script.specs.Scan.{part, Parses, over}
 use Rattle.script.specs.declared.Line.{Line}
 use Rattle.play.specs.declared.Cut.{Cut}
 use Rattle.play.specs.declared.Settings.{Settings}
@@ -18,8 +18,9 @@ use Rattle.play.specs.declared.Session.{Session}
 use Rattle.play.specs.Cut.{Holds}
 use Rattle.play.specs.Gathered.{Gathers, Does}
 use Rattle.play.specs.Playing.{Play, Room, Obeyed, obeyed, settingsAfter, said, lineEnds, byteComes, bytesCome, beginning, begins}
-use Rattle.play.specs.Played.{Stands, Follows, Reads, Lends, countOf, roomOf}
-use Rattle.play.proofs.Counting.{Counts, counts-said}
+use Rattle.play.specs.Played.{Stands, Follows, Reads, Lends, wordsIn, bytesIn, roomOf}
+use Rattle.play.proofs.Cutting.{whole-there}
+use Rattle.play.proofs.Saying.{obeyed-said}
 
 pub begins-there : (line w out : List ℕ) (c : Cut) (t : Settings) → Holds line c [] → t ≡ beginning
     → Stands line (record { line = 0; cut = c; settings = t; output = record { at = 0; «open» = true } }) w out (begins w)
@@ -39,37 +40,47 @@ goes-out line w out s r p e h =
     }
 
 -- A LINE ENDS ------------------------------------------------------------------------------------------------------------------------
--- with the words that it counts, a line does what it does with its own
-said-does : (os es k n count : ℕ) (q : Parsed) (list list′ : List ℕ) (l : Line) (t : Settings) (w : List ℕ)
-    → Counts q → Parses q list list′ l → count ≡ countOf l → Lends count list′ n
-    → obeyed os es k l (take n list′) t w ≡ obeyed os es k (q .line) (q .list) t w
-said-does os es k n count q list list′ l t w f x i e =
-    ap (λ z. obeyed os es k l z t w) (e .first ∙ ap (λ z. take z list′) i)
-    ∙ ap (λ z. obeyed os es k l (take (countOf l) z) t w) (x .list)
-    ∙ ap (λ z. obeyed os es k z (take (countOf z) (over (q .list) list)) t w) (x .line)
-    ∙ f os es k (drop (length (q .list)) list) t w
+-- with what stands in the buffers, a line does what it does with its own list and text
+said-does : (m : Room) (os es k n count end from : ℕ) (line : List ℕ) (c : Cut) (bytes list list′ : List ℕ) (l : Line) (t : Settings) (w : List ℕ)
+    → m .line ≡ length line → Holds line c bytes → Parses (said m bytes) list list′ l → count ≡ wordsIn l → Lends count list′ n
+    → end ≡ min (c .len) (length line) → from ≡ end - bytesIn l
+    → obeyed os es k l (take n list′) (part line from end) t w ≡ obeyed os es k (said m bytes .line) (said m bytes .list) (said m bytes .text) t w
+said-does m os es k n count end from line c bytes list list′ l t w e h x i y f g =
+    let q = said m bytes in
+    ap (λ z. obeyed os es k l z (part line from end) t w) (y .first ∙ ap (λ z. take z list′) i)
+    ∙ ap (λ z. obeyed os es k l (take (wordsIn l) z) (part line from end) t w) (x .list)
+    ∙ ap (λ z. obeyed os es k z (take (wordsIn z) (over (q .list) list)) (part line from end) t w) (x .line)
+    ∙ obeyed-said os es k t w m line bytes (drop (length (q .list)) list) end from
+    (λ u.
+    let v = whole-there line c bytes h (ltb-false (length line) (length bytes) (rw e at u)) in
+    (v .0, f ∙ v .1))
+    (g ∙ ap (λ z. end - bytesIn z) (x .line))
 
-pub line-ended : (m : Room) (line : List ℕ) (s : Session) (w out list list′ : List ℕ) (l : Line) (k n count : ℕ) (c : Cut) (t : Settings) (w′ out′ : List ℕ) (o : Stream) (p : Play)
+pub line-ended : (m : Room) (line : List ℕ) (s : Session) (w out list list′ : List ℕ) (l : Line) (k n count end from : ℕ) (c : Cut) (t : Settings) (w′ out′ : List ℕ) (o : Stream) (p : Play)
+    → m .line ≡ length line
     → ((bytes : List ℕ) → Holds line (s .cut) bytes → Parses (said m bytes) list list′ l)
-    → count ≡ countOf l
+    → count ≡ wordsIn l
     → Lends count list′ n
+    → end ≡ min (s .cut .len) (length line)
+    → from ≡ end - bytesIn l
     → k ≡ saturatingAdd max64 (s .line) 1
-    → Does (obeyed (m .outcomes) (m .effects) k l (take n list′) (s .settings) w) out (s .output) w′ out′ o
+    → Does (obeyed (m .outcomes) (m .effects) k l (take n list′) (part line from end) (s .settings) w) out (s .output) w′ out′ o
     → Holds line c []
     → t ≡ settingsAfter l (s .settings)
     → Stands line s w out p
     → Stands line (record { line = k; cut = c; settings = t; output = o }) w′ out′ (lineEnds m p)
 unfolding lineEnds
-line-ended m line s w out list list′ l k n count c t w′ out′ o p parses counts lends number does none settings h =
+line-ended m line s w out list list′ l k n count end from c t w′ out′ o p room parses counts lends ends begins number does none settings h =
     let q = said m (p .text) in
     let x = parses (p .text) (h .text) in
     let j = saturatingAdd max64 (p .number) 1 in
     let i : k ≡ j = number ∙ ap (λ z. saturatingAdd max64 z 1) (h .number) in
-    let same : obeyed (m .outcomes) (m .effects) k l (take n list′) (s .settings) w ≡ obeyed (m .outcomes) (m .effects) j (q .line) (q .list) (p .settings) (p .store) =
-    said-does (m .outcomes) (m .effects) k n count q list list′ l (s .settings) w (counts-said m (p .text)) x counts lends
-    ∙ ap (λ z. obeyed (m .outcomes) (m .effects) z (q .line) (q .list) (s .settings) w) i
-    ∙ ap (λ z. obeyed (m .outcomes) (m .effects) j (q .line) (q .list) z w) (h .settings)
-    ∙ ap (λ z. obeyed (m .outcomes) (m .effects) j (q .line) (q .list) (p .settings) z) (h .store)
+    let here = obeyed (m .outcomes) (m .effects) k l (take n list′) (part line from end) (s .settings) w in
+    let same : here ≡ obeyed (m .outcomes) (m .effects) j (q .line) (q .list) (q .text) (p .settings) (p .store) =
+    said-does m (m .outcomes) (m .effects) k n count end from line (s .cut) (p .text) list list′ l (s .settings) w room (h .text) x counts lends ends begins
+    ∙ ap (λ z. obeyed (m .outcomes) (m .effects) z (q .line) (q .list) (q .text) (s .settings) w) i
+    ∙ ap (λ z. obeyed (m .outcomes) (m .effects) j (q .line) (q .list) (q .text) z w) (h .settings)
+    ∙ ap (λ z. obeyed (m .outcomes) (m .effects) j (q .line) (q .list) (q .text) (p .settings) z) (h .store)
     in
     let g = does .lines in
     record {
@@ -80,8 +91,8 @@ line-ended m line s w out list list′ l k n count c t w′ out′ o p parses co
       gone = h .gone ++ g .gone;
       printed =
           append-assoc (h .gone) (g .gone) (take (o .at) out′) ∙ ap (λ z. h .gone ++ z) (g .bytes-stand)
-          ∙ sym (append-assoc (h .gone) (take (s .output .at) out) (obeyed (m .outcomes) (m .effects) k l (take n list′) (s .settings) w .lines))
-          ∙ ap (λ z. z ++ obeyed (m .outcomes) (m .effects) k l (take n list′) (s .settings) w .lines) (h .printed)
+          ∙ sym (append-assoc (h .gone) (take (s .output .at) out) (here .lines))
+          ∙ ap (λ z. z ++ here .lines) (h .printed)
           ∙ ap (λ z. p .printed ++ z .lines) same;
     }
 

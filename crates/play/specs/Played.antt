@@ -1,11 +1,12 @@
 -- The session, with its buffers, stands where the script does.
-use Prim.Native.Nat.{ℕ, min}
+use Prim.Native.Nat.{ℕ, min, _≤_}
 use mathlib.Core.Path.{_≡_}
 use mathlib.Core.List.{List, _++_}
 use lib.ListN.{length, take, drop}
 use Rattle.io.specs.Counts.{Counts}
 use Rattle.script.specs.declared.Line.{Line}
-use Rattle.script.specs.declared.Line.the-variants.{Blank, New, Load, Unload, Enable, Tick, Run, Deadline, Counters, Lend, Size, Poke, Peek, Bad}
+use Rattle.script.specs.declared.Line.the-variants.{Blank, Command, Bad}
+use Rattle.script.specs.Print.{largestOf}
 use Rattle.play.specs.declared.Session.{Session}
 use Rattle.play.specs.Cut.{Holds}
 use Rattle.play.specs.Playing.{Room, Play, bytesCome}
@@ -17,22 +18,23 @@ pub record Lends (n : ℕ) (words : List ℕ) (r : ℕ) : Type 0 where
   pub first : take r words ≡ take n words
   pub rest : drop r words ≡ drop n words
 
--- how many words of an image or a snapshot a line has
-abbrev pub countOf : Line → ℕ
-countOf Blank = 0
-countOf (New time) = 0
-countOf (Load time n) = n
-countOf (Unload time) = 0
-countOf (Enable rule on) = 0
-countOf (Tick n) = n
-countOf (Run rule dry n) = n
-countOf Deadline = 0
-countOf Counters = 0
-countOf (Lend os es) = 0
-countOf (Size n) = 0
-countOf (Poke place word) = 0
-countOf (Peek place) = 0
-countOf (Bad wrong) = 0
+-- how many words of a list and how many bytes of a text a line has
+abbrev pub wordsIn : Line → ℕ
+wordsIn Blank = 0
+wordsIn (Command call a b c d words bytes) = words
+wordsIn (Bad wrong) = 0
+
+abbrev pub bytesIn : Line → ℕ
+bytesIn Blank = 0
+bytesIn (Command call a b c d words bytes) = bytes
+bytesIn (Bad wrong) = 0
+
+-- the numbers of a call are within the ranges of its parameters
+abbrev pub Ranged : Line → Type 0
+Ranged Blank = Unit {0}
+Ranged (Command call a b c d words bytes) =
+    (a ≤ largestOf call 0) × (b ≤ largestOf call 1) × (c ≤ largestOf call 2) × (d ≤ largestOf call 3)
+Ranged (Bad wrong) = Unit {0}
 
 abbrev pub roomOf : List ℕ → List ℕ → List ℕ → List ℕ → Room
 roomOf line list outcomes effects =

@@ -7,9 +7,10 @@ use Rattle.words.specs.Saturating.{saturatingAdd, max64}
 use Rattle.model.specs.Calls.{Call, new, load, unload, enable, tick, run, deadline, counters}
 use Rattle.model.specs.OnWords.{callOn}
 use Rattle.cerambiu.specs.Called.{Called, answered}
+use Rattle.script.specs.Table.{rows}
 use Rattle.script.specs.Script.{Parsed, plain, parse, pick}
 use Rattle.script.specs.declared.Line.{Line}
-use Rattle.script.specs.declared.Line.the-variants.{Blank, New, Load, Unload, Enable, Tick, Run, Deadline, Counters, Lend, Size, Poke, Peek, Bad}
+use Rattle.script.specs.declared.Line.the-variants.{Blank, Command, Bad}
 use Rattle.script.specs.declared.Wrong.the-variants.{LineTooLong}
 use Rattle.script.specs.Print.{peekLine, wrongLine}
 use Rattle.play.specs.declared.Settings.{Settings}
@@ -31,38 +32,39 @@ calling n c w = record { store = seenOn n c w .store ++ drop n w; lines = callLi
 abbrev pub quiet : List ℕ → Obeyed
 quiet w = record { store = w; lines = [] }
 
--- line number k, with the words of its image or snapshot, where the player has so many words to lend for outcomes and for effects
-abbrev pub obeyed : ℕ → ℕ → ℕ → Line → List ℕ → Settings → List ℕ → Obeyed
-obeyed os es k Blank list t w = quiet w
-obeyed os es k (New time) list t w = calling (t .size) (new time) w
-obeyed os es k (Load time n) list t w = calling (t .size) (load time list) w
-obeyed os es k (Unload time) list t w = calling (t .size) (unload time) w
-obeyed os es k (Enable rule on) list t w = calling (t .size) (enable rule on) w
-obeyed os es k (Tick n) list t w = calling (t .size) (tick list (min (t .outcomes) os) (min (t .effects) es)) w
-obeyed os es k (Run rule dry n) list t w = calling (t .size) (run rule dry list (min (t .outcomes) os) (min (t .effects) es)) w
-obeyed os es k Deadline list t w = calling (t .size) deadline w
-obeyed os es k Counters list t w = calling (t .size) counters w
-obeyed os es k (Lend outcomes effects) list t w = quiet w
-obeyed os es k (Size n) list t w = quiet w
-obeyed os es k (Poke place word) list t w = quiet (set w place word)
-obeyed os es k (Peek place) list t w = record { store = w; lines = peekLine place (getD w place 0) }
-obeyed os es k (Bad wrong) list t w = record { store = w; lines = wrongLine k wrong }
+-- what each call of the table does, with its numbers a to d, the words of its list and the bytes of its text. Tick and run are lent words for outcomes
+-- and effects, of which the player has so many; a call that answers into a store of its own is lent words of those for effects
+unfoldable pub doings : ℕ → ℕ → Settings → List ℕ → List ℕ → ℕ → ℕ → ℕ → ℕ → List (List ℕ → Obeyed)
+doings os es t list text a b c d =
+    calling (t .size) (new a)
+    ∷ calling (t .size) (load a list)
+    ∷ calling (t .size) (unload a)
+    ∷ calling (t .size) (enable a (eqb b 1))
+    ∷ calling (t .size) (tick list (min (t .outcomes) os) (min (t .effects) es))
+    ∷ calling (t .size) (run a (eqb b 1) list (min (t .outcomes) os) (min (t .effects) es))
+    ∷ calling (t .size) deadline
+    ∷ calling (t .size) counters
+    ∷ quiet
+    ∷ quiet
+    ∷ (λ w. quiet (set w a b))
+    ∷ (λ w. record { store = w; lines = peekLine a (getD w a 0) })
+    ∷ []
+
+-- line number k
+abbrev pub obeyed : ℕ → ℕ → ℕ → Line → List ℕ → List ℕ → Settings → List ℕ → Obeyed
+obeyed os es k Blank list text t w = quiet w
+obeyed os es k (Command call a b c d words bytes) list text t w = getD (doings os es t list text a b c d) call quiet w
+obeyed os es k (Bad wrong) list text t w = record { store = w; lines = wrongLine k wrong }
 
 -- `lend` and `size` are for later calls
+abbrev pub settingsOf : ℕ → ℕ → ℕ → Settings → Settings
+settingsOf call a b t =
+    pick (eqb call 8) (record { size = t .size; outcomes = a; effects = b })
+    (pick (eqb call 9) (record { size = a; outcomes = t .outcomes; effects = t .effects }) t)
+
 abbrev pub settingsAfter : Line → Settings → Settings
 settingsAfter Blank t = t
-settingsAfter (New time) t = t
-settingsAfter (Load time n) t = t
-settingsAfter (Unload time) t = t
-settingsAfter (Enable rule on) t = t
-settingsAfter (Tick n) t = t
-settingsAfter (Run rule dry n) t = t
-settingsAfter Deadline t = t
-settingsAfter Counters t = t
-settingsAfter (Lend os es) t = record { size = t .size; outcomes = os; effects = es }
-settingsAfter (Size n) t = record { size = n; outcomes = t .outcomes; effects = t .effects }
-settingsAfter (Poke place word) t = t
-settingsAfter (Peek place) t = t
+settingsAfter (Command call a b c d words bytes) t = settingsOf call a b t
 settingsAfter (Bad wrong) t = t
 
 -- A SCRIPT ---------------------------------------------------------------------------------------------------------------------------
@@ -83,13 +85,13 @@ pub record Room : Type 0 where
 
 -- what the bytes of a line say
 unfoldable pub said : Room → List ℕ → Parsed
-said m bytes = pick (ltb (m .line) (length bytes)) (plain (Bad LineTooLong)) (parse (m .list) bytes)
+said m bytes = pick (ltb (m .line) (length bytes)) (plain (Bad LineTooLong)) (parse rows (m .list) bytes)
 
 unfoldable pub lineEnds : Room → Play → Play
 lineEnds m p =
     let q = said m (p .text) in
     let k = saturatingAdd max64 (p .number) 1 in
-    let a = obeyed (m .outcomes) (m .effects) k (q .line) (q .list) (p .settings) (p .store) in
+    let a = obeyed (m .outcomes) (m .effects) k (q .line) (q .list) (q .text) (p .settings) (p .store) in
     record { number = k; text = []; settings = settingsAfter (q .line) (p .settings); store = a .store; printed = p .printed ++ a .lines }
 
 -- a line ends with byte 10

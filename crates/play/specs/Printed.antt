@@ -1,6 +1,6 @@
 -- What is printed for a call, from what its caller sees: document 01, "Outcomes and effects", and the answers of the other calls.
 use Prim.Native.Nat.{ℕ, zero, suc, _+_, _*_}
-use mathlib.Core.List.{List, [], _++_}
+use mathlib.Core.List.{List, [], _∷_, _++_}
 use mathlib.Core.Option.{none, some}
 use lib.Dec.{eqb}
 use lib.ListN.{getD}
@@ -8,21 +8,33 @@ use Rattle.words.specs.Pairs.{joined}
 use Rattle.model.specs.World.{nowOf}
 use Rattle.model.specs.Calls.{Call, new, load, unload, enable, tick, run, deadline, counters}
 use Rattle.cerambiu.specs.Called.{Called}
+use Rattle.script.specs.Text.{bytesOf}
 use Rattle.script.specs.Script.{pick}
-use Rattle.script.specs.Print.{handledLine, outcomeLine, effectLine, enabledLine, deadlineLine, countersLine, refusedLine}
+use Rattle.script.specs.Print.{numbers, line, handledLine, enabledLine, deadlineLine, refusedLine}
+use Rattle.play.specs.declared.Columns.{Columns}
 
--- RECORDS OF THE LENT STORES: an outcome is 6 words, an effect 5 ------------------------------------------------------------------
-unfoldable pub effectAt : List ℕ → ℕ → List ℕ
-effectAt es i = effectLine (getD es (5 * i) 0) (getD es (5 * i + 1) 0) (getD es (5 * i + 2) 0) (getD es (5 * i + 3) 0) (getD es (5 * i + 4) 0)
+-- RECORDS OF LENT STORES ---------------------------------------------------------------------------------------------------------------
+-- n words from a place on
+unfoldable pub wordsAt : List ℕ → ℕ → ℕ → List ℕ
+wordsAt ws at zero = []
+wordsAt ws at (suc n) = wordsAt ws at n ++ getD ws (at + n) 0 ∷ []
 
--- so many effects, from number `first` on
-unfoldable pub effectLines : List ℕ → ℕ → ℕ → List ℕ
-effectLines es first zero = []
-effectLines es first (suc n) = effectLines es first n ++ effectAt es (first + n)
+-- a record is `width` words; a line of it shows so many, from word `from` on
+unfoldable pub rowLine : List ℕ → Columns → List ℕ → ℕ → List ℕ
+rowLine name x ws i = line name (numbers (wordsAt ws (x .width * i + x .from) (x .shown)))
+
+-- so many records, from number `first` on
+unfoldable pub rowLines : List ℕ → Columns → List ℕ → ℕ → ℕ → List ℕ
+rowLines name x ws first zero = []
+rowLines name x ws first (suc n) = rowLines name x ws first n ++ rowLine name x ws (first + n)
+
+-- "the word effect, kind and four words"
+abbrev pub effectLines : List ℕ → ℕ → ℕ → List ℕ
+effectLines es first n = rowLines (bytesOf "effect") (record { width = 5; from = 0; shown = 5 }) es first n
 
 -- "a line of the word rule, its first four fields and its count"
 unfoldable pub outcomeAt : List ℕ → ℕ → List ℕ
-outcomeAt os i = outcomeLine (getD os (6 * i) 0) (getD os (6 * i + 1) 0) (getD os (6 * i + 2) 0) (getD os (6 * i + 3) 0) (getD os (6 * i + 5) 0)
+outcomeAt os i = line (bytesOf "rule") (numbers (wordsAt os (6 * i) 4) ++ numbers (wordsAt os (6 * i + 5) 1))
 
 -- "followed by a line for each of its effects"
 unfoldable pub outcomeWith : List ℕ → List ℕ → ℕ → List ℕ
@@ -61,7 +73,7 @@ answerLines (enable rule on) r = enabledLine rule (eqb (getD (r .answer) 0 0) 1)
 answerLines (tick snap os es) r = handledLines 4 (nowOf snap) (r .answer) (r .outcomes) (r .effects)
 answerLines (run rule dry snap os es) r = handledLines 5 (nowOf snap) (r .answer) (r .outcomes) (r .effects)
 answerLines deadline r = deadlineOf (r .answer)
-answerLines counters r = countersLine (r .answer)
+answerLines counters r = line (bytesOf "counters") (numbers (wordsAt (r .answer) 0 17))
 
 -- a refusal returns its number only
 abbrev pub unlessRefused : ℕ → ℕ → List ℕ → List ℕ

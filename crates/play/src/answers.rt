@@ -1,14 +1,28 @@
 // What is printed for an answer: the number of its refusal, or its values.
 ghost use Prim.Native.Nat.{_+_, _≤_};
-ghost use mathlib.Core.List.{[], _++_};
+ghost use mathlib.Core.List.{[], _∷_, _++_};
 ghost use lib.Dec.{eqb};
 ghost use lib.ListN.{length, getD};
 ghost use Rattle.model.specs.World.{nowOf};
-ghost use Rattle.script.specs.Print.{enabledLine, countersLine};
-ghost use Rattle.play.specs.Printed.{effectAt, effectLines, outcomeAt, outcomeWith, outcomeLines, handledLines, deadlineOf, unlessRefused};
+ghost use Rattle.script.specs.Text.{bytesOf};
+ghost use Rattle.script.specs.Script.{pick};
+ghost use Rattle.script.specs.Print.{numbers, line, handledLine, enabledLine, peekLine, refusedLine};
+ghost use Rattle.play.specs.Printed.{wordsAt, rowLine, rowLines, effectLines, outcomeAt, outcomeWith, outcomeLines, handledLines, deadlineOf, unlessRefused};
 ghost use Rattle.play.specs.Gathered.{Gathers};
+use crate::Columns;
 use crate::Stream;
 use crate::output;
+
+// A refusal of any call.
+fn refused(o: Stream, out: &mut [u8], call: u32, number: u32) -> Stream
+    requires { ⌜ 1024 ≤ length (now out) ⌝ }
+    ensures { λ r. ⌜ Gathers (now (out .entry)) o (refusedLine call number) (now (out .exit)) r ⌝ }
+{
+    let p = output::name(o, out, call);
+    let q = output::text(p, out, b" refused");
+    let r = output::number(q, out, number as u64);
+    output::end(r, out)
+}
 
 // A call that has no values.
 pub fn done(o: Stream, out: &mut [u8], call: u32, number: u32) -> Stream
@@ -16,9 +30,19 @@ pub fn done(o: Stream, out: &mut [u8], call: u32, number: u32) -> Stream
     ensures { λ r. ⌜ Gathers (now (out .entry)) o (unlessRefused call number []) (now (out .exit)) r ⌝ }
 {
     if number != 0 {
-        return output::refused(o, out, call, number);
+        return refused(o, out, call, number);
     }
     o
+}
+
+fn known(o: Stream, out: &mut [u8], found: bool) -> Stream
+    requires { ⌜ 1024 ≤ length (now out) ⌝ }
+    ensures { λ r. ⌜ Gathers (now (out .entry)) o (pick found (bytesOf " yes") (bytesOf " no")) (now (out .exit)) r ⌝ }
+{
+    if found {
+        return output::text(o, out, b" yes");
+    }
+    output::text(o, out, b" no")
 }
 
 pub fn enabled(
@@ -33,10 +57,13 @@ pub fn enabled(
     ensures { λ r. ⌜ Gathers (now (out .entry)) o (unlessRefused call number (enabledLine rule (eqb (getD (now (answer .entry)) 0 0) 1))) (now (out .exit)) r ⌝ }
 {
     if number != 0 {
-        return output::refused(o, out, call, number);
+        return refused(o, out, call, number);
     }
     let mark = fields::word(answer, 0);
-    output::enabled(o, out, rule, mark == 1)
+    let p = output::text(o, out, b"enable");
+    let q = output::number(p, out, rule as u64);
+    let r = known(q, out, mark == 1);
+    output::end(r, out)
 }
 
 pub fn deadline(o: Stream, out: &mut [u8], call: u32, number: u32, answer: &[u32]) -> Stream
@@ -44,50 +71,81 @@ pub fn deadline(o: Stream, out: &mut [u8], call: u32, number: u32, answer: &[u32
     ensures { λ r. ⌜ Gathers (now (out .entry)) o (unlessRefused call number (deadlineOf (now (answer .entry)))) (now (out .exit)) r ⌝ }
 {
     if number != 0 {
-        return output::refused(o, out, call, number);
+        return refused(o, out, call, number);
     }
     if fields::word(answer, 0) == 0 {
-        return output::no_deadline(o, out);
+        return output::text(o, out, b"deadline none\n");
     }
     let time = words::join_words(fields::word(answer, 1), fields::word(answer, 2));
-    output::deadline(o, out, time)
+    let p = output::text(o, out, b"deadline");
+    let q = output::number(p, out, time);
+    output::end(q, out)
 }
 
-pub fn counters(o: Stream, out: &mut [u8], call: u32, number: u32, answer: &[u32; 17]) -> Stream
+pub fn counters(o: Stream, out: &mut [u8], call: u32, number: u32, answer: &[u32]) -> Stream
     requires { ⌜ 1024 ≤ length (now out) ⌝ }
-    ensures { λ r. ⌜ Gathers (now (out .entry)) o (unlessRefused call number (countersLine (now (answer .entry)))) (now (out .exit)) r ⌝ }
+    ensures { λ r. ⌜ Gathers (now (out .entry)) o (unlessRefused call number (line (bytesOf "counters") (numbers (wordsAt (now (answer .entry)) 0 17)))) (now (out .exit)) r ⌝ }
 {
     if number != 0 {
-        return output::refused(o, out, call, number);
+        return refused(o, out, call, number);
     }
-    output::counters(o, out, answer)
+    let p = output::text(o, out, b"counters");
+    let q = output::words(p, out, answer, 0, 17);
+    output::end(q, out)
 }
 
-// Effect i of an outcome whose effects start with number `first`: its kind and four words.
-fn effect_at(o: Stream, out: &mut [u8], first: u32, i: u32, effects: &[u32]) -> Stream
+pub fn peeked(o: Stream, out: &mut [u8], place: u64, word: u32) -> Stream
     requires { ⌜ 1024 ≤ length (now out) ⌝ }
-    ensures { λ r. ⌜ Gathers (now (out .entry)) o (effectAt (now (effects .entry)) (first + i)) (now (out .exit)) r ⌝ }
+    ensures { λ r. ⌜ Gathers (now (out .entry)) o (peekLine place word) (now (out .exit)) r ⌝ }
 {
-    let at = exec::EFFECT_WORDS * (first as usize + i as usize);
-    let kind = fields::word(effects, at);
-    let a = fields::word(effects, at + 1);
-    let b = fields::word(effects, at + 2);
-    let c = fields::word(effects, at + 3);
-    let d = fields::word(effects, at + 4);
-    output::effect(o, out, kind, a, b, c, d)
+    let p = output::text(o, out, b"peek");
+    let q = output::number(p, out, place);
+    let r = output::number(q, out, word as u64);
+    output::end(r, out)
 }
 
-fn effects_of(o: Stream, out: &mut [u8], first: u32, count: u32, effects: &[u32]) -> Stream
-    requires { ⌜ 1024 ≤ length (now out) ⌝ }
-    ensures { λ r. ⌜ Gathers (now (out .entry)) o (effectLines (now (effects .entry)) first count) (now (out .exit)) r ⌝ }
+// Words of record i behind a name.
+fn row(o: Stream, out: &mut [u8], name: &[u8], x: Columns, ws: &[u32], i: usize) -> Stream
+    requires { ⌜ (1024 ≤ length (now out)) × (length (now name) ≤ 32) × (x .width ≤ 64) × (x .from ≤ 64) × (x .shown ≤ 64) × (i ≤ 8589934592) ⌝ }
+    ensures { λ r. ⌜ Gathers (now (out .entry)) o (rowLine (now (name .entry)) x (now (ws .entry)) i) (now (out .exit)) r ⌝ }
+{
+    let p = output::text(o, out, name);
+    let q = output::words(p, out, ws, x.width * i + x.from, x.shown);
+    output::end(q, out)
+}
+
+// So many records of a lent store, from number `first` on.
+fn rows(
+    o: Stream,
+    out: &mut [u8],
+    name: &[u8],
+    x: Columns,
+    ws: &[u32],
+    first: u32,
+    count: u32,
+) -> Stream
+    requires { ⌜ (1024 ≤ length (now out)) × (length (now name) ≤ 32) × (x .width ≤ 64) × (x .from ≤ 64) × (x .shown ≤ 64) ⌝ }
+    ensures { λ r. ⌜ Gathers (now (out .entry)) o (rowLines (now (name .entry)) x (now (ws .entry)) first count) (now (out .exit)) r ⌝ }
 {
     let mut t = o;
     let mut i = 0;
     while i < count {
-        t = effect_at(t, out, first, i, effects);
+        t = row(t, out, name, x, ws, first as usize + i as usize);
         i += 1;
     }
     t
+}
+
+pub fn effects_of(o: Stream, out: &mut [u8], first: u32, count: u32, effects: &[u32]) -> Stream
+    requires { ⌜ 1024 ≤ length (now out) ⌝ }
+    ensures { λ r. ⌜ Gathers (now (out .entry)) o (effectLines (now (effects .entry)) first count) (now (out .exit)) r ⌝ }
+{
+    let x = Columns {
+        width: exec::EFFECT_WORDS,
+        from: 0,
+        shown: exec::EFFECT_WORDS,
+    };
+    rows(o, out, b"effect", x, effects, first, count)
 }
 
 // Outcome i: rule, dry, trigger, reason and the count of its effects.
@@ -96,12 +154,10 @@ fn outcome_line(o: Stream, out: &mut [u8], i: u32, outcomes: &[u32]) -> Stream
     ensures { λ r. ⌜ Gathers (now (out .entry)) o (outcomeAt (now (outcomes .entry)) i) (now (out .exit)) r ⌝ }
 {
     let at = activate::OUTCOME_WORDS * i as usize;
-    let rule = fields::word(outcomes, at);
-    let dry = fields::word(outcomes, at + 1);
-    let trigger = fields::word(outcomes, at + 2);
-    let reason = fields::word(outcomes, at + 3);
-    let count = fields::word(outcomes, at + 5);
-    output::outcome(o, out, rule, dry, trigger, reason, count)
+    let p = output::text(o, out, b"rule");
+    let q = output::words(p, out, outcomes, at, 4);
+    let r = output::words(q, out, outcomes, at + 5, 1);
+    output::end(r, out)
 }
 
 // Outcome i and its effects.
@@ -129,6 +185,17 @@ fn outcomes_of(o: Stream, out: &mut [u8], count: u32, outcomes: &[u32], effects:
     t
 }
 
+// A call that has outcomes, its time and their number.
+fn handled_line(o: Stream, out: &mut [u8], call: u32, time: u64, count: u32) -> Stream
+    requires { ⌜ 1024 ≤ length (now out) ⌝ }
+    ensures { λ r. ⌜ Gathers (now (out .entry)) o (handledLine call time count) (now (out .exit)) r ⌝ }
+{
+    let p = output::name(o, out, call);
+    let q = output::number(p, out, time);
+    let r = output::number(q, out, count as u64);
+    output::end(r, out)
+}
+
 // A tick or a run; its time is the snapshot's.
 pub fn handled(
     o: Stream,
@@ -144,9 +211,9 @@ pub fn handled(
     ensures { λ r. ⌜ Gathers (now (out .entry)) o (unlessRefused call number (handledLines call (nowOf (now (snapshot .entry))) (now (answer .entry)) (now (outcomes .entry)) (now (effects .entry)))) (now (out .exit)) r ⌝ }
 {
     if number != 0 {
-        return output::refused(o, out, call, number);
+        return refused(o, out, call, number);
     }
     let count = fields::word(answer, 0);
-    let t = output::handled(o, out, call, world::now_ms(snapshot), count);
+    let t = handled_line(o, out, call, world::now_ms(snapshot), count);
     outcomes_of(t, out, count, outcomes, effects)
 }

@@ -1,11 +1,12 @@
 // A line's call is made on the store, and its answer printed.
 ghost use Prim.Native.Nat.{_≤_, min};
 ghost use mathlib.Core.Path.{_≡_};
-ghost use lib.ListN.{length, set};
+ghost use lib.ListN.{length, getD, set};
 ghost use Rattle.model.specs.Calls as Calls;
-ghost use Rattle.play.specs.Playing.{calling, obeyed};
-ghost use Rattle.play.specs.Gathered.{Does};
-ghost use Rattle.play.specs.Played.{Lends, roomOf};
+ghost use Rattle.script.specs.Print.{peekLine, largestOf};
+ghost use Rattle.play.specs.Playing.{calling, quiet, doings, obeyed};
+ghost use Rattle.play.specs.Gathered.{Gathers, Does};
+ghost use Rattle.play.specs.Played.{Lends, Ranged};
 use crate::Settings;
 use crate::Stream;
 use crate::answers;
@@ -28,7 +29,7 @@ pub fn begin(store: &mut [u32])
     let _refusal = cerambiu::cerambiu_new(&mut store[..n], 0);
 }
 
-fn poke(store: &mut [u32], place: u32, word: u32)
+fn poke(store: &mut [u32], place: u64, word: u32)
     ensures { λ _. ⌜ now (store .exit) ≡ set (now (store .entry)) place word ⌝ }
 {
     let i = place as usize;
@@ -175,44 +176,96 @@ fn run(
     )
 }
 
-// Obeys a line; `list` are the words of its image or snapshot.
-pub fn obey(
+fn peek(o: Stream, place: u64, store: &[u32], out: &mut [u8]) -> Stream
+    requires { ⌜ 1024 ≤ length (now out) ⌝ }
+    ensures { λ r. ⌜ Gathers (now (out .entry)) o (peekLine place (getD (now (store .entry)) place 0)) (now (out .exit)) r ⌝ }
+{
+    let word = fields::word(store, place as usize);
+    answers::peeked(o, out, place, word)
+}
+
+// A call of the table, with its numbers, the words of its list and the bytes of its text.
+fn command(
     o: Stream,
-    number: u64,
-    l: Line,
+    call: u32,
+    a: u64,
+    b: u64,
+    c: u64,
+    d: u64,
     list: &[u32],
+    text: &[u8],
     t: Settings,
     store: &mut [u32],
     outcomes: &mut [u32],
     effects: &mut [u32],
     out: &mut [u8],
 ) -> Stream
-    requires { ⌜ 1024 ≤ length (now out) ⌝ }
-    ensures { λ r. ⌜ Does (obeyed (length (now (outcomes .entry))) (length (now (effects .entry))) number l (now (list .entry)) t (now (store .entry))) (now (out .entry)) o (now (store .exit)) (now (out .exit)) r ⌝ }
+    requires { ⌜ (1024 ≤ length (now out)) × (a ≤ largestOf call 0) × (b ≤ largestOf call 1) × (c ≤ largestOf call 2) × (d ≤ largestOf call 3) ⌝ }
+    ensures { λ r. ⌜ Does (getD (doings (length (now (outcomes .entry))) (length (now (effects .entry))) t (now (list .entry)) (now (text .entry)) a b c d) call quiet (now (store .entry))) (now (out .entry)) o (now (store .exit)) (now (out .exit)) r ⌝ }
 {
-    match l {
-        Line::New { time } => new(o, t.size, time, store, out),
-        Line::Load { time, count } => load(o, t.size, time, list, store, out),
-        Line::Unload { time } => unload(o, t.size, time, store, out),
-        Line::Enable { rule, on } => enable(o, t.size, rule, on, store, out),
-        Line::Tick { count } => tick(o, t, list, store, outcomes, effects, out),
-        Line::Run { rule, dry, count } => run(o, t, rule, dry, list, store, outcomes, effects, out),
-        Line::Deadline => deadline(o, t.size, store, out),
-        Line::Counters => counters(o, t.size, store, out),
-        Line::Poke { place, word } => {
-            poke(store, place, word);
+    match call {
+        calls::NEW => new(o, t.size, a, store, out),
+        calls::LOAD => load(o, t.size, a, list, store, out),
+        calls::UNLOAD => unload(o, t.size, a, store, out),
+        calls::ENABLE => enable(o, t.size, a as u32, b == 1, store, out),
+        calls::TICK => tick(o, t, list, store, outcomes, effects, out),
+        calls::RUN => run(o, t, a as u32, b == 1, list, store, outcomes, effects, out),
+        calls::DEADLINE => deadline(o, t.size, store, out),
+        calls::COUNTERS => counters(o, t.size, store, out),
+        calls::LEND => o,
+        calls::SIZE => o,
+        calls::POKE => {
+            poke(store, a, b as u32);
             o
         }
-        Line::Peek { place } => {
-            let word = fields::word(store, place as usize);
-            output::peeked(o, out, place, word)
+        calls::PEEK => peek(o, a, store, out),
+        _ => o,
+    }
+}
+
+// Obeys a line.
+pub fn obey(
+    o: Stream,
+    number: u64,
+    l: Line,
+    list: &[u32],
+    text: &[u8],
+    t: Settings,
+    store: &mut [u32],
+    outcomes: &mut [u32],
+    effects: &mut [u32],
+    out: &mut [u8],
+) -> Stream
+    requires { ⌜ (1024 ≤ length (now out)) × Ranged l ⌝ }
+    ensures { λ r. ⌜ Does (obeyed (length (now (outcomes .entry))) (length (now (effects .entry))) number l (now (list .entry)) (now (text .entry)) t (now (store .entry))) (now (out .entry)) o (now (store .exit)) (now (out .exit)) r ⌝ }
+{
+    match l {
+        Line::Blank => o,
+        Line::Command {
+            call,
+            a,
+            b,
+            c,
+            d,
+            words,
+            bytes,
+        } => {
+            command(
+                o,
+                call,
+                a,
+                b,
+                c,
+                d,
+                list,
+                text,
+                t,
+                store,
+                outcomes,
+                effects,
+                out,
+            )
         }
         Line::Bad(wrong) => output::wrong(o, out, number, wrong),
-        Line::Blank => o,
-        Line::Lend {
-            outcomes: _,
-            effects: _,
-        } => o,
-        Line::Size { words } => o,
     }
 }

@@ -3,8 +3,8 @@ ghost use Prim.Native.Nat.{ℕ, _≤_};
 ghost use mathlib.Core.Path.{_≡_};
 ghost use lib.ListN.{length};
 ghost use mathlib.Core.List.{List};
-ghost use Rattle.play.specs.Playing.{lineEnds, byteComes, bytesCome, settingsAfter, beginning, begins};
-ghost use Rattle.play.specs.Played.{Stands, Follows, countOf, roomOf};
+ghost use Rattle.play.specs.Playing.{lineEnds, byteComes, bytesCome, settingsOf, settingsAfter, beginning, begins};
+ghost use Rattle.play.specs.Played.{Stands, Follows, wordsIn, roomOf};
 use crate::Session;
 use crate::Settings;
 use crate::Stream;
@@ -34,52 +34,59 @@ pub fn begin() -> Session
     }
 }
 
+// What later calls are lent once a call was made.
+fn settings_of(call: u32, a: u64, b: u64, t: Settings) -> Settings
+    ensures { λ r. ⌜ r ≡ settingsOf call a b t ⌝ }
+{
+    if call == script::calls::LEND {
+        return Settings {
+            outcomes: a as usize,
+            effects: b as usize,
+            ..t
+        };
+    }
+    if call == script::calls::SIZE {
+        return Settings {
+            size: a as usize,
+            ..t
+        };
+    }
+    t
+}
+
 fn settings_after(l: Line, t: Settings) -> Settings
     ensures { λ r. ⌜ r ≡ settingsAfter l t ⌝ }
 {
     match l {
         Line::Blank => t,
-        Line::New { time } => t,
-        Line::Load { time, count } => t,
-        Line::Unload { time } => t,
-        Line::Enable { rule, on } => t,
-        Line::Tick { count } => t,
-        Line::Run { rule, dry, count } => t,
-        Line::Deadline => t,
-        Line::Counters => t,
-        Line::Lend { outcomes, effects } => Settings {
-            outcomes: outcomes as usize,
-            effects: effects as usize,
-            ..t
-        },
-        Line::Size { words } => Settings {
-            size: words as usize,
-            ..t
-        },
-        Line::Poke { place, word } => t,
-        Line::Peek { place } => t,
+        Line::Command {
+            call,
+            a,
+            b,
+            c,
+            d,
+            words,
+            bytes,
+        } => settings_of(call, a, b, t),
         Line::Bad(wrong) => t,
     }
 }
 
 // How many words of the lent list are the line's.
-fn count_of(l: Line) -> usize
-    ensures { λ r. ⌜ r ≡ countOf l ⌝ }
+fn words_in(l: Line) -> usize
+    ensures { λ r. ⌜ r ≡ wordsIn l ⌝ }
 {
     match l {
         Line::Blank => 0,
-        Line::New { time } => 0,
-        Line::Load { time, count } => count,
-        Line::Unload { time } => 0,
-        Line::Enable { rule, on } => 0,
-        Line::Tick { count } => count,
-        Line::Run { rule, dry, count } => count,
-        Line::Deadline => 0,
-        Line::Counters => 0,
-        Line::Lend { outcomes, effects } => 0,
-        Line::Size { words } => 0,
-        Line::Poke { place, word } => 0,
-        Line::Peek { place } => 0,
+        Line::Command {
+            call,
+            a,
+            b,
+            c,
+            d,
+            words,
+            bytes,
+        } => words,
         Line::Bad(wrong) => 0,
     }
 }
@@ -98,13 +105,16 @@ pub fn end_line(
     ensures { λ r. ⌜ Follows (lineEnds (roomOf (now (line .entry)) (now (list .entry)) (now (outcomes .entry)) (now (effects .entry)))) (now (line .entry)) s (now (store .entry)) (now (out .entry)) (now (line .entry)) r (now (store .exit)) (now (out .exit)) ⌝ }
 {
     let l = lines::say(line, s.cut, list);
-    let n = calls::within(count_of(l), list);
+    let n = calls::within(words_in(l), list);
+    let end = lines::end(line, s.cut);
+    let from = lines::text_start(end, l);
     let number = words::saturating_add_u64(s.line, 1);
     let output = calls::obey(
         s.output,
         number,
         l,
         &list[..n],
+        &line[from..end],
         s.settings,
         store,
         outcomes,

@@ -23,6 +23,13 @@ pub struct Settings {
     pub effects: usize,
 }
 
+// The words of a record that a line shows: so many from word `from` on, of `width`.
+pub struct Columns {
+    pub width: usize,
+    pub from: usize,
+    pub shown: usize,
+}
+
 // The output: bytes that are gathered, and whether it is still open.
 pub struct Stream {
     pub at: usize,
@@ -37,7 +44,8 @@ pub struct Session {
     pub output: Stream,
 }
 
-// The store has a word to spare, so that a call on one that is too long can be tried.
+// The store has a word to spare, so that a call on one that is too long can be tried. The words for effects also serve a call that answers into
+// a store of its own: nothing of them is kept from call to call.
 fn main() {
     let mut line = [0u8; 262144];
     let mut list = [0u32; 8192];

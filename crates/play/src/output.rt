@@ -1,17 +1,18 @@
-// Lines are gathered in a buffer, and written out when it is nearly full and whenever all input that has come is played.
+// What is printed is gathered in a buffer, and written out when it is nearly full and whenever all input that has come is played. A line is gathered
+// piece by piece, so that it may have any width.
 ghost use mathlib.Core.Path.{_≡_};
 ghost use Prim.Native.Nat.{_+_, _≤_};
-ghost use mathlib.Core.Option.{none, some};
-ghost use mathlib.Core.List.{[]};
+ghost use mathlib.Core.List.{[], _∷_};
 ghost use lib.ListN.{length};
 ghost use Rattle.io.specs.Counts.{Counts};
-ghost use Rattle.script.specs.Print.{handledLine, outcomeLine, effectLine, enabledLine, deadlineLine, countersLine, peekLine, refusedLine, wrongLine};
+ghost use Rattle.script.specs.Print.{numbers, callName, wrongLine, signed as Print·signed};
+ghost use Rattle.play.specs.Printed.{wordsAt};
 ghost use Rattle.play.specs.Gathered.{Gathers};
 use crate::Stream;
 use libc::STDOUT_FILENO;
 use script::Wrong;
 use script::complain;
-use script::print;
+use script::put;
 
 fn within(n: usize, bytes: &[u8]) -> usize
     ensures { λ r. ⌜ Counts r (now (bytes .entry)) ⌝ }
@@ -31,7 +32,7 @@ pub fn flush(o: Stream, out: &[u8]) -> Stream
     Stream { at: 0, open }
 }
 
-// Room for a line.
+// Room for a piece.
 fn room(o: Stream, out: &[u8]) -> Stream
     requires { ⌜ 1024 ≤ length (now out) ⌝ }
     ensures { λ r. ⌜ Gathers (now (out .entry)) o [] (now (out .entry)) r × (r .at + 1024 ≤ length (now (out .entry))) ⌝ }
@@ -42,105 +43,74 @@ fn room(o: Stream, out: &[u8]) -> Stream
     flush(o, out)
 }
 
-pub fn refused(o: Stream, out: &mut [u8], call: u32, number: u32) -> Stream
-    requires { ⌜ 1024 ≤ length (now out) ⌝ }
-    ensures { λ r. ⌜ Gathers (now (out .entry)) o (refusedLine call number) (now (out .exit)) r ⌝ }
+// Bytes as they are.
+pub fn text(o: Stream, out: &mut [u8], bytes: &[u8]) -> Stream
+    requires { ⌜ (1024 ≤ length (now out)) × (length (now bytes) ≤ 32) ⌝ }
+    ensures { λ r. ⌜ Gathers (now (out .entry)) o (now (bytes .entry)) (now (out .exit)) r ⌝ }
 {
     let t = room(o, out);
     let at = t.at;
-    let n = print::refused(&mut out[at..], call, number);
+    let n = put::text(&mut out[at..], 0, bytes);
     Stream { at: at + n, ..t }
 }
 
-pub fn enabled(o: Stream, out: &mut [u8], rule: u32, found: bool) -> Stream
+// The name of a call.
+pub fn name(o: Stream, out: &mut [u8], call: u32) -> Stream
     requires { ⌜ 1024 ≤ length (now out) ⌝ }
-    ensures { λ r. ⌜ Gathers (now (out .entry)) o (enabledLine rule found) (now (out .exit)) r ⌝ }
+    ensures { λ r. ⌜ Gathers (now (out .entry)) o (callName call) (now (out .exit)) r ⌝ }
 {
     let t = room(o, out);
     let at = t.at;
-    let n = print::enabled(&mut out[at..], rule, found);
+    let n = put::name(&mut out[at..], 0, call);
     Stream { at: at + n, ..t }
 }
 
-pub fn deadline(o: Stream, out: &mut [u8], time: u64) -> Stream
+// A number behind a space.
+pub fn number(o: Stream, out: &mut [u8], n: u64) -> Stream
     requires { ⌜ 1024 ≤ length (now out) ⌝ }
-    ensures { λ r. ⌜ Gathers (now (out .entry)) o (deadlineLine (some time)) (now (out .exit)) r ⌝ }
+    ensures { λ r. ⌜ Gathers (now (out .entry)) o (numbers (n ∷ [])) (now (out .exit)) r ⌝ }
 {
     let t = room(o, out);
     let at = t.at;
-    let n = print::deadline(&mut out[at..], time);
-    Stream { at: at + n, ..t }
+    let k = put::number(&mut out[at..], 0, n);
+    Stream { at: at + k, ..t }
 }
 
-pub fn no_deadline(o: Stream, out: &mut [u8]) -> Stream
+// A signed word behind a space.
+pub fn signed(o: Stream, out: &mut [u8], word: u32) -> Stream
     requires { ⌜ 1024 ≤ length (now out) ⌝ }
-    ensures { λ r. ⌜ Gathers (now (out .entry)) o (deadlineLine none) (now (out .exit)) r ⌝ }
+    ensures { λ r. ⌜ Gathers (now (out .entry)) o (Print·signed word) (now (out .exit)) r ⌝ }
 {
     let t = room(o, out);
     let at = t.at;
-    let n = print::no_deadline(&mut out[at..]);
+    let n = put::signed(&mut out[at..], 0, word);
     Stream { at: at + n, ..t }
 }
 
-pub fn counters(o: Stream, out: &mut [u8], values: &[u32; 17]) -> Stream
-    requires { ⌜ 1024 ≤ length (now out) ⌝ }
-    ensures { λ r. ⌜ Gathers (now (out .entry)) o (countersLine (now (values .entry))) (now (out .exit)) r ⌝ }
+// So many words of a store from a place on, each behind a space.
+pub fn words(o: Stream, out: &mut [u8], ws: &[u32], at: usize, n: usize) -> Stream
+    requires { ⌜ (1024 ≤ length (now out)) × (at + n ≤ 18446744073709551615) ⌝ }
+    ensures { λ r. ⌜ Gathers (now (out .entry)) o (numbers (wordsAt (now (ws .entry)) at n)) (now (out .exit)) r ⌝ }
 {
-    let t = room(o, out);
-    let at = t.at;
-    let n = print::counters(&mut out[at..], values);
-    Stream { at: at + n, ..t }
+    let mut t = o;
+    let mut i = 0;
+    while i < n {
+        let word = fields::word(ws, at + i);
+        t = number(t, out, word as u64);
+        i += 1;
+    }
+    t
 }
 
-pub fn peeked(o: Stream, out: &mut [u8], place: u32, word: u32) -> Stream
+// The end of a line.
+pub fn end(o: Stream, out: &mut [u8]) -> Stream
     requires { ⌜ 1024 ≤ length (now out) ⌝ }
-    ensures { λ r. ⌜ Gathers (now (out .entry)) o (peekLine place word) (now (out .exit)) r ⌝ }
+    ensures { λ r. ⌜ Gathers (now (out .entry)) o (10 ∷ []) (now (out .exit)) r ⌝ }
 {
-    let t = room(o, out);
-    let at = t.at;
-    let n = print::peeked(&mut out[at..], place, word);
-    Stream { at: at + n, ..t }
+    text(o, out, b"\n")
 }
 
-pub fn handled(o: Stream, out: &mut [u8], call: u32, time: u64, count: u32) -> Stream
-    requires { ⌜ 1024 ≤ length (now out) ⌝ }
-    ensures { λ r. ⌜ Gathers (now (out .entry)) o (handledLine call time count) (now (out .exit)) r ⌝ }
-{
-    let t = room(o, out);
-    let at = t.at;
-    let n = print::handled(&mut out[at..], call, time, count);
-    Stream { at: at + n, ..t }
-}
-
-pub fn outcome(
-    o: Stream,
-    out: &mut [u8],
-    rule: u32,
-    dry: u32,
-    trigger: u32,
-    reason: u32,
-    count: u32,
-) -> Stream
-    requires { ⌜ 1024 ≤ length (now out) ⌝ }
-    ensures { λ r. ⌜ Gathers (now (out .entry)) o (outcomeLine rule dry trigger reason count) (now (out .exit)) r ⌝ }
-{
-    let t = room(o, out);
-    let at = t.at;
-    let n = print::outcome(&mut out[at..], rule, dry, trigger, reason, count);
-    Stream { at: at + n, ..t }
-}
-
-pub fn effect(o: Stream, out: &mut [u8], kind: u32, a: u32, b: u32, c: u32, d: u32) -> Stream
-    requires { ⌜ 1024 ≤ length (now out) ⌝ }
-    ensures { λ r. ⌜ Gathers (now (out .entry)) o (effectLine kind a b c d) (now (out .exit)) r ⌝ }
-{
-    let t = room(o, out);
-    let at = t.at;
-    let n = print::effect(&mut out[at..], kind, a, b, c, d);
-    Stream { at: at + n, ..t }
-}
-
-// A line that is no call.
+// The line for text that is no call.
 pub fn wrong(o: Stream, out: &mut [u8], line: u64, w: Wrong) -> Stream
     requires { ⌜ 1024 ≤ length (now out) ⌝ }
     ensures { λ r. ⌜ Gathers (now (out .entry)) o (wrongLine line w) (now (out .exit)) r ⌝ }

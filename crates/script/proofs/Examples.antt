@@ -3,25 +3,36 @@ use mathlib.Core.Path.{_≡_, refl}
 use mathlib.Core.List.{List, [], _∷_, _++_, map}
 use mathlib.Core.Option.{none, some}
 use mathlib.Core.Bool.{true, false}
+use Prim.Native.Nat.{ℕ}
 use Prim.Native.String.{String}
+use lib.ListN.{length}
 use Rattle.script.specs.Text.{bytesOf}
-use Rattle.script.specs.Words.{uncommented, isSpace, wordsOf, isDigit, valueFrom, argumentOf}
-use Rattle.script.specs.Script.{Parsed, Line, plain, parse, parseWords, parseCall, withArgument, ending, listFrom, largestOf, takesList, lineOf}
-use Rattle.script.specs.Script.{Blank, New, Load, Enable, Tick, Run, Peek, Bad}
+use Rattle.script.specs.Words.{upTo, isSpace, wordsOf, pastSpace, pastWord, pastWords, isDigit, valueFrom, argumentOf}
+use Rattle.script.specs.Table.{Row, row, rows, mostOf, words, word, Words, Text}
+use Rattle.script.specs.Script.{Parsed, Line, plain, command, callNamed, parse, parseCall, numbersFrom, ending, behindName, listFrom}
+use Rattle.script.specs.Script.{Blank, Command, Bad}
 use Rattle.script.specs.Script.{NoSuchCall, Missing, NotDecimal, OutOfRange, WordNotDecimal, WordOutOfRange, TooManyWords, ListTooLong, LineTooLong}
-use Rattle.script.specs.Print.{digits, digitCount, decimal, numbers, callName, handledLine, outcomeLine, effectLine, enabledLine, deadlineLine, peekLine, refusedLine, paramName, overText, ofCall, wrongText, wrongLine}
+use Rattle.script.specs.Print.{digits, digitCount, decimal, numbers, integer, signed, line, callName, handledLine, enabledLine, deadlineLine, peekLine, refusedLine, paramName, largestOf, overText, ofCall, wrongText, wrongLine}
 
 -- a line, with room for four words of a list
+saysOf : List Row → String → Parsed
+unfolding parse parseCall callNamed numbersFrom ending behindName listFrom command rows mostOf upTo isSpace wordsOf pastSpace pastWord pastWords isDigit valueFrom argumentOf
+saysOf t s = parse t 4 (bytesOf s)
+
 says : String → Parsed
-unfolding parse parseWords parseCall withArgument ending listFrom largestOf takesList lineOf uncommented isSpace wordsOf isDigit valueFrom argumentOf
-says s = parse 4 (bytesOf s)
+unfolding saysOf rows
+says s = saysOf rows s
+
+-- a call with two numbers and so many words of a list
+made : ℕ → ℕ → ℕ → ℕ → Line
+made call a b n = Command call a b 0 0 n 0
 
 calls :
     map says
     (" # new 5" ∷ "\tnew 18446744073709551615#5" ∷ "new 000000000000000000000000001\r\n" ∷ "enable 4294967295 1" ∷ "run 5 0" ∷ "load 7 1 2 3 4" ∷ [])
-    ≡ plain Blank ∷ plain (New 18446744073709551615) ∷ plain (New 1) ∷ plain (Enable 4294967295 true) ∷ plain (Run 5 false 0)
-    ∷ record { line = Load 7 4; list = 1 ∷ 2 ∷ 3 ∷ 4 ∷ [] } ∷ []
-unfolding says
+    ≡ plain Blank ∷ plain (made 0 18446744073709551615 0 0) ∷ plain (made 0 1 0 0) ∷ plain (made 3 4294967295 1 0) ∷ plain (made 5 5 0 0)
+    ∷ record { line = made 1 7 0 4; list = 1 ∷ 2 ∷ 3 ∷ 4 ∷ []; text = [] } ∷ []
+unfolding says made
 calls = refl
 
 wrong :
@@ -34,29 +45,50 @@ wrong = refl
 
 wrong-lists :
     map says ("tick 1 +1" ∷ "tick 1 4294967296 x" ∷ "load 0 1 2 3 4 x" ∷ [])
-    ≡ record { line = Bad (WordNotDecimal 4 1); list = 1 ∷ [] } ∷ record { line = Bad (WordOutOfRange 4 1); list = 1 ∷ [] }
-    ∷ record { line = Bad (ListTooLong 1 4); list = 1 ∷ 2 ∷ 3 ∷ 4 ∷ [] } ∷ []
+    ≡ record { line = Bad (WordNotDecimal 4 1); list = 1 ∷ []; text = [] } ∷ record { line = Bad (WordOutOfRange 4 1); list = 1 ∷ []; text = [] }
+    ∷ record { line = Bad (ListTooLong 1 4); list = 1 ∷ 2 ∷ 3 ∷ 4 ∷ []; text = [] } ∷ []
 unfolding says
 wrong-lists = refl
 
--- the lines of document 01
-play :
-    handledLine 5 0 1 ++ (outcomeLine 5 0 0 0 1 ++ (effectLine 11 7 0 0 0 ++ (handledLine 4 999 0
-    ++ (handledLine 4 1000 1 ++ (outcomeLine 5 0 0 0 1 ++ effectLine 11 9 0 0 0)))))
-    ≡ bytesOf "run 0 1\nrule 5 0 0 0 1\neffect 11 7 0 0 0\ntick 999 0\ntick 1000 1\nrule 5 0 0 0 1\neffect 11 9 0 0 0\n"
-unfolding handledLine outcomeLine effectLine callName numbers decimal digits digitCount
-play = refl
+-- a table with a call that takes a text, and one with four numbers
+later : List Row
+later = row "say" (word ∷ words ∷ []) Text ∷ row "four" (word ∷ word ∷ word ∷ word ∷ []) Words ∷ []
+
+said : String → Parsed
+said t = record { line = Command 0 6 16 0 0 0 (length (bytesOf t)); list = []; text = bytesOf t }
+
+texts :
+    map (saysOf later) ("say 6 16 # 5 * # x" ∷ "say 6  16" ∷ "say 6 16 " ∷ "say 6 16  a" ∷ [])
+    ≡ map said ("# 5 * # x" ∷ "" ∷ "" ∷ " a" ∷ [])
+unfolding saysOf later said
+texts = refl
+
+wrong-texts :
+    map (saysOf later) ("say # 5" ∷ "say 6 16#x" ∷ "say#6 16 x" ∷ "say 6" ∷ [])
+    ≡ map (λ w. plain (Bad w)) (NotDecimal 0 0 ∷ NotDecimal 0 1 ∷ NotDecimal 0 0 ∷ Missing 0 1 ∷ [])
+unfolding saysOf later
+wrong-texts = refl
+
+four-numbers : saysOf later "four 1 2 3 4 5 6 # 7" ≡ record { line = Command 1 1 2 3 4 2 0; list = 5 ∷ 6 ∷ []; text = [] }
+unfolding saysOf later
+four-numbers = refl
 
 others :
-    enabledLine 5 true ++ (deadlineLine none ++ (deadlineLine (some 18446744073709551615) ++ (peekLine 13691 2 ++ refusedLine 1 10)))
-    ≡ bytesOf "enable 5 yes\ndeadline none\ndeadline 18446744073709551615\npeek 13691 2\nload refused 10\n"
-unfolding enabledLine deadlineLine peekLine refusedLine callName numbers decimal digits digitCount
+    handledLine 5 0 1 ++ enabledLine 5 true ++ deadlineLine none ++ deadlineLine (some 18446744073709551615) ++ peekLine 13691 2 ++ refusedLine 1 10
+    ≡ bytesOf "run 0 1\nenable 5 yes\ndeadline none\ndeadline 18446744073709551615\npeek 13691 2\nload refused 10\n"
+unfolding handledLine enabledLine deadlineLine peekLine refusedLine callName rows line numbers decimal digits digitCount
 others = refl
+
+signed-words :
+    line (bytesOf "start") (numbers (0 ∷ 9 ∷ []) ++ signed 4294937296) ++ line (bytesOf "ends") (signed 2147483647 ++ signed 2147483648 ++ signed 4294967295 ++ signed 0)
+    ≡ bytesOf "start 0 9 -30000\nends 2147483647 -2147483648 -1 0\n"
+unfolding line signed integer numbers decimal digits digitCount
+signed-words = refl
 
 bad-text :
     wrongLine 7 (Missing 0 0) ++ (wrongLine 10 (OutOfRange 0 0) ++ (wrongLine 11 (OutOfRange 3 1) ++ (wrongLine 12 (OutOfRange 8 0)
     ++ (wrongLine 13 (WordOutOfRange 1 17) ++ (wrongLine 14 (ListTooLong 4 8192) ++ wrongLine 15 LineTooLong)))))
     ≡ bytesOf
     "line 7: new: time is missing\nline 10: new: time does not fit into 64 bits\nline 11: enable: mark is neither 0 nor 1\nline 12: lend: number of outcome words is over 24576\nline 13: load: word 17 does not fit into 32 bits\nline 14: tick: more than 8192 words\nline 15: line too long\n"
-unfolding wrongLine wrongText ofCall paramName overText largestOf callName numbers decimal digits digitCount
+unfolding wrongLine wrongText ofCall paramName overText largestOf mostOf callName rows line numbers decimal digits digitCount
 bad-text = refl

@@ -3,6 +3,7 @@ pub mod Splits
 pub mod Decimal
 pub mod Tables
 pub mod Reading
+pub mod Ways
 pub mod Putting
 pub mod Lines
 pub mod Examples

@@ -10,7 +10,7 @@ use borrow.Author.Tests.{lt-ltb, le-ltb}
 use lib.Dec.{ltb}
 use lib.ListN.{length, getD, take, drop, set, length-set, length-take, length-drop, drop-of-length-le}
 use lib.Seq.{take-suc, take-suc-set, take-set-le, take-set-lt, drop-set-add, take-add, take-length, set-split, drop-at, length-take-le}
-use Rattle.script.specs.Print.{digits, digitCount, decimal, numbers}
+use Rattle.script.specs.Print.{digits, digitCount, decimal, numbers, integer, signed}
 use Rattle.script.specs.Put.{Puts, Prints}
 
 -- A LIST COPIED. The invariant of the loop at i: the first i elements of t stand behind the first `at` of b.
@@ -33,11 +33,11 @@ module _ (t b : List ℕ) (at : ℕ) where
         within = omega arith;
       }
 
-  pub copy-ends : (now : List ℕ) (i : ℕ) → Copied t b now at i → length t ≤ i → length t ≤ 32 → Puts b at 1 t now (at + length t)
+  pub copy-ends : (now : List ℕ) (i : ℕ) → Copied t b now at i → length t ≤ i → length t ≤ 32 → Puts b at 1 t now (at + i)
   copy-ends now i c h s =
       let e : i ≡ length t = omega (arith, c .within) in
       record {
-        bytes-stand = rw (e, take-length) at (c .bytes-stand);
+        bytes-stand = c .bytes-stand ∙ rw (e, take-length) refl;
         ends = omega arith;
         same = c .same;
       }
@@ -50,6 +50,9 @@ then {b} {m} {a} {xs} {ys} {at} {r} {s} {p} {q} x y =
       ends = omega (arith, x .ends, y .ends);
       same = y .same ∙ x .same;
     }
+
+pub nothing-put : (b : List ℕ) (at : ℕ) {l : List ℕ} → l ≡ [] → Puts b at 1 l b at
+nothing-put b at e = record { bytes-stand = rw e (sym (append-nil (take at b))); ends = omega arith; same = refl }
 
 -- HOW MANY DIGITS. The invariant of the loop at k: so many are left.
 abbrev pub Counting : ℕ → ℕ → ℕ → Type 0
@@ -139,22 +142,35 @@ put-number b a at k n room e s bytes same =
       same = same ∙ length-set b at 32;
     }
 
--- WORDS
-pub numbers-append : (xs ys : List ℕ) → numbers (xs ++ ys) ≡ numbers xs ++ numbers ys
-unfolding numbers
-numbers-append [] ys = refl
-numbers-append (x ∷ xs) ys = rw (numbers-append xs ys, append-assoc)
+-- a space, a minus and a number
+pub put-minus : (b a : List ℕ) (at k n : ℕ) → at + 32 ≤ length b → k ≡ digitCount 19 n → k ≤ 20
+    → take (at + 2 + k) a ≡ take (at + 2) (set (set b at 32) (at + 1) 45) ++ digits k n → length a ≡ length (set (set b at 32) (at + 1) 45)
+    → Puts b at 1 (32 ∷ 45 ∷ decimal n) a (at + 2 + k)
+unfolding decimal
+put-minus b a at k n room e s bytes same =
+    let h : at < length b = omega arith in
+    let h′ : at + 1 < length (set b at 32) = rw length-set (omega arith) in
+    let two : take (at + 2) (set (set b at 32) (at + 1) 45) ≡ (take at b ++ 32 ∷ []) ++ 45 ∷ [] =
+    let m : at + 2 ≡ suc (at + 1) = omega arith in
+    rw (m, take-suc-set (set b at 32) (at + 1) 45 h′, add-one, take-suc-set b at 32 h) refl
+    in
+    record {
+      bytes-stand = bytes ∙ rw (two, e, append-assoc, append-assoc) refl;
+      ends = omega arith;
+      same = same ∙ (length-set (set b at 32) (at + 1) 45 ∙ length-set b at 32);
+    }
 
-pub words-start : (b : List ℕ) (at : ℕ) → Puts b at 0 (numbers []) b at
-unfolding numbers
-words-start b at = record { bytes-stand = sym (append-nil (take at b)); ends = omega arith; same = refl }
+-- a signed word: its bits as they are, or a minus and what they lack of 2^32
+module _ (w : ℕ) where
+  pub not-negative : w < 2147483648 → numbers (w ∷ []) ≡ signed w
+  unfolding numbers signed integer
+  not-negative h = rw (lt-ltb w 2147483648 h, append-nil) refl
 
-pub words-go : (b m a ws : List ℕ) (at i r s : ℕ) → Puts b at i (numbers (take i ws)) m r → i < length ws → Puts m r 1 (numbers (getD ws i 0 ∷ [])) a s
-    → Puts b at (i + 1) (numbers (take (i + 1) ws)) a s
-words-go b m a ws at i r s x h y =
-    let e : numbers (take (i + 1) ws) ≡ numbers (take i ws) ++ numbers (getD ws i 0 ∷ []) =
-    rw (add-one, take-suc ws i 0 h) (numbers-append (take i ws) (getD ws i 0 ∷ [])) in
-    rw e (then x y)
+  pub negative : 2147483648 ≤ w → w < 4294967296 → 32 ∷ 45 ∷ decimal (4294967296 - w) ≡ signed w
+  unfolding signed integer
+  negative h l =
+      let e : 4294967296 - w ≡ suc (4294967296 - suc w) = omega arith in
+      rw (le-ltb w 2147483648 h, e) refl
 
 -- LINES
 pub within-more : {b a xs : List ℕ} {at r p : ℕ} (q : ℕ) → Puts b at p xs a r → p ≤ q → Puts b at q xs a r
@@ -165,9 +181,3 @@ bytes-by x e = rw (← e) x
 
 pub printed : {b a xs : List ℕ} {r p : ℕ} (line : List ℕ) → Puts b 0 p xs a r → 32 * p ≤ length b → xs ≡ line → Prints line a r
 printed line x h e = record { bytes-stand = x .bytes-stand ∙ e; within = omega (arith, x .ends, x .same) }
-
-pub words-end : (b a ws : List ℕ) (at i r : ℕ) → Puts b at i (numbers (take i ws)) a r → length ws ≤ i → i ≤ length ws
-    → Puts b at (length ws) (numbers ws) a r
-words-end b a ws at i r x h l =
-    let e : i ≡ length ws = omega arith in
-    record { bytes-stand = rw (e, take-length) at (x .bytes-stand); ends = omega (arith, x .ends); same = x .same }

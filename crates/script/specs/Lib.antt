@@ -1,7 +1,9 @@
 pub mod Text
+pub mod Table
+pub mod Rows
 pub mod Words
 pub mod Script
 pub mod Scan
-pub mod Starts
+pub mod Names
 pub mod Print
 pub mod Put

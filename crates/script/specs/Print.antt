@@ -4,10 +4,13 @@ use mathlib.Core.Bool.{Bool, true, false}
 use mathlib.Core.List.{List, [], _∷_, _++_}
 use mathlib.Core.Option.{Option, none, some}
 use lib.Dec.{ltb, eqb}
+use lib.IntN.{ℤ, pos, negsuc}
 use lib.ListN.{getD}
 use Rattle.words.specs.Saturating.{max32, max64}
-use Rattle.script.specs.Text.{bytesOf, callNames}
-use Rattle.script.specs.Script.{pick, largestOf, Wrong, NoSuchCall, Missing, NotDecimal, OutOfRange, WordNotDecimal, WordOutOfRange, TooManyWords, ListTooLong, LineTooLong}
+use Rattle.words.specs.Signed.{signed32}
+use Rattle.script.specs.Text.{bytesOf}
+use Rattle.script.specs.Table.{rows, rowOf, params, param, noParam, mostOf}
+use Rattle.script.specs.Script.{pick, Wrong, NoSuchCall, Missing, NotDecimal, OutOfRange, WordNotDecimal, WordOutOfRange, TooManyWords, ListTooLong, LineTooLong}
 
 -- NUMBERS ------------------------------------------------------------------------------------------------------------------------
 -- the last k decimal digits of n
@@ -29,55 +32,45 @@ unfoldable pub numbers : List ℕ → List ℕ
 numbers [] = []
 numbers (n ∷ ns) = (32 ∷ decimal n) ++ numbers ns
 
--- ANSWERS ------------------------------------------------------------------------------------------------------------------------
-abbrev pub ended : List ℕ → List ℕ
-ended l = l ++ bytesOf "\n"
+unfoldable pub integer : ℤ → List ℕ
+integer (pos n) = decimal n
+integer (negsuc n) = 45 ∷ decimal (suc n)
 
+-- a signed word behind a space
+unfoldable pub signed : ℕ → List ℕ
+signed w = 32 ∷ integer (signed32 w)
+
+-- LINES --------------------------------------------------------------------------------------------------------------------------
+-- a word, and what stands behind it: numbers, or a few words more
+unfoldable pub line : List ℕ → List ℕ → List ℕ
+line name rest = name ++ (rest ++ bytesOf "\n")
+
+-- the name of a call, and of its parameter i
 unfoldable pub callName : ℕ → List ℕ
-callName call = getD callNames call []
+callName call = rowOf rows call .name
+
+unfoldable pub paramName : ℕ → ℕ → List ℕ
+paramName call i = getD params (getD (rowOf rows call .params) i noParam) (param "" 0) .name
 
 -- "prints call, time and number of outcomes"
 unfoldable pub handledLine : ℕ → ℕ → ℕ → List ℕ
-handledLine call time count = ended (callName call ++ numbers (time ∷ count ∷ []))
-
--- "a line of the word rule, its first four fields and its count"
-unfoldable pub outcomeLine : ℕ → ℕ → ℕ → ℕ → ℕ → List ℕ
-outcomeLine rule dry trigger reason count = ended (bytesOf "rule" ++ numbers (rule ∷ dry ∷ trigger ∷ reason ∷ count ∷ []))
-
--- "the word effect, kind and four words"
-unfoldable pub effectLine : ℕ → ℕ → ℕ → ℕ → ℕ → List ℕ
-effectLine kind a b c d = ended (bytesOf "effect" ++ numbers (kind ∷ a ∷ b ∷ c ∷ d ∷ []))
+handledLine call time count = line (callName call) (numbers (time ∷ count ∷ []))
 
 unfoldable pub enabledLine : ℕ → Bool → List ℕ
-enabledLine rule found = ended (bytesOf "enable" ++ (numbers (rule ∷ []) ++ pick found (bytesOf " yes") (bytesOf " no")))
+enabledLine rule found = line (bytesOf "enable") (numbers (rule ∷ []) ++ pick found (bytesOf " yes") (bytesOf " no"))
 
 unfoldable pub deadlineLine : Option ℕ → List ℕ
-deadlineLine none = ended (bytesOf "deadline none")
-deadlineLine (some time) = ended (bytesOf "deadline" ++ numbers (time ∷ []))
-
-unfoldable pub countersLine : List ℕ → List ℕ
-countersLine counters = ended (bytesOf "counters" ++ numbers counters)
+deadlineLine none = line (bytesOf "deadline") (bytesOf " none")
+deadlineLine (some time) = line (bytesOf "deadline") (numbers (time ∷ []))
 
 unfoldable pub peekLine : ℕ → ℕ → List ℕ
-peekLine place word = ended (bytesOf "peek" ++ numbers (place ∷ word ∷ []))
+peekLine place word = line (bytesOf "peek") (numbers (place ∷ word ∷ []))
 
+-- a refusal of any call
 unfoldable pub refusedLine : ℕ → ℕ → List ℕ
-refusedLine call number = ended (callName call ++ (bytesOf " refused" ++ numbers (number ∷ [])))
+refusedLine call number = line (callName call) (bytesOf " refused" ++ numbers (number ∷ []))
 
 -- BAD TEXT -----------------------------------------------------------------------------------------------------------------------
--- the parameters' names
-abbrev pub paramNames : List (List (List ℕ))
-paramNames =
-    let time = bytesOf "time" in
-    let rule = bytesOf "rule" in
-    let place = bytesOf "place" in
-    (time ∷ []) ∷ (time ∷ []) ∷ (time ∷ []) ∷ (rule ∷ bytesOf "mark" ∷ []) ∷ [] ∷ (rule ∷ bytesOf "dry mark" ∷ []) ∷ [] ∷ []
-    ∷ (bytesOf "number of outcome words" ∷ bytesOf "number of effect words" ∷ []) ∷ (bytesOf "number of words" ∷ [])
-    ∷ (place ∷ bytesOf "word" ∷ []) ∷ (place ∷ []) ∷ []
-
-unfoldable pub paramName : ℕ → ℕ → List ℕ
-paramName call i = getD (getD paramNames call []) i []
-
 -- a number over the largest
 unfoldable pub overText : ℕ → List ℕ
 overText most =
@@ -89,11 +82,14 @@ overText most =
 unfoldable pub ofCall : ℕ → List ℕ → List ℕ
 ofCall call l = callName call ++ (bytesOf ": " ++ l)
 
+unfoldable pub largestOf : ℕ → ℕ → ℕ
+largestOf call i = mostOf (getD (rowOf rows call .params) i noParam)
+
 unfoldable pub wrongText : Wrong → List ℕ
 wrongText NoSuchCall = bytesOf "no such call"
 wrongText (Missing call i) = ofCall call (paramName call i ++ bytesOf " is missing")
 wrongText (NotDecimal call i) = ofCall call (paramName call i ++ bytesOf " is no decimal number")
-wrongText (OutOfRange call i) = ofCall call (paramName call i ++ overText (getD (largestOf call) i 0))
+wrongText (OutOfRange call i) = ofCall call (paramName call i ++ overText (largestOf call i))
 wrongText (WordNotDecimal call k) = ofCall call (bytesOf "word" ++ (numbers (k ∷ []) ++ bytesOf " is no decimal number"))
 wrongText (WordOutOfRange call k) = ofCall call (bytesOf "word" ++ (numbers (k ∷ []) ++ bytesOf " does not fit into 32 bits"))
 wrongText (TooManyWords call) = ofCall call (bytesOf "a word too many")
@@ -102,4 +98,4 @@ wrongText LineTooLong = bytesOf "line too long"
 
 -- "one clear line that names the line number"
 unfoldable pub wrongLine : ℕ → Wrong → List ℕ
-wrongLine line w = ended (bytesOf "line" ++ (numbers (line ∷ []) ++ (bytesOf ": " ++ wrongText w)))
+wrongLine number w = line (bytesOf "line") (numbers (number ∷ []) ++ (bytesOf ": " ++ wrongText w))

@@ -7,8 +7,9 @@ use mathlib.Core.Option.{Option, none, some}
 use lib.Dec.{leb}
 use lib.ListN.{length, getD, take, drop}
 use Rattle.words.specs.Saturating.{max64}
-use Rattle.script.specs.Words.{wordsOf, isSpace, Argument, NoNumber, TooLarge, Number}
-use Rattle.script.specs.Script.{Parsed, plain, withArgument, Listed, listed, listFrom, stopped, Line, Bad, Wrong, NotDecimal, OutOfRange, WordNotDecimal, WordOutOfRange, largestOf}
+use Rattle.script.specs.Words.{wordsOf, isSpace, pastSpace, pastWord, pastWords, Argument, NoNumber, TooLarge, Number}
+use Rattle.script.specs.Table.{Tail, Nothing, Words, Text}
+use Rattle.script.specs.Script.{Parsed, Numbered, Stops, Goes, numbersFrom, Listed, listed, listFrom, stopped, Line, Wrong, NotDecimal, OutOfRange, WordNotDecimal, WordOutOfRange}
 pub use Rattle.script.specs.declared.Step.{Step}
 pub use Rattle.script.specs.declared.Step.the-variants.{Stop, Item}
 use Rattle.script.specs.declared.Step.the-variants.{End}
@@ -18,6 +19,8 @@ pub use Rattle.script.specs.declared.Value.{Value}
 pub use Rattle.script.specs.declared.Value.the-variants.{Over, Fits}
 pub use Rattle.script.specs.declared.Taken.{Taken}
 pub use Rattle.script.specs.declared.Taken.the-variants.{Refused, Taking}
+pub use Rattle.script.specs.declared.Got.{Got}
+pub use Rattle.script.specs.declared.Got.the-variants.{Failed, Behind}
 pub use Rattle.script.specs.declared.Named.{Named}
 pub use Rattle.script.specs.declared.Named.the-variants.{Unknown, Call}
 pub use Rattle.script.specs.declared.Ended.{Ended}
@@ -32,6 +35,7 @@ pub record WordStart (s : List ℕ) (at r : ℕ) : Type 0 where
   pub within : r ≤ length s
   pub behind : at ≤ r
   pub same : wordsOf (drop r s) ≡ wordsOf (drop at s)
+  pub left : drop r s ≡ pastSpace (drop at s)
   pub begins : r < length s → isSpace (getD s r 0) ≡ false
 
 -- the word that begins at `at` ends at r
@@ -39,6 +43,7 @@ pub record WordEnd (s : List ℕ) (at r : ℕ) : Type 0 where
   pub within : r ≤ length s
   pub behind : at < r
   pub word : wordsOf (drop at s) ≡ part s at r ∷ wordsOf (drop r s)
+  pub left : drop r s ≡ pastWord (drop at s)
 
 -- the next word from `at` on
 pub record WordAt (s : List ℕ) (at from to : ℕ) : Type 0 where
@@ -46,6 +51,7 @@ pub record WordAt (s : List ℕ) (at from to : ℕ) : Type 0 where
   pub behind : at ≤ from
   pub some : from < to
   pub word : wordsOf (drop at s) ≡ part s from to ∷ wordsOf (drop to s)
+  pub left : drop to s ≡ pastWord (pastSpace (drop at s))
 
 abbrev pub NextWord : List ℕ → ℕ → Word → Type 0
 NextWord s at NoWord = wordsOf (drop at s) ≡ []
@@ -73,21 +79,42 @@ pub record Parses (p : Parsed) (before after : List ℕ) (r : Line) : Type 0 whe
   pub line : r ≡ p .line
   pub list : after ≡ over (p .list) before
 
--- parameter i as it was taken from the words at `at`: the number, and where to go on
-pub record TakesNumber (s : List ℕ) (at call i n next : ℕ) : Type 0 where
-  pub takes : (k : ℕ → List (List ℕ) → Parsed) → withArgument call i (wordsOf (drop at s)) k ≡ k n (wordsOf (drop next s))
-  pub most : n ≤ getD (largestOf call) i 0
-  pub within : next ≤ length s
-
-abbrev pub Takes : List ℕ → ℕ → ℕ → ℕ → Taken → Type 0
-Takes s at call i (Refused w) = (k : ℕ → List (List ℕ) → Parsed) → withArgument call i (wordsOf (drop at s)) k ≡ plain (Bad w)
-Takes s at call i (Taking n next) = TakesNumber s at call i n next
-
+-- NUMBERS ------------------------------------------------------------------------------------------------------------------------------
+-- the next word as parameter i of a call, number p
 abbrev pub takenOf : ℕ → ℕ → ℕ → Argument → Taken
 takenOf call i next NoNumber = Refused (NotDecimal call i)
 takenOf call i next TooLarge = Refused (OutOfRange call i)
 takenOf call i next (Number n) = Taking n next
 
+-- parameter p of a call, its number i, as it was taken from the words at `at`, behind other numbers and before other parameters
+pub record TakesNumber (s : List ℕ) (at call i p n next : ℕ) : Type 0 where
+  pub takes : (ps ns : List ℕ) → numbersFrom call i (p ∷ ps) ns (wordsOf (drop at s)) ≡ numbersFrom call (i + 1) ps (ns ++ n ∷ []) (wordsOf (drop next s))
+  pub left : drop next s ≡ pastWord (pastSpace (drop at s))
+  pub within : next ≤ length s
+
+abbrev pub Takes : List ℕ → ℕ → ℕ → ℕ → ℕ → Taken → Type 0
+Takes s at call i p (Refused w) = (ps ns : List ℕ) → numbersFrom call i (p ∷ ps) ns (wordsOf (drop at s)) ≡ Stops w
+Takes s at call i p (Taking n next) = TakesNumber s at call i p n next
+
+-- all numbers of a call from the bytes behind its name: written over the start of the lent ones
+pub record TakesAll (s : List ℕ) (call : ℕ) (ps before after : List ℕ) (next : ℕ) : Type 0 where
+  pub numbers : List ℕ
+  pub takes : numbersFrom call 0 ps [] (wordsOf s) ≡ Goes numbers (wordsOf (drop next s))
+  pub lent : after ≡ over numbers before
+  pub left : drop next s ≡ pastWords (length ps) s
+  pub within : next ≤ length s
+
+abbrev pub TakesThem : List ℕ → ℕ → List ℕ → List ℕ → List ℕ → Got → Type 0
+TakesThem s call ps before after (Failed w) = numbersFrom call 0 ps [] (wordsOf s) ≡ Stops w
+TakesThem s call ps before after (Behind next) = TakesAll s call ps before after next
+
+-- where a call's bytes end
+abbrev pub lastOf : Tail → ℕ → ℕ → ℕ
+lastOf Nothing end len = end
+lastOf Words end len = end
+lastOf Text end len = len
+
+-- LISTS --------------------------------------------------------------------------------------------------------------------------------
 -- word n of a list as it was taken from the words at `at`
 pub record TakesItem (s : List ℕ) (at call n room v next : ℕ) : Type 0 where
   pub takes : listFrom call room n (wordsOf (drop at s)) ≡ listed call n (Number v) (listFrom call room (n + 1) (wordsOf (drop next s)))

@@ -1,5 +1,5 @@
 -- A line of a script: its comment, its words, and the numbers that they stand for.
-use Prim.Native.Nat.{ℕ, _+_, _*_, _-_}
+use Prim.Native.Nat.{ℕ, zero, suc, _+_, _*_, _-_}
 use mathlib.Core.Bool.{Bool, true, false, cond, not, _&&_, _||_}
 use mathlib.Core.List.{List, [], _∷_}
 use lib.Dec.{leb, eqb}
@@ -7,10 +7,14 @@ use Rattle.model.specs.Lists.{all}
 pub use Rattle.script.specs.declared.Argument.{Argument}
 pub use Rattle.script.specs.declared.Argument.the-variants.{NoNumber, TooLarge, Number}
 
+-- the bytes in front of the first c
+unfoldable pub upTo : ℕ → List ℕ → List ℕ
+upTo c [] = []
+upTo c (b ∷ bs) = cond (eqb b c) [] (b ∷ upTo c bs)
+
 -- "a `#` starts a comment"
-unfoldable pub uncommented : List ℕ → List ℕ
-uncommented [] = []
-uncommented (b ∷ bs) = cond (eqb b 35) [] (b ∷ uncommented bs)
+abbrev pub uncommented : List ℕ → List ℕ
+uncommented line = upTo 35 line
 
 -- space, tab, line end, form feed, carriage return, but no vertical tab: Rust's `is_ascii_whitespace`
 unfoldable pub isSpace : ℕ → Bool
@@ -32,6 +36,19 @@ before false false b (w ∷ ws) = (b ∷ w) ∷ ws
 unfoldable pub wordsOf : List ℕ → List (List ℕ)
 wordsOf [] = []
 wordsOf (b ∷ bs) = before (isSpace b) (atSpace bs) b (wordsOf bs)
+
+-- what is left behind white space, behind a word, and behind the first n words
+unfoldable pub pastSpace : List ℕ → List ℕ
+pastSpace [] = []
+pastSpace (b ∷ bs) = cond (isSpace b) (pastSpace bs) (b ∷ bs)
+
+unfoldable pub pastWord : List ℕ → List ℕ
+pastWord [] = []
+pastWord (b ∷ bs) = cond (isSpace b) (b ∷ bs) (pastWord bs)
+
+unfoldable pub pastWords : ℕ → List ℕ → List ℕ
+pastWords zero s = s
+pastWords (suc n) s = pastWord (pastSpace (pastWords n s))
 
 unfoldable pub isDigit : ℕ → Bool
 isDigit b = leb 48 b && leb b 57

@@ -1,12 +1,15 @@
-// The calls: their parameters and lists, and the line that a call's numbers make.
+// The table of calls: the rows of the definition.
 ghost use mathlib.Core.Path.{_≡_};
-ghost use Prim.Native.Nat.{_<_, _≤_};
+ghost use Prim.Native.Nat.{_≤_};
 ghost use lib.Dec.{ltb};
 ghost use lib.ListN.{length, getD};
-ghost use Rattle.script.specs.Script.{largestOf, takesList, lineOf};
-use crate::Line;
+ghost use Rattle.script.specs.Table.{rows, rowOf, noParam};
+ghost use Rattle.script.specs.Rows.{shapeOf};
+ghost use Rattle.script.specs.Print.{largestOf};
+use crate::Shape;
+use crate::Tail;
 
-// The calls, by the numbers of their names.
+// The calls, by their numbers.
 pub const NEW: u32 = 0;
 
 pub const LOAD: u32 = 1;
@@ -31,114 +34,92 @@ pub const POKE: u32 = 10;
 
 pub const PEEK: u32 = 11;
 
-const CALLS: u32 = 12;
+// The parameters, by their numbers: as in `names`.
+const TIME: u32 = 0;
 
-const WORD: u64 = 4294967295;
+const RULE: u32 = 1;
 
-const TIME: u64 = 18446744073709551615;
-// How many parameters a call has, and the largest number of each.
-const COUNTS: [u32; 12] = [1, 1, 1, 2, 0, 2, 0, 0, 2, 1, 2, 1];
+const MARK: u32 = 2;
 
-const FIRST: [u64; 12] = [
-    TIME,
-    TIME,
-    TIME,
-    WORD,
-    0,
-    WORD,
-    0,
-    0,
+const DRY_MARK: u32 = 3;
+
+const OUTCOME_WORDS: u32 = 4;
+
+const EFFECT_WORDS: u32 = 5;
+
+const WORDS: u32 = 6;
+
+const PLACE: u32 = 7;
+
+const WORD: u32 = 8;
+
+const NONE: u32 = 9;
+
+// The largest number of each.
+const LARGEST: [u64; 9] = [
+    u64::MAX,
+    4294967295,
+    1,
+    1,
     24576,
-    WORD,
+    327680,
+    4294967295,
     16383,
-    16383,
+    4294967295,
 ];
 
-const SECOND: [u64; 12] = [0, 0, 0, 1, 0, 1, 0, 0, 327680, 0, WORD, 0];
+fn row(call: u32) -> Shape
+    ensures { λ r. ⌜ r ≡ shapeOf (rowOf rows call) ⌝ }
+{
+    match call {
+        NEW => Shape(TIME, NONE, NONE, NONE, Tail::Nothing),
+        LOAD => Shape(TIME, NONE, NONE, NONE, Tail::Words),
+        UNLOAD => Shape(TIME, NONE, NONE, NONE, Tail::Nothing),
+        ENABLE => Shape(RULE, MARK, NONE, NONE, Tail::Nothing),
+        TICK => Shape(NONE, NONE, NONE, NONE, Tail::Words),
+        RUN => Shape(RULE, DRY_MARK, NONE, NONE, Tail::Words),
+        DEADLINE => Shape(NONE, NONE, NONE, NONE, Tail::Nothing),
+        COUNTERS => Shape(NONE, NONE, NONE, NONE, Tail::Nothing),
+        LEND => Shape(OUTCOME_WORDS, EFFECT_WORDS, NONE, NONE, Tail::Nothing),
+        SIZE => Shape(WORDS, NONE, NONE, NONE, Tail::Nothing),
+        POKE => Shape(PLACE, WORD, NONE, NONE, Tail::Nothing),
+        PEEK => Shape(PLACE, NONE, NONE, NONE, Tail::Nothing),
+        _ => Shape(NONE, NONE, NONE, NONE, Tail::Nothing),
+    }
+}
 
-const LISTS: [bool; 12] = [
-    false,
-    true,
-    false,
-    false,
-    true,
-    true,
-    false,
-    false,
-    false,
-    false,
-    false,
-    false,
-];
+// What stands behind a call's numbers.
+pub fn tail_of(call: u32) -> Tail
+    ensures { λ r. ⌜ r ≡ rowOf rows call .tail ⌝ }
+{
+    row(call).4
+}
+
+// Parameter i of a call.
+pub fn param(call: u32, i: u32) -> u32
+    ensures { λ r. ⌜ r ≡ getD (rowOf rows call .params) i noParam ⌝ }
+{
+    let r = row(call);
+    match i {
+        0 => r.0,
+        1 => r.1,
+        2 => r.2,
+        3 => r.3,
+        _ => NONE,
+    }
+}
 
 // Whether a call has parameter i.
 pub fn has_param(call: u32, i: u32) -> bool
-    ensures { λ r. ⌜ r ≡ ltb i (length (largestOf call)) ⌝ }
+    ensures { λ r. ⌜ r ≡ ltb i (length (rowOf rows call .params)) ⌝ }
 {
-    if call < CALLS {
-        return i < COUNTS[call as usize];
-    }
-    false
+    param(call, i) != NONE
 }
 
-// The largest number of parameter i.
+// Its largest number.
 pub fn largest(call: u32, i: u32) -> u64
-    ensures { λ r. ⌜ r ≡ getD (largestOf call) i 0 ⌝ }
+    ensures { λ r. ⌜ r ≡ largestOf call i ⌝ }
 {
-    if CALLS <= call {
-        return 0;
-    }
-    if i == 0 {
-        return FIRST[call as usize];
-    }
-    if i == 1 {
-        return SECOND[call as usize];
-    }
-    0
-}
-
-// Whether a list of words stands behind the parameters.
-pub fn takes_list(call: u32) -> bool
-    ensures { λ r. ⌜ r ≡ takesList call ⌝ }
-{
-    if call < CALLS {
-        LISTS[call as usize]
-    } else {
-        false
-    }
-}
-
-// The line of a call with its numbers and the length of its list.
-pub fn line_of(call: u32, a: u64, b: u64, count: usize) -> Line
-    requires { ⌜ (a ≤ getD (largestOf call) 0 0) × (b ≤ getD (largestOf call) 1 0) ⌝ }
-    ensures { λ r. ⌜ r ≡ lineOf call a b count ⌝ }
-{
-    match call {
-        NEW => Line::New { time: a },
-        LOAD => Line::Load { time: a, count },
-        UNLOAD => Line::Unload { time: a },
-        ENABLE => Line::Enable {
-            rule: a as u32,
-            on: b == 1,
-        },
-        TICK => Line::Tick { count },
-        RUN => Line::Run {
-            rule: a as u32,
-            dry: b == 1,
-            count,
-        },
-        DEADLINE => Line::Deadline,
-        COUNTERS => Line::Counters,
-        LEND => Line::Lend {
-            outcomes: a as u32,
-            effects: b as u32,
-        },
-        SIZE => Line::Size { words: a as u32 },
-        POKE => Line::Poke {
-            place: a as u32,
-            word: b as u32,
-        },
-        PEEK => Line::Peek { place: a as u32 },
-        _ => Line::Blank,
-    }
+    let p = param(call, i);
+    if p < NONE { LARGEST[p as usize] } else { 0 }
 }

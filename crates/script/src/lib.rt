@@ -3,32 +3,40 @@ pub mod calls;
 pub mod complain;
 mod names;
 mod number;
-pub mod print;
-mod put;
+pub mod put;
 mod read;
 mod scan;
 
 ghost use lib.ListN.{length};
+ghost use Rattle.script.specs.Table.{rows};
 ghost use Rattle.script.specs.Script.{parse as Script·parse};
 ghost use Rattle.script.specs.Scan.{Parses};
 
-// What a line says. `count` words of an image or a snapshot stand at the start of the lent list.
+// What a line says. A call is its number in the table, with up to four numbers, 0 past those that it has; `words` words of a list stand at
+// the start of the lent list, and a text is the last `bytes` bytes of the line.
 pub enum Line {
     Blank,
-    New { time: u64 },
-    Load { time: u64, count: usize },
-    Unload { time: u64 },
-    Enable { rule: u32, on: bool },
-    Tick { count: usize },
-    Run { rule: u32, dry: bool, count: usize },
-    Deadline,
-    Counters,
-    Lend { outcomes: u32, effects: u32 },
-    Size { words: u32 },
-    Poke { place: u32, word: u32 },
-    Peek { place: u32 },
+    Command {
+        call: u32,
+        a: u64,
+        b: u64,
+        c: u64,
+        d: u64,
+        words: usize,
+        bytes: usize,
+    },
     Bad(Wrong),
 }
+
+// What stands behind the numbers of a call.
+pub enum Tail {
+    Nothing,
+    Words,
+    Text,
+}
+
+// A row of the table of calls: up to four parameters, and what stands behind them.
+pub struct Shape(pub u32, pub u32, pub u32, pub u32, pub Tail);
 
 // What is wrong with a line: by the numbers of the call, of its parameter, of a word of its list.
 pub enum Wrong {
@@ -62,10 +70,16 @@ pub enum Word {
     At(usize, usize),
 }
 
-// A parameter as it was taken from a text: its number, and the place behind it.
+// A number as it was taken from a text, and the place behind it.
 pub enum Taken {
     Refused(Wrong),
     Taking(u64, usize),
+}
+
+// The place behind all numbers of a call.
+pub enum Got {
+    Failed(Wrong),
+    Behind(usize),
 }
 
 // A name's call.
@@ -89,8 +103,18 @@ pub enum Ended {
 
 // What a line says, with the words of its list in the lent list; words of it that were read before one that is wrong stand there too.
 pub fn parse(line: &[u8], list: &mut [u32]) -> Line
-    ensures { λ r. ⌜ Parses (Script·parse (length (now (list .entry))) (now (line .entry))) (now (list .entry)) (now (list .exit)) r ⌝ }
+    ensures { λ r. ⌜ Parses (Script·parse rows (length (now (list .entry))) (now (line .entry))) (now (list .entry)) (now (list .exit)) r ⌝ }
 {
-    let end = scan::comment(line);
-    read::text(&line[..end], list)
+    let end = scan::up_to(line, b'#');
+    let text = &line[..end];
+    match scan::next_word(text, 0) {
+        Word::NoWord => Line::Blank,
+        Word::At(from, to) => match names::call_named(&text[from..to]) {
+            Named::Unknown => Line::Bad(Wrong::NoSuchCall),
+            Named::Call(call) => {
+                let stop = read::last(call, end, line.len());
+                read::call_of(&line[to..stop], call, list)
+            }
+        },
+    }
 }

@@ -1,111 +1,60 @@
-// The texts that the language reads and prints: one table, by number.
+// The names of the calls and of the parameters, by their numbers.
 ghost use mathlib.Core.Path.{_≡_};
-ghost use Prim.Native.Nat.{_<_, _≤_};
-ghost use mathlib.Core.List.{List};
+ghost use Prim.Native.Nat.{_+_, _≤_, _<_};
+ghost use mathlib.Core.List.{[]};
 ghost use lib.ListN.{length, getD};
 ghost use Rattle.model.specs.Lists.{position};
-ghost use Rattle.script.specs.Text.{textOf, callNames};
-ghost use Rattle.script.specs.Script.{sameBytes};
+ghost use Rattle.script.specs.Table.{rows};
+ghost use Rattle.script.specs.Script.{sameBytes, callNamed};
 ghost use Rattle.script.specs.Scan.{namedBy};
+ghost use Rattle.script.specs.Names.{split, NameEnd, NameOf};
 ghost use Rattle.script.specs.Print.{callName, paramName};
-ghost use Rattle.script.specs.Starts.{startOf};
+ghost use Rattle.script.specs.Put.{Puts};
 use crate::Named;
+use crate::Word;
+use crate::calls;
+use crate::put;
+use crate::scan;
 
-// The texts, one behind the other, and where each starts.
-const BYTES: [u8; 346] =
-    *b"newloadunloadenabletickrundeadlinecounterslendsizepokepeektimerulemarkdry marknumber of outcome wordsnumber of effect wordsnumber of wordsplaceword is missing is no decimal number does not fit into 64 bits does not fit into 32 bits is neither 0 nor 1 is overno such callline too longa word too manymore than wordsline:  refused yes no noneeffect\n";
+const CALLS: [u8; 69] = *b"new,load,unload,enable,tick,run,deadline,counters,lend,size,poke,peek";
 
-const STARTS: [u32; 41] = [
-    0,
-    3,
-    7,
-    13,
-    19,
-    23,
-    26,
-    34,
-    42,
-    46,
-    50,
-    54,
-    58,
-    62,
-    66,
-    70,
-    78,
-    101,
-    123,
-    138,
-    143,
-    147,
-    158,
-    179,
-    205,
-    231,
-    250,
-    258,
-    270,
-    283,
-    298,
-    307,
-    313,
-    317,
-    319,
-    327,
-    331,
-    334,
-    339,
-    345,
-    346,
-];
+const PARAMS: [u8; 97] =
+    *b"time,rule,mark,dry mark,number of outcome words,number of effect words,number of words,place,word";
 
-pub const TEXTS: u32 = 40;
-
-// The end of a line.
-pub const END: u32 = 39;
-
-// The texts that name the first and the second parameter of each call.
-const FIRST: [u32; 12] = [12, 12, 12, 13, 40, 13, 40, 40, 16, 18, 19, 19];
-
-const SECOND: [u32; 12] = [40, 40, 40, 14, 40, 15, 40, 40, 17, 40, 20, 40];
-
-fn start(k: u32) -> u32
-    requires { ⌜ k ≤ 40 ⌝ }
-    ensures { λ r. ⌜ r ≡ startOf k ⌝ }
+// The end of the name that begins at `at`.
+fn name_end(names: &[u8], at: usize) -> usize
+    requires { ⌜ at < length (now names) ⌝ }
+    ensures { λ r. ⌜ NameEnd (now (names .entry)) at r ⌝ }
 {
-    STARTS[k as usize]
+    at + scan::up_to(&names[at..], b',')
 }
 
-pub fn text_len(k: u32) -> usize
-    ensures { λ r. ⌜ r ≡ length (textOf k) ⌝ }
+// Name k, if there is one.
+fn name_at(names: &[u8], k: u32) -> Word
+    ensures { λ r. ⌜ NameOf (now (names .entry)) k r ⌝ }
 {
-    if TEXTS <= k {
-        return 0;
+    let mut left = k;
+    let mut at = 0;
+    while at < names.len() {
+        let to = name_end(names, at);
+        if left == 0 {
+            return Word::At(at, to);
+        }
+        left -= 1;
+        at = to + 1;
     }
-    (start(k + 1) - start(k)) as usize
+    Word::NoWord
 }
 
-// Byte i of text k.
-pub fn text_byte(k: u32, i: usize) -> u8
-    requires { ⌜ i < length (textOf k) ⌝ }
-    ensures { λ r. ⌜ r ≡ getD (textOf k) i 0 ⌝ }
+fn same(v: &[u8], w: &[u8]) -> bool
+    ensures { λ r. ⌜ r ≡ sameBytes (now (v .entry)) (now (w .entry)) ⌝ }
 {
-    if TEXTS <= k {
-        return 0;
-    }
-    BYTES[start(k) as usize + i]
-}
-
-// Whether a word is text k.
-fn is_text(word: &[u8], k: u32) -> bool
-    ensures { λ r. ⌜ r ≡ sameBytes (now (word .entry)) (textOf k) ⌝ }
-{
-    if word.len() != text_len(k) {
+    if v.len() != w.len() {
         return false;
     }
     let mut i = 0;
-    while i < word.len() {
-        if word[i] != text_byte(k, i) {
+    while i < v.len() {
+        if v[i] != w[i] {
             return false;
         }
         i += 1;
@@ -113,38 +62,52 @@ fn is_text(word: &[u8], k: u32) -> bool
     true
 }
 
-// The call of a name.
-pub fn call_named(word: &[u8]) -> Named
-    ensures { λ r. ⌜ r ≡ namedBy (position (sameBytes (now (word .entry))) callNames) ⌝ }
+// The number of a name.
+fn named(names: &[u8], word: &[u8]) -> Named
+    requires { ⌜ length (now names) ≤ 1024 ⌝ }
+    ensures { λ r. ⌜ r ≡ namedBy (position (sameBytes (now (word .entry))) (split (now (names .entry)))) ⌝ }
 {
     let mut k = 0;
-    while k < 12 {
-        if is_text(word, k) {
+    let mut at = 0;
+    while at < names.len() {
+        let to = name_end(names, at);
+        if same(word, &names[at..to]) {
             return Named::Call(k);
         }
         k += 1;
+        at = to + 1;
     }
     Named::Unknown
 }
 
-// The text that is a call's name, and the one that is the name of its parameter i; none past them.
-pub fn call_text(call: u32) -> u32
-    ensures { λ r. ⌜ textOf r ≡ callName call ⌝ }
+pub fn call_named(word: &[u8]) -> Named
+    ensures { λ r. ⌜ r ≡ namedBy (callNamed rows (now (word .entry))) ⌝ }
 {
-    if call < 12 { call } else { TEXTS }
+    named(&CALLS, word)
 }
 
-pub fn param_text(call: u32, i: u32) -> u32
-    ensures { λ r. ⌜ textOf r ≡ paramName call i ⌝ }
+// Name k, put into a buffer.
+fn put_name(buf: &mut [u8], at: usize, names: &[u8], k: u32) -> usize
+    requires { ⌜ (at + 32 ≤ length (now buf)) × (length (getD (split (now names)) k []) ≤ 32) ⌝ }
+    ensures { λ r. ⌜ Puts (now (buf .entry)) at 1 (getD (split (now (names .entry))) k []) (now (buf .exit)) r ⌝ }
 {
-    if 12 <= call {
-        return TEXTS;
+    match name_at(names, k) {
+        Word::NoWord => at,
+        Word::At(from, to) => put::text(buf, at, &names[from..to]),
     }
-    if i == 0 {
-        return FIRST[call as usize];
-    }
-    if i == 1 {
-        return SECOND[call as usize];
-    }
-    TEXTS
+}
+
+pub fn put_call(buf: &mut [u8], at: usize, call: u32) -> usize
+    requires { ⌜ at + 32 ≤ length (now buf) ⌝ }
+    ensures { λ r. ⌜ Puts (now (buf .entry)) at 1 (callName call) (now (buf .exit)) r ⌝ }
+{
+    put_name(buf, at, &CALLS, call)
+}
+
+// The name of a call's parameter i.
+pub fn put_param(buf: &mut [u8], at: usize, call: u32, i: u32) -> usize
+    requires { ⌜ at + 32 ≤ length (now buf) ⌝ }
+    ensures { λ r. ⌜ Puts (now (buf .entry)) at 1 (paramName call i) (now (buf .exit)) r ⌝ }
+{
+    put_name(buf, at, &PARAMS, calls::param(call, i))
 }

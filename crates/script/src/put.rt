@@ -1,25 +1,31 @@
-// Texts and numbers put into a lent buffer.
+// Names, texts and numbers put into a lent buffer. Each takes 32 bytes at most.
 ghost use mathlib.Core.Path.{_≡_};
-ghost use Prim.Native.Nat.{_+_, _*_, _≤_};
+ghost use Prim.Native.Nat.{_+_, _≤_};
 ghost use mathlib.Core.List.{List, [], _∷_, _++_};
 ghost use lib.ListN.{length, take};
-ghost use Rattle.script.specs.Text.{textOf};
-ghost use Rattle.script.specs.Print.{digits, digitCount, numbers};
+ghost use Rattle.script.specs.Print.{digits, digitCount, decimal, numbers, signed as Print·signed, callName};
 ghost use Rattle.script.specs.Put.{Puts};
 use crate::names;
 
-// Text k.
-pub fn text(buf: &mut [u8], at: usize, k: u32) -> usize
-    requires { ⌜ at + 32 ≤ length (now buf) ⌝ }
-    ensures { λ r. ⌜ Puts (now (buf .entry)) at 1 (textOf k) (now (buf .exit)) r ⌝ }
+// Bytes as they are.
+pub fn text(buf: &mut [u8], at: usize, bytes: &[u8]) -> usize
+    requires { ⌜ (at + 32 ≤ length (now buf)) × (length (now bytes) ≤ 32) ⌝ }
+    ensures { λ r. ⌜ Puts (now (buf .entry)) at 1 (now (bytes .entry)) (now (buf .exit)) r ⌝ }
 {
-    let n = names::text_len(k);
     let mut i = 0;
-    while i < n {
-        buf[at + i] = names::text_byte(k, i);
+    while i < bytes.len() {
+        buf[at + i] = bytes[i];
         i += 1;
     }
-    at + n
+    at + i
+}
+
+// The name of a call.
+pub fn name(buf: &mut [u8], at: usize, call: u32) -> usize
+    requires { ⌜ at + 32 ≤ length (now buf) ⌝ }
+    ensures { λ r. ⌜ Puts (now (buf .entry)) at 1 (callName call) (now (buf .exit)) r ⌝ }
+{
+    names::put_call(buf, at, call)
 }
 
 // How many digits a number has.
@@ -63,16 +69,25 @@ pub fn number(buf: &mut [u8], at: usize, n: u64) -> usize
     at + 1 + k
 }
 
-// Words, each behind a space.
-pub fn words(buf: &mut [u8], at: usize, ws: &[u32]) -> usize
-    requires { ⌜ at + 32 * length (now ws) ≤ length (now buf) ⌝ }
-    ensures { λ r. ⌜ Puts (now (buf .entry)) at (length (now (ws .entry))) (numbers (now (ws .entry))) (now (buf .exit)) r ⌝ }
+// A space, a minus, and a number.
+fn minus(buf: &mut [u8], at: usize, n: u64) -> usize
+    requires { ⌜ at + 32 ≤ length (now buf) ⌝ }
+    ensures { λ r. ⌜ Puts (now (buf .entry)) at 1 (32 ∷ 45 ∷ decimal n) (now (buf .exit)) r ⌝ }
 {
-    let mut end = at;
-    let mut i = 0;
-    while i < ws.len() {
-        end = number(buf, end, ws[i] as u64);
-        i += 1;
+    let k = digit_count(n);
+    buf[at] = 32;
+    buf[at + 1] = b'-';
+    spell(buf, at + 2, k, n);
+    at + 2 + k
+}
+
+// A space and a signed word.
+pub fn signed(buf: &mut [u8], at: usize, word: u32) -> usize
+    requires { ⌜ at + 32 ≤ length (now buf) ⌝ }
+    ensures { λ r. ⌜ Puts (now (buf .entry)) at 1 (Print·signed word) (now (buf .exit)) r ⌝ }
+{
+    if word < 2147483648 {
+        return number(buf, at, word as u64);
     }
-    end
+    minus(buf, at, 4294967296 - word as u64)
 }

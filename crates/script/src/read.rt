@@ -1,28 +1,31 @@
 // A line's call is read from its words, one after the other.
 ghost use mathlib.Core.Path.{_≡_};
-ghost use Prim.Native.Nat.{_≤_};
-ghost use lib.ListN.{length, getD, drop};
+ghost use Prim.Native.Nat.{_≤_, _<_};
+ghost use mathlib.Core.List.{List};
+ghost use lib.ListN.{length, getD, take, drop};
 ghost use Rattle.words.specs.Saturating.{max32};
-ghost use Rattle.script.specs.Words.{wordsOf, argumentOf};
-ghost use Rattle.script.specs.Script.{parseWords, parseCall, withArgument, ending, withList, listFrom, largestOf};
-ghost use Rattle.script.specs.Scan.{part, Takes, takenOf, ListStep, stepOf, ListEnds, Parses};
+ghost use Rattle.script.specs.Words.{wordsOf, pastWords, argumentOf};
+ghost use Rattle.script.specs.Table.{rows, rowOf, noParam};
+ghost use Rattle.script.specs.Script.{parseCall, ending, command, withList, listFrom};
+ghost use Rattle.script.specs.Print.{largestOf};
+ghost use Rattle.script.specs.Scan.{part, Takes, TakesThem, takenOf, ListStep, stepOf, ListEnds, lastOf, Parses};
 use crate::Argument;
 use crate::Ended;
+use crate::Got;
 use crate::Line;
-use crate::Named;
 use crate::Step;
+use crate::Tail;
 use crate::Taken;
 use crate::Word;
 use crate::Wrong;
 use crate::calls;
-use crate::names;
 use crate::number;
 use crate::scan;
 
 // A word that is to be parameter i of a call.
 fn number_at(text: &[u8], from: usize, to: usize, call: u32, i: u32) -> Taken
     requires { ⌜ (from ≤ to) × (to ≤ length (now text)) ⌝ }
-    ensures { λ r. ⌜ r ≡ takenOf call i to (argumentOf (getD (largestOf call) i 0) (part (now (text .entry)) from to)) ⌝ }
+    ensures { λ r. ⌜ r ≡ takenOf call i to (argumentOf (largestOf call i) (part (now (text .entry)) from to)) ⌝ }
 {
     let most = calls::largest(call, i);
     match number::argument(&text[from..to], most) {
@@ -32,18 +35,36 @@ fn number_at(text: &[u8], from: usize, to: usize, call: u32, i: u32) -> Taken
     }
 }
 
-// Parameter i of a call, from the next word; a call without it takes none.
+// Parameter i of a call, from the next word.
 fn argument(text: &[u8], at: usize, call: u32, i: u32) -> Taken
     requires { ⌜ at ≤ length (now text) ⌝ }
-    ensures { λ r. ⌜ Takes (now (text .entry)) at call i r ⌝ }
+    ensures { λ r. ⌜ Takes (now (text .entry)) at call i (getD (rowOf rows call .params) i noParam) r ⌝ }
 {
-    if !calls::has_param(call, i) {
-        return Taken::Taking(0, at);
-    }
     match scan::next_word(text, at) {
         Word::NoWord => Taken::Refused(Wrong::Missing { call, param: i }),
         Word::At(from, to) => number_at(text, from, to, call, i),
     }
+}
+
+// The numbers of a call, into the lent ones.
+fn numbers(text: &[u8], call: u32, lent: &mut [u64]) -> Got
+    requires { ⌜ 4 ≤ length (now lent) ⌝ }
+    ensures { λ r. ⌜ TakesThem (now (text .entry)) call (rowOf rows call .params) (now (lent .entry)) (now (lent .exit)) r ⌝ }
+{
+    let mut i = 0;
+    let mut next = 0;
+    while calls::has_param(call, i) {
+        let taken = argument(text, next, call, i);
+        match taken {
+            Taken::Refused(w) => return Got::Failed(w),
+            Taken::Taking(n, to) => {
+                lent[i as usize] = n;
+                i += 1;
+                next = to;
+            }
+        }
+    }
+    Got::Behind(next)
 }
 
 // A word that is to be word n of a list.
@@ -95,64 +116,75 @@ fn items(text: &[u8], at: usize, call: u32, list: &mut [u32]) -> Ended
     }
 }
 
+// A call with its numbers, so many words of a list and so many bytes of a text.
+fn command_of(call: u32, ns: &[u64; 4], words: usize, bytes: usize) -> Line
+    ensures { λ r. ⌜ r ≡ command call (now (ns .entry)) words bytes ⌝ }
+{
+    Line::Command {
+        call,
+        a: ns[0],
+        b: ns[1],
+        c: ns[2],
+        d: ns[3],
+        words,
+        bytes,
+    }
+}
+
 // The line of a call that has a list.
-fn with_list(text: &[u8], at: usize, call: u32, a: u64, b: u64, list: &mut [u32]) -> Line
+fn with_list(text: &[u8], at: usize, call: u32, ns: &[u64; 4], list: &mut [u32]) -> Line
     requires { ⌜ at ≤ length (now text) ⌝ }
-    requires { ⌜ (a ≤ getD (largestOf call) 0 0) × (b ≤ getD (largestOf call) 1 0) ⌝ }
-    ensures { λ r. ⌜ Parses (withList call a b (listFrom call (length (now (list .entry))) 0 (wordsOf (drop at (now (text .entry)))))) (now (list .entry)) (now (list .exit)) r ⌝ }
+    ensures { λ r. ⌜ Parses (withList call (now (ns .entry)) (listFrom call (length (now (list .entry))) 0 (wordsOf (drop at (now (text .entry)))))) (now (list .entry)) (now (list .exit)) r ⌝ }
 {
     match items(text, at, call, list) {
         Ended::Stopped(w) => Line::Bad(w),
-        Ended::Count(n) => calls::line_of(call, a, b, n),
+        Ended::Count(n) => command_of(call, ns, n, 0),
     }
 }
 
-// What stands behind the parameters: a list of words, or nothing.
-fn rest(text: &[u8], at: usize, call: u32, a: u64, b: u64, list: &mut [u32]) -> Line
-    requires { ⌜ at ≤ length (now text) ⌝ }
-    requires { ⌜ (a ≤ getD (largestOf call) 0 0) × (b ≤ getD (largestOf call) 1 0) ⌝ }
-    ensures { λ r. ⌜ Parses (ending (length (now (list .entry))) call a b (wordsOf (drop at (now (text .entry))))) (now (list .entry)) (now (list .exit)) r ⌝ }
+// How many bytes stand behind the blank at `at`.
+fn behind_blank(text: &[u8], at: usize) -> usize
+    ensures { λ r. ⌜ r ≡ length (drop 1 (drop at (now (text .entry)))) ⌝ }
 {
-    if calls::takes_list(call) {
-        return with_list(text, at, call, a, b, list);
+    if at < text.len() {
+        return text.len() - at - 1;
     }
-    match scan::next_word(text, at) {
-        Word::NoWord => calls::line_of(call, a, b, 0),
-        Word::At(_, _) => Line::Bad(Wrong::TooManyWords { call }),
-    }
+    0
 }
 
-// The second parameter and what stands behind it.
-fn second(text: &[u8], at: usize, call: u32, a: u64, list: &mut [u32]) -> Line
-    requires { ⌜ (at ≤ length (now text)) × (a ≤ getD (largestOf call) 0 0) ⌝ }
-    ensures { λ r. ⌜ Parses (withArgument call 1 (wordsOf (drop at (now (text .entry)))) (ending (length (now (list .entry))) call a)) (now (list .entry)) (now (list .exit)) r ⌝ }
+// What stands behind the numbers.
+fn rest(text: &[u8], at: usize, call: u32, ns: &[u64; 4], list: &mut [u32]) -> Line
+    requires { ⌜ (at ≤ length (now text)) × (drop at (now text) ≡ pastWords (length (rowOf rows call .params)) (now text)) ⌝ }
+    ensures { λ r. ⌜ Parses (ending (rowOf rows call) (length (now (list .entry))) call (now (text .entry)) (now (ns .entry)) (wordsOf (drop at (now (text .entry))))) (now (list .entry)) (now (list .exit)) r ⌝ }
 {
-    match argument(text, at, call, 1) {
-        Taken::Refused(w) => Line::Bad(w),
-        Taken::Taking(b, to) => rest(text, to, call, a, b, list),
-    }
-}
-
-// The first parameter and what stands behind it.
-fn first(text: &[u8], at: usize, call: u32, list: &mut [u32]) -> Line
-    requires { ⌜ at ≤ length (now text) ⌝ }
-    ensures { λ r. ⌜ Parses (parseCall (length (now (list .entry))) call (wordsOf (drop at (now (text .entry))))) (now (list .entry)) (now (list .exit)) r ⌝ }
-{
-    match argument(text, at, call, 0) {
-        Taken::Refused(w) => Line::Bad(w),
-        Taken::Taking(a, to) => second(text, to, call, a, list),
-    }
-}
-
-// A line without its comment.
-pub fn text(text: &[u8], list: &mut [u32]) -> Line
-    ensures { λ r. ⌜ Parses (parseWords (length (now (list .entry))) (wordsOf (now (text .entry)))) (now (list .entry)) (now (list .exit)) r ⌝ }
-{
-    match scan::next_word(text, 0) {
-        Word::NoWord => Line::Blank,
-        Word::At(from, to) => match names::call_named(&text[from..to]) {
-            Named::Unknown => Line::Bad(Wrong::NoSuchCall),
-            Named::Call(call) => first(text, to, call, list),
+    match calls::tail_of(call) {
+        Tail::Words => with_list(text, at, call, ns, list),
+        Tail::Text => command_of(call, ns, 0, behind_blank(text, at)),
+        Tail::Nothing => match scan::next_word(text, at) {
+            Word::NoWord => command_of(call, ns, 0, 0),
+            Word::At(_, _) => Line::Bad(Wrong::TooManyWords { call }),
         },
+    }
+}
+
+// The numbers and what stands behind them, from the bytes behind a call's name.
+pub fn call_of(text: &[u8], call: u32, list: &mut [u32]) -> Line
+    ensures { λ r. ⌜ Parses (parseCall (rowOf rows call) (length (now (list .entry))) call (now (text .entry))) (now (list .entry)) (now (list .exit)) r ⌝ }
+{
+    let mut ns = [0u64; 4];
+    match numbers(text, call, &mut ns) {
+        Got::Failed(w) => Line::Bad(w),
+        Got::Behind(next) => rest(text, next, call, &ns, list),
+    }
+}
+
+// Where a call's bytes end: before the comment at `end`, or with the line if it takes a text.
+pub fn last(call: u32, end: usize, len: usize) -> usize
+    ensures { λ r. ⌜ r ≡ lastOf (rowOf rows call .tail) end len ⌝ }
+{
+    match calls::tail_of(call) {
+        Tail::Nothing => end,
+        Tail::Words => end,
+        Tail::Text => len,
     }
 }

@@ -1,19 +1,19 @@
-// The comment and the words of a line.
+// Bytes and words of a text.
 ghost use mathlib.Core.Path.{_≡_};
 ghost use Prim.Native.Nat.{_≤_, _<_};
 ghost use mathlib.Core.Bool.{false};
 ghost use lib.ListN.{length, take, getD};
-ghost use Rattle.script.specs.Words.{uncommented, isSpace};
+ghost use Rattle.script.specs.Words.{upTo, isSpace};
 ghost use Rattle.script.specs.Scan.{WordStart, WordEnd, NextWord};
 use crate::Word;
 
-// Where the comment starts, or the line's end.
-pub fn comment(line: &[u8]) -> usize
-    ensures { λ r. ⌜ (r ≤ length (now (line .entry))) × (take r (now (line .entry)) ≡ uncommented (now (line .entry))) ⌝ }
+// Where the byte c first stands, or the text's end.
+pub fn up_to(text: &[u8], c: u8) -> usize
+    ensures { λ r. ⌜ (r ≤ length (now (text .entry))) × (take r (now (text .entry)) ≡ upTo c (now (text .entry))) ⌝ }
 {
     let mut i = 0;
-    while i < line.len() {
-        if line[i] == b'#' {
+    while i < text.len() {
+        if text[i] == c {
             return i;
         }
         i += 1;

@@ -1,3 +1,4 @@
+use super::table::{self, LIST_WORDS};
 use super::*;
 
 const SCRIPT: &str = include_str!("../../../examples/wait.script");
@@ -140,4 +141,33 @@ fn a_call_and_its_line_are_each_other_back() {
         let call = parse(text).expect("good text").expect("a call");
         assert_eq!(line(&call), text);
     }
+}
+
+/// Rows as later calls will have them: a text, four numbers, an answer of the oracle's own.
+const LATER: &[Row] = &[Row {
+    name: "say",
+    params: &[table::Param("word", u32::MAX as u64), table::Param("number of words", 16_384)],
+    tail: Tail::Text,
+    meaning: Meaning::Own(|_, given| Ok(format!("say {}\n", given.text.len()))),
+}];
+
+fn said(text: &[u8]) -> Result<Vec<u8>, String> {
+    match table::parse(LATER, text)? {
+        Some(Call::Own { given, .. }) => Ok(given.text),
+        other => Err(format!("{other:?}")),
+    }
+}
+
+#[test]
+fn a_text_is_the_rest_of_the_line_as_it_stands() {
+    assert_eq!(said(b"say 6 16 # 5 * # \xff"), Ok(b"# 5 * # \xff".to_vec()));
+    assert_eq!(said(b" say 6  16"), Ok(Vec::new()));
+    assert_eq!(said(b"say 6 16 "), Ok(Vec::new()));
+    assert_eq!(said(b"say 6 16  a\r"), Ok(b" a\r".to_vec()));
+    assert_eq!(said(b"say # 5"), Err("say: word is no decimal number".to_owned()));
+    assert_eq!(said(b"say 6 16#x"), Err("say: number of words is no decimal number".to_owned()));
+    assert_eq!(said(b"say#6 16 x"), Err("say: word is no decimal number".to_owned()));
+    assert_eq!(said(b"say 6"), Err("say: number of words is missing".to_owned()));
+    assert_eq!(said(b"say 6 16385 x"), Err("say: number of words is over 16384".to_owned()));
+    assert_eq!(said(b"# say 6 16 x"), Err("None".to_owned()));
 }

@@ -1,7 +1,8 @@
 -- `engine::counters` meets its contract. Assumes nothing.
 use native.Mathlib.Omega.{arith}
 use borrow.Author.Needs.{needs}
-use Rattle.engine.proofs.Seeing.{is-store, counters-refused}
+use Rattle.engine.proofs.Seeing.{is-store}
+use Rattle.engine.proofs.AskedLaws.{counters-refused}
 use Rattle.engine.proofs.counters.Statement.{statement}
 use Rattle.engine.proofs.counters.Tie as tie
 

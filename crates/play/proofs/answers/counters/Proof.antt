@@ -1,7 +1,7 @@
 -- `play::answers::counters` meets its contract. Assumes nothing.
 use native.Mathlib.Omega.{arith}
 use borrow.Author.Needs.{needs}
-use Rattle.play.proofs.Gathering.{gathers-refusal, gathers-answer}
+use Rattle.play.proofs.Gathering.{gathers-line, gathers-refusal, gathers-answer}
 use Rattle.play.proofs.answers.counters.Statement.{statement}
 use Rattle.play.proofs.answers.counters.Tie as tie
 
@@ -9,7 +9,7 @@ returns : tie.Need-returns
 returns c = gathers-refusal _ _ _ _ _ _ _ (λ e. omega (arith, e, c .before .before .before .before .if1 .taken)) (c .before .before .refused .ensures)
 
 returns-2 : tie.Need-returns-2
-returns-2 c = gathers-answer _ _ _ _ _ _ _ (c .before .before .before .before .if1 .left) (c .before .before .counters .ensures)
+returns-2 c = gathers-answer _ _ _ _ _ _ _ (c .before .before .before .before .before .before .before .before .before .before .before .before .before .if1 .left) (gathers-line _ _ (c .before .before .before .before .before .before .before .before .before .before .text .ensures) (c .before .before .before .before .before .before .words .ensures) (c .before .before .end .ensures))
 
 pub counters-spec : {M : Type 1} → statement M
-counters-spec = tie.close (tie.spec (λ c κs. search needs) (λ c. search needs) returns (λ c κs. search needs) (λ c. search needs) returns-2)
+counters-spec = tie.close (tie.spec (λ c κs. search needs) (λ c. search needs) returns (λ c. search needs) (λ c κs. search needs) (λ c κs. search needs) (λ c κs. search needs) (λ c. search needs) returns-2)

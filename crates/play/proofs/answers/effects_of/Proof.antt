@@ -1,31 +1,7 @@
--- `play::answers::effects_of` meets its contract and ends. The buffer keeps its length. Assumes nothing.
-use mathlib.Core.Path.{_≡_, refl}
-use Prim.Native.Nat.{_-_, _≤_, zero-le}
-use native.Mathlib.Omega.{arith}
+-- `play::answers::effects_of` meets its contract. Assumes nothing.
 use borrow.Author.Needs.{needs}
-use lib.ListN.{length}
-use Rattle.play.specs.Gathered.{Gathers}
-use Rattle.play.specs.Printed.{effectLines}
-use Rattle.play.proofs.Gathering.{no-effects, effects-more, gathers-all}
 use Rattle.play.proofs.answers.effects_of.Statement.{statement}
 use Rattle.play.proofs.answers.effects_of.Tie as tie
 
-abbrev Inv-loop : tie.InvT-loop
-Inv-loop out₀ first count effects t₀ i₀ out t i = (length out ≡ length out₀) × (i ≤ count) × Gathers out₀ t₀ (effectLines effects first i) out t
-
-abbrev μ-loop : tie.MeasureT-loop
-μ-loop out₀ first count effects t₀ i₀ out t i = count - i
-
 pub effects-of-spec : {M : Type 1} → statement M
-effects-of-spec =
-    tie.close
-    (tie.spec
-    Inv-loop
-    μ-loop
-    (λ c. (refl, zero-le, no-effects _ _ _ _))
-    (λ c κs. search needs)
-    (λ c. omega arith)
-    (λ c. omega arith)
-    (λ c. (search needs, omega arith, effects-more _ _ _ _ _ _ _ _ _ (c .before .before .before .before .before .loop .inv .2) (c .before .before .effect-at .ensures)))
-    (λ c. search needs)
-    (λ c. gathers-all (effectLines _ _) _ _ _ _ _ _ (omega arith) (c .before .loop .inv .2)))
+effects-of-spec = tie.close (tie.spec (λ c. search needs) (λ c κs. search needs) (λ c. search needs) (λ c. c .before .before .rows .ensures))

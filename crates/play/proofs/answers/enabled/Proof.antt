@@ -1,7 +1,8 @@
 -- `play::answers::enabled` meets its contract. Assumes nothing.
 use native.Mathlib.Omega.{arith}
 use borrow.Author.Needs.{needs}
-use Rattle.play.proofs.Gathering.{gathers-refusal, gathers-answer}
+use Rattle.script.specs.Print.{enabledLine}
+use Rattle.play.proofs.Gathering.{gathers-then, gathers-line, gathers-refusal, gathers-answer}
 use Rattle.play.proofs.answers.enabled.Statement.{statement}
 use Rattle.play.proofs.answers.enabled.Tie as tie
 
@@ -9,7 +10,8 @@ returns : tie.Need-returns
 returns c = gathers-refusal _ _ _ _ _ _ _ (λ e. omega (arith, e, c .before .before .before .before .if1 .taken)) (c .before .before .refused .ensures)
 
 returns-2 : tie.Need-returns-2
-returns-2 c = gathers-answer _ _ _ _ _ _ _ (c .before .before .before .before .before .if1 .left) (rw (← c .before .before .before .before .word .ensures) (c .before .before .enabled .ensures))
+unfolding enabledLine
+returns-2 c = gathers-answer _ _ _ _ _ _ _ (c .before .before .before .before .before .before .before .before .before .before .before .before .before .before .before .before .before .before .if1 .left) (rw (← c .before .before .before .before .before .before .before .before .before .before .before .before .before .before .before .before .before .word .ensures) (gathers-line _ _ (c .before .before .before .before .before .before .before .before .before .before .before .before .before .before .text .ensures) (gathers-then _ _ _ _ _ _ _ _ (c .before .before .before .before .before .before .before .before .before .before .number .ensures) (c .before .before .before .before .before .before .known .ensures)) (c .before .before .end .ensures)))
 
 pub enabled-spec : {M : Type 1} → statement M
-enabled-spec = tie.close (tie.spec (λ c κs. search needs) (λ c. search needs) returns (λ c κs. search needs) (λ c κs. search needs) (λ c. search needs) returns-2)
+enabled-spec = tie.close (tie.spec (λ c κs. search needs) (λ c. search needs) returns (λ c κs. search needs) (λ c. search needs) (λ c κs. search needs) (λ c κs. search needs) (λ c κs. search needs) (λ c κs. search needs) (λ c. search needs) returns-2)

@@ -11,4 +11,4 @@ unfolding called
 returns c = does-read _ _ _ _ (c .before .before .before .before .before .before .before .before .before .within .ensures) _ (c .before .before .before .before .before .before .cerambiu-counters .ensures) _ _ _ _ refl (c .before .before .counters .ensures)
 
 pub counters-spec : {M : Type 1} → statement M
-counters-spec = tie.close (tie.spec (λ c κs. search needs) (λ c. search needs) (λ c. search needs) (λ c κs. search needs) (λ c κs. search needs) (λ c. search needs) returns)
+counters-spec = tie.close (tie.spec (λ c κs. search needs) (λ c. search needs) (λ c. search needs) (λ c κs. search needs) (λ c. search needs) (λ c κs. search needs) (λ c. search needs) returns)

@@ -1,6 +1,4 @@
 -- `script::complain::counted` meets its contract. Assumes nothing.
-use mathlib.Core.Path.{_≡_, sym, ap, _∙_}
-use native.Mathlib.Omega.{arith}
 use borrow.Author.Needs.{needs}
 use Rattle.script.proofs.Putting.{then, bytes-by}
 use Rattle.script.proofs.Lines.{of-call-twice}

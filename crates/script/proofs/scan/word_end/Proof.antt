@@ -5,7 +5,7 @@ use native.Mathlib.Nat.{le-of-lt}
 use native.Mathlib.Omega.{arith}
 use borrow.Author.Needs.{needs}
 use lib.ListN.{length, drop}
-use Rattle.script.proofs.Splits.{Within, within-first, within-more, within-ends, space-here, space-end}
+use Rattle.script.proofs.Splits.{Within, within-first, within-more, within-ends, within-left, space-here, space-end}
 use Rattle.script.proofs.scan.word_end.Statement.{statement}
 use Rattle.script.proofs.scan.word_end.Tie as tie
 
@@ -20,11 +20,9 @@ loop-holds c = (search needs, (search needs, within-first _ _ (c .before .pre .0
 
 returns : tie.Need-returns Inv-loop μ-loop
 returns c =
-    record {
-      within = search needs;
-      behind = search needs;
-      word = within-ends _ _ _ (c .before .before .before .before .loop .inv .1 .1) (space-here _ _ (c .before .before .before .loop-test .taken) (sym (c .before .is-space .ensures) ∙ c .if1 .taken));
-    }
+    let w = c .before .before .before .before .loop .inv .1 .1 in
+    let e = space-here _ _ (c .before .before .before .loop-test .taken) (sym (c .before .is-space .ensures) ∙ c .if1 .taken) in
+    record { within = search needs; behind = search needs; word = within-ends _ _ _ w e; left = within-left _ _ _ w e }
 
 loop-again : tie.Need-loop-again Inv-loop μ-loop
 loop-again c = (
@@ -37,11 +35,9 @@ loop-again c = (
 
 returns-2 : tie.Need-returns-2 Inv-loop μ-loop
 returns-2 c =
-    record {
-      within = search needs;
-      behind = search needs;
-      word = within-ends _ _ _ (c .before .loop .inv .1 .1) (space-end _ _ (c .loop-test .left));
-    }
+    let w = c .before .loop .inv .1 .1 in
+    let e = space-end _ _ (c .loop-test .left) in
+    record { within = search needs; behind = search needs; word = within-ends _ _ _ w e; left = within-left _ _ _ w e }
 
 pub word-end-spec : {M : Type 1} → statement M
 word-end-spec =

@@ -1,0 +1,63 @@
+-- `script::calls::row` meets its contract. In an arm the call is known, so that the definition computes. Assumes nothing.
+use mathlib.Core.List.{[]}
+use lib.ListN.{List·getD-eq-default}
+use Rattle.counters.proofs.Match.{past}
+use Rattle.script.specs.Table.{row, rows, Nothing}
+use Rattle.script.specs.Rows.{shapeOf}
+use Rattle.script.proofs.calls.row.Statement.{statement}
+use Rattle.script.proofs.calls.row.Tie as tie
+
+returns : tie.Need-returns
+unfolding rows shapeOf
+returns c = rw (c .match .keys1)
+
+returns-2 : tie.Need-returns-2
+unfolding rows shapeOf
+returns-2 c = rw (c .match .keys2)
+
+returns-3 : tie.Need-returns-3
+unfolding rows shapeOf
+returns-3 c = rw (c .match .keys3)
+
+returns-4 : tie.Need-returns-4
+unfolding rows shapeOf
+returns-4 c = rw (c .match .keys4)
+
+returns-5 : tie.Need-returns-5
+unfolding rows shapeOf
+returns-5 c = rw (c .match .keys5)
+
+returns-6 : tie.Need-returns-6
+unfolding rows shapeOf
+returns-6 c = rw (c .match .keys6)
+
+returns-7 : tie.Need-returns-7
+unfolding rows shapeOf
+returns-7 c = rw (c .match .keys7)
+
+returns-8 : tie.Need-returns-8
+unfolding rows shapeOf
+returns-8 c = rw (c .match .keys8)
+
+returns-9 : tie.Need-returns-9
+unfolding rows shapeOf
+returns-9 c = rw (c .match .keys9)
+
+returns-10 : tie.Need-returns-10
+unfolding rows shapeOf
+returns-10 c = rw (c .match .keys10)
+
+returns-11 : tie.Need-returns-11
+unfolding rows shapeOf
+returns-11 c = rw (c .match .keys11)
+
+returns-12 : tie.Need-returns-12
+unfolding rows shapeOf
+returns-12 c = rw (c .match .keys12)
+
+returns-13 : tie.Need-returns-13
+unfolding rows shapeOf
+returns-13 c = rw (List·getD-eq-default rows (row "" [] Nothing) (past 12 _ (c .match .rest)))
+
+pub row-spec : {M : Type 1} → statement M
+row-spec = tie.close (tie.spec returns returns-2 returns-3 returns-4 returns-5 returns-6 returns-7 returns-8 returns-9 returns-10 returns-11 returns-12 returns-13)
