@@ -56,22 +56,23 @@ impl Player {
         image.is_some_and(|image| Tables::of(image).records(ACTIONS).any(|record| record[0] == PERCENT))
     }
 
-    /// Of each pending record the places of the Rust's lists from which its steps are left. The Rust keeps the steps, not their place.
-    pub fn places(&self) -> Vec<Vec<Place>> {
-        let (kept, _) = self.house.kept();
-        kept.pending.iter().map(|held| held.places.iter().map(place_of).collect()).collect()
-    }
-
     /// The store that the house would have; None where its size is not a store's. A pending record has the first of its places, and one
     /// that has none a list that no rule has.
     pub fn store(&mut self) -> Option<Store> {
+        Some(self.store_and_places()?.0)
+    }
+
+    /// The store, and of each pending record all places of the Rust's lists from which its steps are left: the Rust keeps the steps, not their
+    /// place.
+    pub fn store_and_places(&mut self) -> Option<(Store, Vec<Vec<Place>>)> {
         let Answer::Counters(counters) = self.house.call(&Call::Counters) else {
             return None;
         };
         let (kept, next) = self.house.kept();
         let names = self.image.as_deref().map_or_else(Vec::new, |image| Tables::of(image).rule_names());
         let of_rules = || names.iter().map(|rule| name(*rule));
-        Some(Store {
+        let places = kept.pending.iter().map(|held| held.places.iter().map(place_of).collect()).collect();
+        let store = Store {
             last: kept.now_ms,
             image: self.image.clone(),
             activations: of_rules().map(|rule| kept.last_activation_ms.get(&rule).copied()).collect(),
@@ -84,7 +85,8 @@ impl Player {
             week_minute: kept.prev_week_min,
             next,
             counters: std::array::from_fn(|place| counters[place]),
-        })
+        };
+        Some((store, places))
     }
 }
 

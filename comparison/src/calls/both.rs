@@ -142,7 +142,7 @@ impl<'a> Both<'a> {
 
     /// All words of the store are what the Rust keeps.
     fn compare_store(&mut self, before: &[u32], call: &Call) -> Result<(), Difference> {
-        let Some(mut store) = self.player.store() else {
+        let Some((mut store, places)) = self.player.store_and_places() else {
             return Err(format!("{call:?}: the Rust's state has no words"));
         };
         if matches!(call, Call::New { .. }) {
@@ -159,7 +159,7 @@ impl<'a> Both<'a> {
             let (old, new) = (variable_names(before), variable_names(words));
             ask(new.starts_with(&old), || format!("{call:?}: variables have moved: {old:?}, {new:?}"))?;
         }
-        arrange(&mut store, &self.player.places(), words);
+        arrange(&mut store, &places, words);
         let wanted = store.words();
         let place = (0..WORDS).find(|place| words[*place] != wanted[*place]);
         ask(place.is_none(), || {

@@ -69,7 +69,7 @@ impl Engine {
             vars: vol.vars.clone(),
             timers: vol.timers.iter().map(|t| (t.name.clone(), t.due_ms)).collect(),
             every: vol.every.iter().map(slot).collect(),
-            pending: vol.continuations.iter().map(|c| pending(c, self.rules.as_ref())).collect(),
+            pending: pendings(&vol.continuations, self.rules.as_ref()),
             prev_week_min: vol.prev_week_min,
         }
     }
@@ -84,19 +84,23 @@ fn slot(slot: &super::state::EverySlot) -> KeptSlot {
     }
 }
 
-fn pending(held: &Continuation, rules: Option<&RuleSet>) -> KeptPending {
-    let rule = rules.and_then(|set| set.rule(&held.rule).map(|rule| (set, rule)));
-    let places = rule.map_or_else(Vec::new, |(set, rule)| {
-        let own: Vec<FlatStep> = flatten_rule(&rule.actions, &set.blocks).into();
-        places_in_lists(&own, &held.steps)
-    });
+/// Each rule's list is flattened once, however many continuations it has.
+fn pendings(held: &[Continuation], rules: Option<&RuleSet>) -> Vec<KeptPending> {
+    let mut lists: BTreeMap<&str, Vec<FlatStep>> = BTreeMap::new();
+    for (set, rule) in held.iter().filter_map(|held| rules.and_then(|set| Some((set, set.rule(&held.rule)?)))) {
+        lists.entry(&rule.name).or_insert_with(|| flatten_rule(&rule.actions, &set.blocks).into());
+    }
+    held.iter().map(|held| pending(held, lists.get(held.rule.as_str()))).collect()
+}
+
+fn pending(held: &Continuation, own: Option<&Vec<FlatStep>>) -> KeptPending {
     KeptPending {
         seq: held.seq,
         due_ms: held.due_ms,
         rule: held.rule.clone(),
         trigger_kind: held.trigger_kind,
         budget_left: held.budget_left,
-        places,
+        places: own.map_or_else(Vec::new, |own| places_in_lists(own, &held.steps)),
     }
 }
 
