@@ -1,6 +1,7 @@
 // The cycle of flattening. "A block may call itself, down to the call depth limit": it falls on the calls left, then on the records
 // left in the table. At most 12 lists are open at once (specs/OpenLists.antt, proofs/OpenBound.antt). A rule's own list is written into
 // `list`, an after's body into `body`, and from there into the lent tail of the flat steps, `bodies`; it is compared with `seen` too.
+// The file is long because the six functions call each other and each has the same long signature: they are read, and proved, together.
 use crate::Answer;
 use crate::Found;
 use crate::Progress;

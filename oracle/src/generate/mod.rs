@@ -295,8 +295,10 @@ mod tests {
 
     #[test]
     fn a_seed_gives_one_history() {
-        assert_eq!(history(7), history(7));
-        assert_ne!(history(7), history(8));
+        for history in [history, super::set_back::history, super::sharing::history] {
+            assert_eq!(history(7), history(7));
+            assert_ne!(history(7), history(8));
+        }
     }
 
     #[test]

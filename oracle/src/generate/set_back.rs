@@ -88,12 +88,6 @@ mod tests {
     use crate::house::{Answer, House};
 
     #[test]
-    fn a_seed_gives_one_history() {
-        assert_eq!(history(7), history(7));
-        assert_ne!(history(7), history(8));
-    }
-
-    #[test]
     fn no_call_is_refused_and_most_histories_set_a_clock_back() {
         let mut set_back = 0;
         for seed in 0..400 {

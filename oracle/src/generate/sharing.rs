@@ -135,12 +135,6 @@ mod tests {
     use crate::house::{Answer, Call, House};
 
     #[test]
-    fn a_seed_gives_one_history() {
-        assert_eq!(history(7), history(7));
-        assert_ne!(history(7), history(8));
-    }
-
-    #[test]
     fn no_call_is_refused_and_every_set_fits_only_by_sharing() {
         for seed in 0..200 {
             let mut house = House::new();
