@@ -14,8 +14,8 @@ use Rattle.model.specs.State as model-state
 use Rattle.model.specs.declared.Effect.{Effect}
 use Rattle.state.specs.Meaning.{Sound, Means, meaning}
 use Rattle.state.proofs.Follows.{accepted-by-next}
-use Rattle.exec.specs.PutEffects.{putEffects}
-use Rattle.exec.proofs.Written as exec-written
+use Rattle.lent_words.specs.PutEffects.{putEffects}
+use Rattle.lent_words.proofs.Written as lent-written
 use Rattle.activate.specs.Handled.{Continues, Within, Room, putOutcomes, allEffects}
 use Rattle.activate.specs.declared.Handled.{Handled}
 use Rattle.activate.proofs.Written.{put-append, all-effects-length, lent-outcomes, lent-effects}
@@ -40,7 +40,7 @@ then-continues x ow ew h r ow′ ew′ k s ow″ ew″ a b =
       outcomes = omega (arith, a .outcomes, b .outcomes, length-append os ps);
       effects = omega (arith, a .effects, b .effects, effects-append os ps);
       outcomeWords = b .outcomeWords ∙ rw (a .outcomes, a .effects, a .outcomeWords) (sym (put-append ow (x .outcomes) (x .effects) os ps));
-      effectWords = b .effectWords ∙ rw (a .effects, a .effectWords, all-effects-append os ps, ← all-effects-length os) (sym (exec-written.put-append ew (x .effects) (allEffects os) (allEffects ps)));
+      effectWords = b .effectWords ∙ rw (a .effects, a .effectWords, all-effects-append os ps, ← all-effects-length os) (sym (lent-written.put-append ew (x .effects) (allEffects os) (allEffects ps)));
     }
 
 -- the state alone changes

@@ -26,7 +26,7 @@ use Rattle.state.proofs.Follows.{follows, accepted-by-next}
 use Rattle.eval.specs.Answers.{envOf}
 use Rattle.exec.specs.DryRuns as exec-dry
 use Rattle.exec.specs.Lists.{FlatWords}
-use Rattle.exec.specs.PutEffects.{putEffects}
+use Rattle.lent_words.specs.PutEffects.{putEffects}
 use Rattle.exec.specs.Results.{jobOf}
 use Rattle.exec.specs.Runs as exec
 use Rattle.exec.specs.declared.Job.{Job}

@@ -1,5 +1,5 @@
 -- Outcomes written into lent words. Assumes nothing.
-use Prim.Native.Nat.{ℕ, zero, suc, _+_, _*_, _-_, _≤_, _<_}
+use Prim.Native.Nat.{ℕ, suc, _+_, _*_, _-_, _≤_, _<_}
 use native.Mathlib.Omega.{arith}
 use mathlib.Core.Path.{_≡_, refl, sym, ap, _∙_}
 use mathlib.Core.Bool.{Bool, true, false, cond}
@@ -14,11 +14,10 @@ use Rattle.model.specs.Answers.{outcomeWords, lent}
 use Rattle.model.specs.Calls.{effectsOf}
 use Rattle.model.specs.Outcome.{Outcome}
 use Rattle.model.specs.declared.Effect.{Effect}
-use Rattle.exec.specs.PutEffects as exec
-use Rattle.exec.specs.PutEffects.{putEffects}
+use Rattle.lent_words.specs.PutEffects.{putEffects}
 use Rattle.exec.specs.Results.{jobOf}
 use Rattle.exec.specs.declared.Job.{Job}
-use Rattle.exec.proofs.Written as exec-written
+use Rattle.lent_words.proofs.Written.{drop-zeros, lent-list}
 use Rattle.activate.specs.Handled.{putOutcome, putOutcomes, allEffects}
 use Rattle.activate.specs.Outcomes.{Puts}
 
@@ -108,11 +107,6 @@ put-all w n first (o ∷ os) h =
     put-all v (suc n) next os more ∙ ap (λ (l : List ℕ). (l ++ outcomeWords next os) ++ drop ((suc n + length os) * 6) v) front ∙ ap (λ (l : List ℕ). ((take (n * 6) w ++ six w n first o) ++ outcomeWords next os) ++ l) far ∙ ap (λ (l : List ℕ). l ++ drop ((n + suc (length os)) * 6) w) (append-assoc (take (n * 6) w) (six w n first o) (outcomeWords next os))
 
 -- ---- words that were all 0
-drop-zeros : (k n : ℕ) → drop {A = ℕ} k (replicate n 0) ≡ replicate (n - k) 0
-drop-zeros zero n = let e : n ≡ n - 0 = omega arith in ap (λ (k : ℕ). replicate k 0) e
-drop-zeros (suc k) zero = let e : 0 ≡ 0 - suc k = omega arith in ap (λ (m : ℕ). replicate m 0) e
-drop-zeros (suc k) (suc n) = let e : n - k ≡ suc n - suc k = omega arith in drop-zeros k n ∙ ap (λ (m : ℕ). replicate m 0) e
-
 outcome-words-length : (first : ℕ) (os : List Outcome) → length (outcomeWords first os) ≡ length os * 6
 unfolding outcomeWords
 outcome-words-length first [] = refl
@@ -123,32 +117,23 @@ lent-outcomes w os z h =
     let e : 0 + length os ≡ length os = omega arith in
     rw e at (put-all w 0 0 os) h ∙ ap (λ (l : List ℕ). outcomeWords 0 os ++ drop (length os * 6) l) z ∙ ap (λ (l : List ℕ). outcomeWords 0 os ++ l) (drop-zeros (length os * 6) (length w)) ∙ ap (λ (k : ℕ). outcomeWords 0 os ++ replicate (length w - k) 0) (sym (outcome-words-length 0 os))
 
-effect-words-append : (xs ys : List Effect) → exec.effectWords (xs ++ ys) ≡ exec.effectWords xs ++ exec.effectWords ys
+effect-words-append : (xs ys : List Effect) → answers.wordsOfEffects (xs ++ ys) ≡ answers.wordsOfEffects xs ++ answers.wordsOfEffects ys
+unfolding answers.wordsOfEffects
 effect-words-append [] ys = refl
 effect-words-append (x ∷ xs) ys = ap (λ (l : List ℕ). x .kind ∷ x .a ∷ x .b ∷ x .c ∷ x .d ∷ l) (effect-words-append xs ys)
 
-words-of-effects : (xs : List Effect) → exec.effectWords xs ≡ answers.wordsOfEffects xs
-unfolding answers.wordsOfEffects
-words-of-effects [] = refl
-words-of-effects (x ∷ xs) = ap (λ (l : List ℕ). x .kind ∷ x .a ∷ x .b ∷ x .c ∷ x .d ∷ l) (words-of-effects xs)
-
-all-effect-words : (os : List Outcome) → exec.effectWords (allEffects os) ≡ answers.effectWords os
+all-effect-words : (os : List Outcome) → answers.wordsOfEffects (allEffects os) ≡ answers.effectWords os
 unfolding answers.effectWords
-all-effect-words [] = refl
+all-effect-words [] = unfold answers.wordsOfEffects in refl
 all-effect-words (o ∷ os) =
-    effect-words-append (o .effects) (allEffects os) ∙ ap (λ (l : List ℕ). l ++ exec.effectWords (allEffects os)) (words-of-effects (o .effects)) ∙ ap (λ (l : List ℕ). answers.wordsOfEffects (o .effects) ++ l) (all-effect-words os)
+    effect-words-append (o .effects) (allEffects os) ∙ ap (λ (l : List ℕ). answers.wordsOfEffects (o .effects) ++ l) (all-effect-words os)
 
 pub all-effects-length : (os : List Outcome) → length (allEffects os) ≡ effectsOf os
 all-effects-length [] = refl
 all-effects-length (o ∷ os) = length-append (o .effects) (allEffects os) ∙ ap (λ (k : ℕ). length (o .effects) + k) (all-effects-length os)
 
-effect-words-length : (xs : List Effect) → length (exec.effectWords xs) ≡ length xs * 5
-effect-words-length [] = refl
-effect-words-length (x ∷ xs) = let e = effect-words-length xs in omega (arith, e)
-
 pub lent-effects : (w : List ℕ) (os : List Outcome) → w ≡ replicate (length w) 0 → effectsOf os * 5 ≤ length w → putEffects w 0 (allEffects os) ≡ lent (length w) (answers.effectWords os)
 lent-effects w os z h =
     let xs = allEffects os in
     let k : length xs * 5 ≤ length w = rw (all-effects-length os) h in
-    let e : 0 + length xs ≡ length xs = omega arith in
-    rw e at (exec-written.put-all w 0 xs) k ∙ ap (λ (l : List ℕ). exec.effectWords xs ++ drop (length xs * 5) l) z ∙ ap (λ (l : List ℕ). exec.effectWords xs ++ l) (drop-zeros (length xs * 5) (length w)) ∙ ap (λ (m : ℕ). exec.effectWords xs ++ replicate (length w - m) 0) (sym (effect-words-length xs)) ∙ ap (λ (l : List ℕ). l ++ replicate (length w - length l) 0) (all-effect-words os)
+    lent-list w xs z k ∙ ap (λ (l : List ℕ). lent (length w) l) (all-effect-words os)

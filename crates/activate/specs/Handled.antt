@@ -15,7 +15,7 @@ use Rattle.model.specs.Steps.{FlatStep}
 use Rattle.flat.specs.Words.{Says}
 use Rattle.state.specs.Meaning.{Sound, Means, meaning}
 use Rattle.eval.specs.Answers.{envOf}
-use Rattle.exec.specs.PutEffects.{putEffects}
+use Rattle.lent_words.specs.PutEffects.{putEffects}
 use Rattle.activate.specs.declared.Handled.{Handled}
 use Rattle.activate.specs.declared.Mode.{Mode}
 use Rattle.activate.specs.declared.Mode.the-variants.{Auto, Manual, Dry}

@@ -1,12 +1,12 @@
 -- An array of 64 that is filled from the front, one element a turn: element i says f i. Assumes nothing.
 use mathlib.Core.Path.{_≡_, refl, sym, ap, _∙_}
-use mathlib.Core.List.{List, [], _∷_, _++_, map, append-nil}
+use mathlib.Core.List.{List, [], _∷_, _++_, map}
 use Prim.Native.Nat.{ℕ, zero, suc, _+_, _≤_, _<_}
 use native.Mathlib.Nat.{add-zero}
 use native.Mathlib.Numerals.{add-one}
 use native.Mathlib.Omega.{arith}
-use lib.ListN.{length, take, drop, set, replicate, length-set}
-use lib.Seq.{take-suc-set, drop-length}
+use lib.ListN.{length, take, set, length-set}
+use lib.Seq.{take-suc-set}
 use Rattle.model.specs.Lists.{upFrom}
 use Rattle.state.proofs.Mapped.{map-append}
 
@@ -45,9 +45,3 @@ module _ {A B : Type 0} (g : A → B) (f : ℕ → B) where
 pub map-same : {A : Type 0} (l : List A) → map (λ x. x) l ≡ l
 map-same [] = refl
 map-same {A = A} (x ∷ l) = ap (λ (t : List A). x ∷ t) (map-same l)
-
--- a list that was filled with zeros from the front to its end
-pub all-filled : (d l : List ℕ) (i : ℕ) → l ≡ replicate i 0 ++ drop i d → i ≤ length d → length d ≤ i → l ≡ replicate (length d) 0
-all-filled d l i e h g =
-    let q : i ≡ length d = omega arith in
-    e ∙ ap (λ (n : ℕ). replicate n 0 ++ drop n d) q ∙ ap (λ (t : List ℕ). replicate (length d) 0 ++ t) (drop-length d) ∙ append-nil (replicate (length d) 0)

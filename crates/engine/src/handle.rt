@@ -26,23 +26,12 @@ ghost use Rattle.engine.specs.Seen.{seen};
 ghost use Rattle.engine.specs.Answers.{shown};
 ghost use Rattle.engine.specs.Handling.{begun, ranIn, tickedIn, Commits};
 
-// Zeros in a lent store.
-pub fn clear(words: &mut [u32])
-    ensures { λ _. ⌜ now (words .exit) ≡ replicate (length (now (words .entry))) 0 ⌝ }
-{
-    let mut i = 0;
-    while i < words.len() {
-        words[i] = 0;
-        i += 1;
-    }
-}
-
 // A refusal leaves nothing in the lent stores.
 fn refuse(outcomes: &mut [u32], effects: &mut [u32], number: u32) -> Answer
     ensures { λ r. ⌜ (r ≡ Refused number) × (now (outcomes .exit) ≡ replicate (length (now (outcomes .entry))) 0) × (now (effects .exit) ≡ replicate (length (now (effects .entry))) 0) ⌝ }
 {
-    clear(outcomes);
-    clear(effects);
+    lent_words::clear(outcomes);
+    lent_words::clear(effects);
     Answer::Refused(number)
 }
 
@@ -60,7 +49,7 @@ fn commit(
     if outcomes.len() / activate::OUTCOME_WORDS < x.outcomes as usize {
         return refuse(outcomes, effects, 30);
     }
-    if effects.len() / exec::EFFECT_WORDS < x.effects as usize {
+    if effects.len() / lent_words::EFFECT_WORDS < x.effects as usize {
         return refuse(outcomes, effects, 30);
     }
     let v = x.vol;

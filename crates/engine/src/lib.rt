@@ -92,8 +92,8 @@ pub fn tick(
 ) -> Answer
     ensures { λ r. ⌜ shown r (now (store .exit)) (now (outcomes .exit)) (now (effects .exit)) ≡ seen (callOn (tick (now (snapshot .entry)) (length (now (outcomes .entry))) (length (now (effects .entry)))) (now (store .entry))) ⌝ }
 {
-    handle::clear(outcomes);
-    handle::clear(effects);
+    lent_words::clear(outcomes);
+    lent_words::clear(effects);
     let n = stored::refusal(store);
     if n != 0 {
         return Answer::Refused(n);
@@ -116,8 +116,8 @@ pub fn run(
 ) -> Answer
     ensures { λ r. ⌜ shown r (now (store .exit)) (now (outcomes .exit)) (now (effects .exit)) ≡ seen (callOn (run rule dry (now (snapshot .entry)) (length (now (outcomes .entry))) (length (now (effects .entry)))) (now (store .entry))) ⌝ }
 {
-    handle::clear(outcomes);
-    handle::clear(effects);
+    lent_words::clear(outcomes);
+    lent_words::clear(effects);
     let n = stored::refusal(store);
     if n != 0 {
         return Answer::Refused(n);

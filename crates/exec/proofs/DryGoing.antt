@@ -24,14 +24,14 @@ use Rattle.state.specs.Meaning.{Sound, meaning}
 use Rattle.state.specs.declared.Volatile.{Volatile}
 use Rattle.eval.specs.Answers.{envOf}
 use Rattle.exec.specs.Results.{effectOption, jobOf}
-use Rattle.exec.specs.PutEffects.{putEffects}
+use Rattle.lent_words.specs.PutEffects.{putEffects}
 use Rattle.exec.specs.Lists.{stepOption, stepIn}
 use Rattle.exec.specs.Runs.{Finished, finished}
 use Rattle.exec.specs.DryRuns.{bodiesOf, queuedBy, SameRun, Queues, Moved, DrySteps, DryTaken, DryMachine, dryMachine, finishDry, leftDry, DryTurned, DryFinishes, RunsDry}
 use Rattle.exec.specs.declared.Job.{Job}
 use Rattle.exec.specs.declared.RunResult.{RunResult}
 use Rattle.exec.specs.declared.StepResult.{StepResult}
-use Rattle.exec.proofs.Written.{put-append}
+use Rattle.lent_words.proofs.Written.{put-append}
 use Rattle.exec.proofs.Going.{few, reason-none, reason-assoc}
 use Rattle.exec.proofs.DryQueue.{is-step}
 use Rattle.exec.specs.declared.DryRun.{DryRun}

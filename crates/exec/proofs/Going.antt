@@ -25,7 +25,7 @@ use Rattle.state.specs.declared.Volatile.{Volatile}
 use Rattle.eval.specs.Answers.{envOf}
 use Rattle.exec.specs.Results.{effectOption, jobOf}
 use Rattle.exec.specs.Paid.{Steps, nextOption}
-use Rattle.exec.specs.PutEffects.{putEffects}
+use Rattle.lent_words.specs.PutEffects.{putEffects}
 use Rattle.exec.specs.Lists.{stepOption}
 use Rattle.exec.specs.Runs.{Machine, machine, Finished, finished, finish, takeStep, turnWith, turnOf, leftOf, Taken, Turned, Finishes, Runs}
 use Rattle.exec.specs.declared.Job.{Job}
@@ -36,7 +36,7 @@ use Rattle.exec.specs.declared.Next.the-variants.{Ends, At}
 use Rattle.exec.specs.declared.Run.{Run}
 use Rattle.exec.specs.declared.RunResult.{RunResult}
 use Rattle.exec.specs.declared.StepResult.{StepResult}
-use Rattle.exec.proofs.Written.{put-append}
+use Rattle.lent_words.proofs.Written.{put-append}
 use Rattle.exec.proofs.Bounds.{accepts-one, keeps-list}
 use Rattle.exec.proofs.Decoded.{said}
 

@@ -24,7 +24,7 @@ use Rattle.state.specs.declared.Volatile.{Volatile}
 use Rattle.eval.specs.Answers.{envOf}
 use Rattle.exec.specs.Results.{effectOption, jobOf}
 use Rattle.exec.specs.Paid.{nextOption}
-use Rattle.exec.specs.PutEffects.{putEffects}
+use Rattle.lent_words.specs.PutEffects.{putEffects}
 use Rattle.exec.specs.Runs.{Finished, finished}
 use Rattle.exec.specs.declared.DryRun.{DryRun}
 use Rattle.exec.specs.declared.Job.{Job}

@@ -1,7 +1,6 @@
 -- What the contracts of `exec` cite.
 pub mod Results
 pub mod Paid
-pub mod PutEffects
 pub mod Lists
 pub mod Runs
 pub mod DryRuns

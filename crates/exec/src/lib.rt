@@ -27,9 +27,6 @@ pub struct Job {
     pub dry: bool,
 }
 
-// The words of an effect in a lent store.
-pub const EFFECT_WORDS: usize = 5;
-
 // A step gives at most one effect.
 pub enum MaybeEffect {
     Nothing,

@@ -141,9 +141,9 @@ pub fn effects_of(o: Stream, out: &mut [u8], first: u32, count: u32, effects: &[
     ensures { λ r. ⌜ Gathers (now (out .entry)) o (effectLines (now (effects .entry)) first count) (now (out .exit)) r ⌝ }
 {
     let x = Columns {
-        width: exec::EFFECT_WORDS,
+        width: lent_words::EFFECT_WORDS,
         from: 0,
-        shown: exec::EFFECT_WORDS,
+        shown: lent_words::EFFECT_WORDS,
     };
     rows(o, out, b"effect", x, effects, first, count)
 }

@@ -12,7 +12,7 @@ use Rattle.model.specs.declared.Pending.{Pending}
 use Rattle.flat.specs.Words.{Says}
 use Rattle.state.specs.Meaning.{Sound, meaning}
 use Rattle.state.proofs.Follows.{accepted-by-next}
-use Rattle.exec.proofs.Written as exec-written
+use Rattle.lent_words.proofs.Written as lent-written
 use Rattle.activate.specs.Handled.{Continues, Room, Activates, Resumes, allEffects}
 use Rattle.activate.specs.declared.Handled.{Handled}
 use Rattle.activate.specs.declared.Mode.the-variants.{Auto}
@@ -26,7 +26,7 @@ module _ {x : Handled} {ow ew : List ℕ} {h : model.Handled} {r : Handled} {ow�
   same-outcomes = ap length (c .outcomeWords) ∙ puts-length ow (x .outcomes) (x .effects) (h .outcomes)
 
   pub same-effects : length ew′ ≡ length ew
-  same-effects = ap length (c .effectWords) ∙ exec-written.puts-length ew (x .effects) (allEffects (h .outcomes))
+  same-effects = ap length (c .effectWords) ∙ lent-written.puts-length ew (x .effects) (allEffects (h .outcomes))
 
 -- ONE RULE ----------------------------------------------------------------------------------------------------------------------------------
 module _ (snapshot image part : List ℕ) (own i : ℕ) (x : Handled) (ow ew : List ℕ) (r : Handled) (ow′ ew′ : List ℕ) (s : Says part own (getD (setOf image (flattenRules image) .flat) i [])) where

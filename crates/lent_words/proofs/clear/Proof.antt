@@ -1,4 +1,4 @@
--- `engine::handle::clear` meets its contract. Assumes nothing.
+-- `lent_words::clear` meets its contract. Assumes nothing.
 use mathlib.Core.Path.{_≡_, refl, ap, _∙_}
 use mathlib.Core.List.{List, _++_}
 use Prim.Native.Nat.{ℕ, _+_, _-_, _≤_}
@@ -6,9 +6,9 @@ use native.Mathlib.Omega.{arith}
 use lib.ListN.{length, drop, set, replicate, length-set}
 use borrow.Author.Fill.{fill-none, fill-more}
 use borrow.Author.Needs.{needs}
-use Rattle.engine.proofs.Filled.{all-filled}
-use Rattle.engine.proofs.handle.clear.Statement.{statement}
-use Rattle.engine.proofs.handle.clear.Tie as tie
+use Rattle.lent_words.proofs.Zeros.{all-filled}
+use Rattle.lent_words.proofs.clear.Statement.{statement}
+use Rattle.lent_words.proofs.clear.Tie as tie
 
 abbrev Inv-loop : tie.InvT-loop
 Inv-loop words₀ i₀ words i = (i ≤ length words₀) × (length words ≡ length words₀) × (words ≡ replicate i 0 ++ drop i words₀)

@@ -17,8 +17,3 @@ putEffect w n x =
 unfoldable pub putEffects : List ℕ → ℕ → List Effect → List ℕ
 putEffects w n [] = w
 putEffects w n (x ∷ xs) = putEffects (putEffect w n x) (suc n) xs
-
--- the words of effects
-abbrev pub effectWords : List Effect → List ℕ
-effectWords [] = []
-effectWords (x ∷ xs) = x .kind ∷ x .a ∷ x .b ∷ x .c ∷ x .d ∷ effectWords xs
