@@ -1,5 +1,6 @@
 /*
- * Cerambiu: a rules engine for the lighting of poultry houses, proved. This is its C interface: eight calls over words that the caller lends.
+ * Cerambiu: a rules engine for the lighting of poultry houses, proved. This is its C interface: eight calls over words that the caller lends, and a
+ * ninth that makes of a tick's effects the list to be sent on the bus.
  *
  * Link target/staticlib/libcerambiu.a (`rt staticlib cerambiu`; 90 KiB of code and constants). The library keeps nothing between calls, allocates
  * nothing, reads no clock, calls nothing but memcpy, memmove and memset, and every call returns. All that it remembers of a house is in one store
@@ -12,8 +13,9 @@
  *             Stores of one call do not overlap. A store that is not const is written within its words only.
  *   threads   Two calls may run at once if they share no store that either of them writes.
  *   stack     In bytes, at most, for every input, on x86-64: tick 210,696, run 164,632, load 52,104, unload 37,944, next_deadline 36,440,
- *             enable 36,392, counters 30,920, new 40. The gate computes them from the machine code. The return address is in; not in: what memcpy, memmove
- *             and memset use, the arguments that the caller pushes, the dynamic linker, interrupts (docs/PERFORMANCE.md, "Stack").
+ *             enable 36,392, counters 30,920, telegrams 88, new 40. The gate computes them from the machine code. The return address is in;
+ *             not in: what memcpy, memmove and memset use, the arguments that the caller pushes, the dynamic linker, interrupts
+ *             (docs/PERFORMANCE.md, "Stack").
  *   refusals  Each call returns 0, or the number of a refusal: the lowest that applies. A refused call has changed nothing: the store is as
  *             it was, and every word of the outcomes, the effects and the answer is 0.
  *   answers   Values go into the lent `answer`. Values past its end are not written; words behind the values are 0. Fewer words than a call has
@@ -64,6 +66,7 @@ extern "C" {
 #define CERAMBIU_RUN_VALUES 2       /* the same */
 #define CERAMBIU_DEADLINE_VALUES 3  /* mark, low word, high word; all 0 where there is no deadline */
 #define CERAMBIU_COUNTERS_VALUES 17 /* see enum cerambiu_counter */
+#define CERAMBIU_TELEGRAMS_VALUES 2 /* number of effects kept, low word and high word */
 
 /* REFUSALS, and who can cause each ------------------------------------------------------------------------------------------------- */
 
@@ -91,7 +94,11 @@ enum cerambiu_refusal {
 
     /* the host: tick and run */
     CERAMBIU_NO_ROOM = 30,       /* more outcomes or effects than the lent stores hold */
-    CERAMBIU_NO_NUMBER = 31      /* the call's continuations would take the next sequence number past 2^64 - 1 */
+    CERAMBIU_NO_NUMBER = 31,     /* the call's continuations would take the next sequence number past 2^64 - 1 */
+
+    /* the host: telegrams alone */
+    CERAMBIU_NO_EFFECTS = 60,    /* the words are no whole number of effects, or one has a kind above 12 */
+    CERAMBIU_LIST_SHORT = 61     /* fewer words lent for the list than 5 for each effect kept */
 };
 
 /* STORE ------------------------------------------------------------------------------------------------------------------------------
@@ -361,6 +368,17 @@ uint32_t cerambiu_next_deadline(const uint32_t *store, size_t store_words, uint3
 
 /* Answer: the 17 words of enum cerambiu_counter. Refusals: 1, 2. */
 uint32_t cerambiu_counters(const uint32_t *store, size_t store_words, uint32_t *answer, size_t answer_words);
+
+/* The list to be sent on the bus for a tick's effects, into `list`: the shortest that leaves every lamp the same. A level (kind 12) is left out
+ * where a later level has the same target and only levels and Logs (11) stand between; everything else is copied in its order. Each kind 0 to
+ * 10 cuts the list into stretches, whatever it is about; in each stretch the same targets are set as before, each with the same last level and hold.
+ *
+ * Hand over the first 5 * count words of the effect store, with the count of the tick's or run's answer, not the whole store: zeros are effects
+ * of kind 0. The list runs across outcomes; an outcome's "first effect" still counts in the effects as the tick gave them. No store is read; `effects` stays
+ * as it is. 5 * count words of list are always enough. Words of the list behind the kept effects are 0, and all of them on a refusal; nothing
+ * but kinds is checked. Answer: the number of effects kept, low word and high word. Refusals: 60, 61. Time: effects times different targets. */
+uint32_t cerambiu_telegrams(const uint32_t *effects, size_t effect_words, uint32_t *list, size_t list_words, uint32_t *answer,
+                            size_t answer_words);
 
 #ifdef __cplusplus
 }

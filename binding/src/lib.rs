@@ -1,4 +1,4 @@
-//! The eight proved calls over word slices: `include/cerambiu.h`, which says what the words mean, in safe Rust.
+//! The eight proved calls and the list of telegrams over word slices: `include/cerambiu.h`, which says what the words mean, in safe Rust.
 //!
 //! The functions of this module give Rust values. Those of [`words`] are the C functions as they are, with the lent words of the answer.
 
@@ -85,6 +85,14 @@ pub fn counters(store: &[u32]) -> Result<[u32; COUNTERS], Refused> {
     accepted(number, answer)
 }
 
+/// The shortest list of these effects that leaves every lamp the same. How many effects it has; the words of `list` behind them are 0.
+pub fn telegrams(effects: &[u32], list: &mut [u32]) -> Result<u64, Refused> {
+    let mut answer = [0; 2];
+    let number = words::telegrams(effects, list, &mut answer);
+    let [low, high] = answer.map(u64::from);
+    accepted(number, low | high << 32)
+}
+
 #[cfg(test)]
 mod tests {
     use super::*;
@@ -130,5 +138,16 @@ mod tests {
         assert_eq!(tick(&mut store, &[], &mut [], &mut []), Err(Refused(20)));
         store[2] = 2;
         assert_eq!(counters(&store), Err(Refused(2)));
+    }
+    #[test]
+    fn of_two_levels_round_a_log_the_last_is_sent() {
+        let effects = [12, 1, 10, 0, 0, 11, 7, 0, 0, 0, 12, 1, 20, 0, 0];
+        let mut list = [9; 12];
+        assert_eq!(telegrams(&effects, &mut list), Ok(2));
+        assert_eq!(list, [11, 7, 0, 0, 0, 12, 1, 20, 0, 0, 0, 0]);
+        assert_eq!(telegrams(&effects, &mut list[..9]), Err(Refused(61)));
+        assert_eq!(list, [0; 12]);
+        assert_eq!(telegrams(&effects[1..], &mut list), Err(Refused(60)));
+        assert_eq!(telegrams(&[], &mut []), Ok(0));
     }
 }

@@ -56,6 +56,14 @@ mod c {
             answer_words: usize,
         ) -> u32;
         pub fn cerambiu_counters(store: *const u32, store_words: usize, answer: *mut u32, answer_words: usize) -> u32;
+        pub fn cerambiu_telegrams(
+            effects: *const u32,
+            effect_words: usize,
+            list: *mut u32,
+            list_words: usize,
+            answer: *mut u32,
+            answer_words: usize,
+        ) -> u32;
     }
 }
 
@@ -138,4 +146,19 @@ pub fn next_deadline(store: &[u32], answer: &mut [u32]) -> u32 {
 pub fn counters(store: &[u32], answer: &mut [u32]) -> u32 {
     // SAFETY: as above.
     unsafe { c::cerambiu_counters(store.as_ptr(), store.len(), answer.as_mut_ptr(), answer.len()) }
+}
+
+pub fn telegrams(effects: &[u32], list: &mut [u32], answer: &mut [u32]) -> u32 {
+    let (list_words, answer_words) = (list.len(), answer.len());
+    // SAFETY: as above.
+    unsafe {
+        c::cerambiu_telegrams(
+            effects.as_ptr(),
+            effects.len(),
+            list.as_mut_ptr(),
+            list_words,
+            answer.as_mut_ptr(),
+            answer_words,
+        )
+    }
 }

@@ -7,7 +7,7 @@
 //!
 //! Prints the counts, the slowest images, and each difference; its status is 1 if there is one, or if a cell of the table is empty.
 //!
-//! `comparison calls ..` compares the eight calls (`calls`), `comparison speed ..` times them and `comparison once ..` makes each check once (`speed`).
+//! `comparison calls ..` compares the eight calls (`calls`), `comparison telegrams ..` the list of telegrams (`telegrams`), `comparison speed ..` times them and `comparison once ..` makes each check once (`speed`).
 
 mod calls;
 mod cells;
@@ -22,6 +22,7 @@ mod speed;
 mod store;
 mod store_reader;
 mod tables;
+mod telegrams;
 mod worst;
 
 use std::process::ExitCode;
@@ -36,7 +37,7 @@ fn numbers() -> Option<[u64; 3]> {
 }
 
 fn main() -> ExitCode {
-    if let Some(status) = calls::command().or_else(speed::command) {
+    if let Some(status) = calls::command().or_else(telegrams::command).or_else(speed::command) {
         return status;
     }
     let Some([histories, sweeps, seed]) = numbers() else {

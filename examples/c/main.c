@@ -1,5 +1,6 @@
 /*
- * A house in C: a new store, the rule of document 01's example, a run, two ticks; then three refusals, one for each who can cause one.
+ * A house in C: a new store, the rule of document 01's example, a run, two ticks; then three refusals, one for each who can cause one;
+ * then what is sent on the bus for three effects.
  *
  *   rt staticlib cerambiu
  *   cc -std=c99 -Iinclude examples/c/main.c target/staticlib/libcerambiu.a -o house && ./house
@@ -43,13 +44,18 @@ static void look(uint32_t snapshot[CERAMBIU_SNAPSHOT_HEAD_WORDS], uint64_t now)
     snapshot[8] = 1;
 }
 
+static void print_effects(const uint32_t *first, uint32_t count)
+{
+    for (uint32_t i = 0; i < count; i++) {
+        const uint32_t *effect = first + i * CERAMBIU_EFFECT_WORDS;
+        printf("effect %" PRIu32 " %" PRIu32 " %" PRIu32 " %" PRIu32 " %" PRIu32 "\n", effect[0], effect[1], effect[2], effect[3], effect[4]);
+    }
+}
+
 static void print_outcome(const uint32_t *outcome)
 {
     printf("rule %" PRIu32 " %" PRIu32 " %" PRIu32 " %" PRIu32 " %" PRIu32 "\n", outcome[0], outcome[1], outcome[2], outcome[3], outcome[5]);
-    for (uint32_t i = 0; i < outcome[5]; i++) {
-        const uint32_t *effect = effects + (outcome[4] + i) * CERAMBIU_EFFECT_WORDS;
-        printf("effect %" PRIu32 " %" PRIu32 " %" PRIu32 " %" PRIu32 " %" PRIu32 "\n", effect[0], effect[1], effect[2], effect[3], effect[4]);
-    }
+    print_effects(effects + outcome[4] * CERAMBIU_EFFECT_WORDS, outcome[5]);
 }
 
 /* What a tick or a run answered. */
@@ -84,6 +90,20 @@ static void run(uint64_t now, uint32_t rule, bool dry, size_t outcome_words)
     print_answer("run", now, refusal, answer);
 }
 
+/* Two levels for target 1 with a Log between them: the first need not be sent. */
+static void send(void)
+{
+    static const uint32_t full[] = { CERAMBIU_EFFECT_LEVEL, 1, 10, 0, 0, CERAMBIU_EFFECT_LOG, 7, 0, 0, 0, CERAMBIU_EFFECT_LEVEL, 1, 20, 0, 0 };
+    uint32_t list[COUNT(full)], kept[CERAMBIU_TELEGRAMS_VALUES];
+    uint32_t refusal = cerambiu_telegrams(full, COUNT(full), list, COUNT(list), kept, COUNT(kept));
+    if (refusal != CERAMBIU_OK) {
+        printf("telegrams refused %" PRIu32 "\n", refusal);
+        return;
+    }
+    printf("telegrams %" PRIu32 "\n", kept[0]);
+    print_effects(list, kept[0]);
+}
+
 int main(void)
 {
     uint32_t refusal = cerambiu_new(store, COUNT(store), 0);
@@ -110,5 +130,6 @@ int main(void)
     /* The host: no room for the outcome. Nothing has happened; with room the same run does it all. */
     run(1001, 5, true, CERAMBIU_OUTCOME_WORDS - 1);
     run(1001, 5, true, COUNT(outcomes));
+    send();
     return 0;
 }

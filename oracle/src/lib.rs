@@ -10,6 +10,7 @@ pub mod house;
 pub mod random;
 pub mod script;
 pub mod shrink;
+pub mod telegrams;
 pub mod vectors;
 
 pub use dali2rust_rules_model as model;

@@ -4,6 +4,7 @@
 //! new TIME | load TIME WORD.. | unload TIME | enable RULE 0|1 | tick WORD..
 //! run RULE DRY WORD.. | deadline | counters
 //! lend OUTCOME_WORDS EFFECT_WORDS | size WORDS | poke PLACE WORD | peek PLACE
+//! telegrams ROOM WORD..
 //! ```
 //!
 //! A `#` starts a comment. Bad text gets one line that names the line number and what is wrong, and
@@ -93,6 +94,11 @@ pub fn write(call: &Call, answer: &Answer) -> String {
 fn write_outcome(text: &mut String, outcome: &Outcome) {
     let Outcome { rule, dry, trigger, reason, effects } = outcome;
     let _ = writeln!(text, "rule {rule} {dry} {trigger} {reason} {}", effects.len());
+    write_effects(text, effects);
+}
+
+/// A line for each effect.
+pub(crate) fn write_effects(text: &mut String, effects: &[[u32; 5]]) {
     for effect in effects {
         text.push_str("effect");
         push_all(text, effect);

@@ -1,7 +1,8 @@
-// The C interface: the eight calls of crate `engine` under C names, as include/cerambiu.h describes them. A slice is a pointer and a length
-// in C. A call returns document 01's number of its refusal, 0 for none, and writes its values into the lent words of the answer. A contract is one
+// The C interface: the eight calls of crate `engine`, and `telegrams`, under C names, as include/cerambiu.h describes them. A slice is a pointer and a
+// length in C. A call returns document 01's number of its refusal, 0 for none, and writes its values into the lent words of the answer. A contract is one
 // equation with the specification's call on words (model's `callOn`), for all arguments.
 use engine::Answer;
+use model::TelegramAnswer;
 ghost use mathlib.Core.Path.{_≡_};
 ghost use mathlib.Core.Bool.{cond};
 ghost use mathlib.Core.List.{[]};
@@ -11,6 +12,7 @@ ghost use Rattle.model.specs.Calls.{new, load, unload, enable, tick, run, deadl
 ghost use Rattle.model.specs.OnWords.{callOn};
 ghost use Rattle.engine.specs.Answers.{numberOf, valuesOf};
 ghost use Rattle.cerambiu.specs.Called.{called, answered, lentAnswer};
+ghost use Rattle.cerambiu.specs.Told.{tells, told, telegramNumber, telegramValues, sending};
 
 fn number_of(a: Answer) -> u32
     ensures { λ r. ⌜ r ≡ numberOf a ⌝ }
@@ -154,4 +156,35 @@ pub extern "C" fn cerambiu_counters(store: &[u32], answer: &mut [u32]) -> u32
     let c = engine::counters(store);
     let values = c.values;
     put_asked(answer, c.refusal, &values)
+}
+
+fn telegram_number(a: TelegramAnswer) -> u32
+    ensures { λ r. ⌜ r ≡ telegramNumber a ⌝ }
+{
+    match a {
+        TelegramAnswer::Refused(number) => number,
+        TelegramAnswer::Kept(count) => 0,
+    }
+}
+
+fn telegram_values(a: TelegramAnswer) -> [u32; 2]
+    ensures { λ r. ⌜ r ≡ lentAnswer 2 (telegramValues a) ⌝ }
+{
+    match a {
+        TelegramAnswer::Refused(number) => [0, 0],
+        TelegramAnswer::Kept(count) => [
+            words::low_word(count as u64),
+            words::high_word(count as u64),
+        ],
+    }
+}
+
+#[no_mangle]
+pub extern "C" fn cerambiu_telegrams(effects: &[u32], list: &mut [u32], answer: &mut [u32]) -> u32
+    ensures { λ r. ⌜ tells r (now (answer .exit)) (now (list .exit)) ≡ told (length (now (answer .entry))) (sending (length (now (list .entry))) (now (effects .entry))) ⌝ }
+{
+    let a = telegrams::telegrams(effects, list);
+    let values = telegram_values(a);
+    put_values(answer, &values);
+    telegram_number(a)
 }

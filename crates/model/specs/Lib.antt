@@ -26,3 +26,4 @@ pub mod Wheel
 pub mod Calls
 pub mod Answers
 pub mod OnWords
+pub mod Telegrams

@@ -376,3 +376,9 @@ pub struct Effect {
     pub c: u32,
     pub d: u32,
 }
+
+// What the list of telegrams answers: the refusal's number, or how many effects are kept.
+pub enum TelegramAnswer {
+    Refused(u32),
+    Kept(usize),
+}

@@ -6,11 +6,13 @@ use lib.ListN.{length, getD, take, drop, take-append-drop}
 use lib.Seq.{take-at}
 use Rattle.model.specs.Calls.{Call}
 use Rattle.model.specs.OnWords.{callOn}
+use Rattle.engine.specs.Asked.{Asked}
 use Rattle.cerambiu.specs.Called.{Called, called, answered}
+use Rattle.cerambiu.specs.Told.{Told, tells, told}
 use Rattle.script.specs.declared.Line.{Line}
 use Rattle.play.specs.declared.Settings.{Settings}
 use Rattle.play.specs.declared.Stream.{Stream}
-use Rattle.play.specs.Printed.{callNumber, answerLines, handledLines, unlessRefused, callLines}
+use Rattle.play.specs.Printed.{callNumber, answerLines, handledLines, unlessRefused, callLines, toldLines}
 use Rattle.play.specs.Playing.{Obeyed, seenOn, calling, quiet, obeyed}
 use Rattle.play.specs.Gathered.{Gathers, Does}
 use Rattle.play.specs.Played.{Lends}
@@ -87,6 +89,18 @@ module _ (c : ℕ → ℕ → Call) (call time size n : ℕ) (w : List ℕ) (l :
         let x = called number answer w′ ow′ ew′ in
         does-call (c (min outcomes (length ow)) (min effects (length ew))) size n w l x (rw (a, d) at e) b after o r
         (rw (numbers (min outcomes (length ow)) (min effects (length ew)), lines (min outcomes (length ow)) (min effects (length ew)) x) (rw (to, te) at g))
+
+-- a call that asks is lent words for effects, to answer into
+module _ (a : ℕ → Asked) (call : ℕ) (lines : List ℕ → List ℕ → List ℕ) (room n : ℕ) (lw : List ℕ) (l : Lends room lw n) where
+  pub tells-lines : (number : ℕ) (answer lw′ : List ℕ) → tells number answer lw′ ≡ told 17 (a (length (take n lw))) → length lw′ ≡ length (take n lw)
+      → (b after : List ℕ) (o r : Stream) → Gathers b o (unlessRefused call number (lines answer (take n (lw′ ++ drop n lw)))) after r
+      → Gathers b o (toldLines call lines (told 17 (a (min room (length lw))))) after r
+  unfolding tells toldLines
+  tells-lines number answer lw′ e f b after o r g =
+      let i : length (take n lw) ≡ min room (length lw) = sym (l .counts .1) ∙ l .least in
+      let s : tells number answer lw′ ≡ told 17 (a (min room (length lw))) = e ∙ ap (λ (k : ℕ). told 17 (a k)) i in
+      let t : take n (lw′ ++ drop n lw) ≡ lw′ = take-at lw′ (drop n lw) n (f ∙ sym (l .counts .1)) in
+      subst (λ (x : Told). Gathers b o (toldLines call lines x) after r) s (rw t at g)
 
 -- A LINE ------------------------------------------------------------------------------------------------------------------------------
 -- the call of a number

@@ -6,7 +6,9 @@ use lib.ListN.{length, getD, take, drop, set}
 use Rattle.words.specs.Saturating.{saturatingAdd, max64}
 use Rattle.model.specs.Calls.{Call, new, load, unload, enable, tick, run, deadline, counters}
 use Rattle.model.specs.OnWords.{callOn}
+use Rattle.engine.specs.Asked.{Asked}
 use Rattle.cerambiu.specs.Called.{Called, answered}
+use Rattle.cerambiu.specs.Told.{told, sending}
 use Rattle.script.specs.Table.{rows}
 use Rattle.script.specs.Script.{Parsed, plain, parse, pick}
 use Rattle.script.specs.declared.Line.{Line}
@@ -14,7 +16,7 @@ use Rattle.script.specs.declared.Line.the-variants.{Blank, Command, Bad}
 use Rattle.script.specs.declared.Wrong.the-variants.{LineTooLong}
 use Rattle.script.specs.Print.{peekLine, wrongLine}
 use Rattle.play.specs.declared.Settings.{Settings}
-use Rattle.play.specs.Printed.{callLines}
+use Rattle.play.specs.Printed.{callLines, toldLines, telegramLines}
 
 -- ONE LINE ---------------------------------------------------------------------------------------------------------------------------
 -- the store's words after a line, and what is printed for it
@@ -28,6 +30,10 @@ seenOn n c w = answered 17 (callOn c (take n w))
 
 unfoldable pub calling : ℕ → Call → List ℕ → Obeyed
 calling n c w = record { store = seenOn n c w .store ++ drop n w; lines = callLines c (seenOn n c w) }
+
+-- a call that asks, by its number; nothing changes
+abbrev pub asking : ℕ → (List ℕ → List ℕ → List ℕ) → Asked → List ℕ → Obeyed
+asking call lines a w = record { store = w; lines = toldLines call lines (told 17 a) }
 
 abbrev pub quiet : List ℕ → Obeyed
 quiet w = record { store = w; lines = [] }
@@ -48,6 +54,7 @@ doings os es t list text a b c d =
     ∷ quiet
     ∷ (λ w. quiet (set w a b))
     ∷ (λ w. record { store = w; lines = peekLine a (getD w a 0) })
+    ∷ asking 12 telegramLines (sending (min a es) list)
     ∷ []
 
 -- line number k

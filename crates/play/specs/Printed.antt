@@ -8,6 +8,7 @@ use Rattle.words.specs.Pairs.{joined}
 use Rattle.model.specs.World.{nowOf}
 use Rattle.model.specs.Calls.{Call, new, load, unload, enable, tick, run, deadline, counters}
 use Rattle.cerambiu.specs.Called.{Called}
+use Rattle.cerambiu.specs.Told.{Told}
 use Rattle.script.specs.Text.{bytesOf}
 use Rattle.script.specs.Script.{pick}
 use Rattle.script.specs.Print.{numbers, line, handledLine, enabledLine, deadlineLine, refusedLine}
@@ -81,3 +82,11 @@ unlessRefused call number lines = pick (eqb number 0) lines (refusedLine call nu
 
 unfoldable pub callLines : Call → Called → List ℕ
 callLines c r = unlessRefused (callNumber c) (r .number) (answerLines c r)
+
+-- a call that asks: what is printed of its values, and of the words that it was lent
+unfoldable pub toldLines : ℕ → (List ℕ → List ℕ → List ℕ) → Told → List ℕ
+toldLines call lines r = unlessRefused call (r .number) (lines (r .answer) (r .lent))
+
+-- how many effects are to be sent, and a line for each
+unfoldable pub telegramLines : List ℕ → List ℕ → List ℕ
+telegramLines answer list = line (bytesOf "telegrams") (numbers (wordsAt answer 0 1)) ++ effectLines list 0 (getD answer 0 0)

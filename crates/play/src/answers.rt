@@ -7,7 +7,7 @@ ghost use Rattle.model.specs.World.{nowOf};
 ghost use Rattle.script.specs.Text.{bytesOf};
 ghost use Rattle.script.specs.Script.{pick};
 ghost use Rattle.script.specs.Print.{numbers, line, handledLine, enabledLine, peekLine, refusedLine};
-ghost use Rattle.play.specs.Printed.{wordsAt, rowLine, rowLines, effectLines, outcomeAt, outcomeWith, outcomeLines, handledLines, deadlineOf, unlessRefused};
+ghost use Rattle.play.specs.Printed.{wordsAt, rowLine, rowLines, effectLines, outcomeAt, outcomeWith, outcomeLines, handledLines, deadlineOf, telegramLines, unlessRefused};
 ghost use Rattle.play.specs.Gathered.{Gathers};
 use crate::Columns;
 use crate::Stream;
@@ -216,4 +216,26 @@ pub fn handled(
     let count = fields::word(answer, 0);
     let t = handled_line(o, out, call, world::now_ms(snapshot), count);
     outcomes_of(t, out, count, outcomes, effects)
+}
+
+// The list of telegrams: how many effects, and a line for each.
+pub fn telegrams(
+    o: Stream,
+    out: &mut [u8],
+    call: u32,
+    number: u32,
+    answer: &[u32],
+    list: &[u32],
+) -> Stream
+    requires { ⌜ 1024 ≤ length (now out) ⌝ }
+    ensures { λ r. ⌜ Gathers (now (out .entry)) o (unlessRefused call number (telegramLines (now (answer .entry)) (now (list .entry)))) (now (out .exit)) r ⌝ }
+{
+    if number != 0 {
+        return refused(o, out, call, number);
+    }
+    let count = fields::word(answer, 0);
+    let p = output::text(o, out, b"telegrams");
+    let q = output::words(p, out, answer, 0, 1);
+    let r = output::end(q, out);
+    effects_of(r, out, 0, count, list)
 }

@@ -3,7 +3,9 @@ ghost use Prim.Native.Nat.{_≤_, min};
 ghost use mathlib.Core.Path.{_≡_};
 ghost use lib.ListN.{length, getD, set};
 ghost use Rattle.model.specs.Calls as Calls;
+ghost use Rattle.cerambiu.specs.Told.{told, sending};
 ghost use Rattle.script.specs.Print.{peekLine, largestOf};
+ghost use Rattle.play.specs.Printed.{toldLines, telegramLines};
 ghost use Rattle.play.specs.Playing.{calling, quiet, doings, obeyed};
 ghost use Rattle.play.specs.Gathered.{Gathers, Does};
 ghost use Rattle.play.specs.Played.{Lends, Ranged};
@@ -184,6 +186,16 @@ fn peek(o: Stream, place: u64, store: &[u32], out: &mut [u8]) -> Stream
     answers::peeked(o, out, place, word)
 }
 
+fn telegrams(o: Stream, room: usize, words: &[u32], effects: &mut [u32], out: &mut [u8]) -> Stream
+    requires { ⌜ 1024 ≤ length (now out) ⌝ }
+    ensures { λ r. ⌜ Gathers (now (out .entry)) o (toldLines 12 telegramLines (told 17 (sending (min room (length (now (effects .entry)))) (now (words .entry))))) (now (out .exit)) r ⌝ }
+{
+    let n = within(room, effects);
+    let mut answer = [0u32; 17];
+    let number = cerambiu::cerambiu_telegrams(words, &mut effects[..n], &mut answer);
+    answers::telegrams(o, out, calls::TELEGRAMS, number, &answer, &effects[..n])
+}
+
 // A call of the table, with its numbers, the words of its list and the bytes of its text.
 fn command(
     o: Stream,
@@ -219,6 +231,7 @@ fn command(
             o
         }
         calls::PEEK => peek(o, a, store, out),
+        calls::TELEGRAMS => telegrams(o, a as usize, list, effects, out),
         _ => o,
     }
 }

@@ -29,6 +29,7 @@ params =
     ∷ param "number of words" max32
     ∷ param "place" 16383
     ∷ param "word" max32
+    ∷ param "room" 8192
     ∷ []
 
 -- their numbers
@@ -58,6 +59,9 @@ place = 7
 
 abbrev pub word : ℕ
 word = 8
+
+abbrev pub room : ℕ
+room = 9
 
 -- the number of no parameter
 abbrev pub noParam : ℕ
@@ -90,6 +94,7 @@ rows =
     ∷ row "size" (words ∷ []) Nothing
     ∷ row "poke" (place ∷ word ∷ []) Nothing
     ∷ row "peek" (place ∷ []) Nothing
+    ∷ row "telegrams" (room ∷ []) Words
     ∷ []
 
 abbrev pub rowOf : List Row → ℕ → Row

@@ -34,6 +34,8 @@ pub const POKE: u32 = 10;
 
 pub const PEEK: u32 = 11;
 
+pub const TELEGRAMS: u32 = 12;
+
 // The parameters, by their numbers: as in `names`.
 const TIME: u32 = 0;
 
@@ -53,10 +55,12 @@ const PLACE: u32 = 7;
 
 const WORD: u32 = 8;
 
-const NONE: u32 = 9;
+const ROOM: u32 = 9;
+
+const NONE: u32 = 10;
 
 // The largest number of each.
-const LARGEST: [u64; 9] = [
+const LARGEST: [u64; 10] = [
     u64::MAX,
     4294967295,
     1,
@@ -66,6 +70,7 @@ const LARGEST: [u64; 9] = [
     4294967295,
     16383,
     4294967295,
+    8192,
 ];
 
 fn row(call: u32) -> Shape
@@ -84,6 +89,7 @@ fn row(call: u32) -> Shape
         SIZE => Shape(WORDS, NONE, NONE, NONE, Tail::Nothing),
         POKE => Shape(PLACE, WORD, NONE, NONE, Tail::Nothing),
         PEEK => Shape(PLACE, NONE, NONE, NONE, Tail::Nothing),
+        TELEGRAMS => Shape(ROOM, NONE, NONE, NONE, Tail::Words),
         _ => Shape(NONE, NONE, NONE, NONE, Tail::Nothing),
     }
 }

@@ -1,6 +1,7 @@
 //! The calls of the script language, a row for each, and the parser over the rows.
 
 use crate::house::{Call, House};
+use crate::telegrams;
 
 /// The longest image or snapshot in words.
 pub(super) const LIST_WORDS: usize = 8_192;
@@ -80,6 +81,12 @@ pub const ROWS: &[Row] = &[
         word: given.word(1),
     }),
     row("peek", &[PLACE], Tail::Nothing, |given| Call::Peek { place: given.word(0) }),
+    Row {
+        name: "telegrams",
+        params: &[Param("room", 8_192)],
+        tail: Tail::Words,
+        meaning: Meaning::Own(|_, given| telegrams::lines(given.word(0) as usize, &given.list)),
+    },
 ];
 
 impl Given {

@@ -136,11 +136,23 @@ fn a_call_and_its_line_are_each_other_back() {
     let lines = [
         "new 18446744073709551615", "load 1 2 3", "unload 0", "enable 5 1", "tick 1 2", "tick",
         "run 5 1 2 3", "deadline", "counters", "lend 6 5", "size 7", "poke 1 2", "peek 3",
+        "telegrams 8192 12 1 10 0 0",
     ];
     for text in lines {
         let call = parse(text).expect("good text").expect("a call");
         assert_eq!(line(&call), text);
     }
+}
+
+#[test]
+fn the_list_of_telegrams_asks_no_store() {
+    let effects = "12 1 10 0 0 11 7 0 0 0 12 1 20 0 0";
+    let list = "telegrams 2\neffect 11 7 0 0 0\neffect 12 1 20 0 0\n";
+    let text = played(&[
+        "size 1", &format!("telegrams 10 {effects}"), &format!("telegrams 9 {effects}"), "telegrams 10 13 0 0 0 0", "telegrams 0",
+        "telegrams 8193",
+    ]);
+    assert_eq!(text, format!("{list}telegrams refused 61\ntelegrams refused 60\ntelegrams 0\nline 7: telegrams: room is over 8192\n"));
 }
 
 /// Rows as later calls will have them: a text, four numbers, an answer of the oracle's own.

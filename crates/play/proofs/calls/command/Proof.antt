@@ -81,7 +81,11 @@ returns-12 c = does-command _ 11 (table (c .before .before .before .before .befo
 
 returns-13 : tie.Need-returns-13
 unfolding doings
-returns-13 c = rw (List·getD-eq-default (table (c .before .before .before .before .before .before .before)) quiet (past 12 _ (c .match .rest))) (does-quietly _ _ _ _ refl)
+returns-13 c = does-command _ 12 (table (c .before .before .before .before .before .before .before .before .before .before .before .before .before .before)) (c .before .before .before .before .before .before .before .before .before .before .before .before .before .before .args .store .now) _ _ _ _ _ (c .before .before .before .before .before .before .before .match .keys13) (record { store = refl; lines = c .before .before .before .before .telegrams .ensures })
+
+returns-14 : tie.Need-returns-14
+unfolding doings
+returns-14 c = rw (List·getD-eq-default (table (c .before .before .before .before .before .before .before)) quiet (past 13 _ (c .match .rest))) (does-quietly _ _ _ _ refl)
 
 pub command-spec : {M : Type 1} → statement M
-command-spec = tie.close (tie.spec (λ c κs. search needs) (λ c κs. search needs) (λ c κs. search needs) cast-enable (λ c κs. search needs) (λ c κs. search needs) cast-run (λ c κs. search needs) (λ c κs. search needs) (λ c κs. search needs) cast-poke (λ c κs. search needs) (λ c κs. search needs) (λ c. search needs) (λ c. search needs) returns (λ c. search needs) (λ c. search needs) returns-2 (λ c. search needs) (λ c. search needs) returns-3 (λ c. search needs) (λ c. search needs) returns-4 (λ c. search needs) (λ c. search needs) (λ c. search needs) (λ c. search needs) returns-5 (λ c. search needs) (λ c. search needs) (λ c. search needs) (λ c. search needs) returns-6 (λ c. search needs) (λ c. search needs) returns-7 (λ c. search needs) (λ c. search needs) returns-8 returns-9 returns-10 (λ c. search needs) returns-11 (λ c. search needs) (λ c. search needs) returns-12 returns-13)
+command-spec = tie.close (tie.spec (λ c κs. search needs) (λ c κs. search needs) (λ c κs. search needs) cast-enable (λ c κs. search needs) (λ c κs. search needs) cast-run (λ c κs. search needs) (λ c κs. search needs) (λ c κs. search needs) cast-poke (λ c κs. search needs) (λ c κs. search needs) (λ c κs. search needs) (λ c. search needs) (λ c. search needs) returns (λ c. search needs) (λ c. search needs) returns-2 (λ c. search needs) (λ c. search needs) returns-3 (λ c. search needs) (λ c. search needs) returns-4 (λ c. search needs) (λ c. search needs) (λ c. search needs) (λ c. search needs) returns-5 (λ c. search needs) (λ c. search needs) (λ c. search needs) (λ c. search needs) returns-6 (λ c. search needs) (λ c. search needs) returns-7 (λ c. search needs) (λ c. search needs) returns-8 returns-9 returns-10 (λ c. search needs) returns-11 (λ c. search needs) (λ c. search needs) returns-12 (λ c. search needs) (λ c. search needs) returns-13 returns-14)

@@ -1,0 +1,6 @@
+pub mod KeptLaws
+pub mod ShortestLaws
+pub mod PlacesLaws
+pub mod Theorems
+pub mod CodeLaws
+pub mod Examples
