@@ -1,0 +1,2 @@
+pub mod StepReasons
+pub mod CallReasons

@@ -1,0 +1,1 @@
+// Theorems about the specification: see specs/ and proofs/.
