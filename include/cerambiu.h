@@ -1,6 +1,6 @@
 /*
- * Cerambiu: a rules engine for the lighting of poultry houses, proved. This is its C interface: eight calls over words that the caller lends, and a
- * ninth that makes of a tick's effects the list to be sent on the bus.
+ * Cerambiu: a rules engine for the lighting of poultry houses, proved. This is its C interface: eight calls over words that the caller lends, one
+ * that makes of a tick's effects the list to be sent on the bus, and one that reads a line of a crontab into triggers.
  *
  * Link target/staticlib/libcerambiu.a (`rt staticlib cerambiu`; 90 KiB of code and constants). The library keeps nothing between calls, allocates
  * nothing, reads no clock, calls nothing but memcpy, memmove and memset, and every call returns. All that it remembers of a house is in one store
@@ -10,10 +10,11 @@
  *             complement. A mark is 0 or 1. A time is in milliseconds, 64 bits, from a start that stays for the
  *             life of a store (docs/FOR-FIRMWARE.md, "Time and power"); a clock that goes back is no error.
  *   slices    A lent store is a pointer and its number of words. The pointer is aligned for uint32_t; with 0 words it may be anything.
- *             Stores of one call do not overlap. A store that is not const is written within its words only.
+ *             Stores of one call do not overlap. A store that is not const is written within its words only. A text is a pointer and its number of
+ *             bytes.
  *   threads   Two calls may run at once if they share no store that either of them writes.
  *   stack     In bytes, at most, for every input, on x86-64: tick 210,696, run 164,632, load 52,104, unload 37,944, next_deadline 36,440,
- *             enable 36,392, counters 30,920, telegrams 88, new 40. The gate computes them from the machine code. The return address is in;
+ *             enable 36,392, counters 30,920, crontab 616, telegrams 88, new 40. The gate computes them from the machine code. The return address is in;
  *             not in: what memcpy, memmove and memset use, the arguments that the caller pushes, the dynamic linker, interrupts
  *             (docs/PERFORMANCE.md, "Stack").
  *   refusals  Each call returns 0, or the number of a refusal: the lowest that applies. A refused call has changed nothing: the store is as
@@ -52,6 +53,8 @@ extern "C" {
 #define CERAMBIU_SNAPSHOT_MAX_WORDS 4430 /* .. and with all rows that its counts allow */
 #define CERAMBIU_OUTCOME_WORDS 6         /* one outcome; a lent store of n words holds n / 6 */
 #define CERAMBIU_EFFECT_WORDS 5          /* one effect; a lent store of n words holds n / 5 */
+#define CERAMBIU_TRIGGER_WORDS 8         /* one trigger of an image; a lent store of n words holds n / 8 */
+#define CERAMBIU_CRONTAB_MAX_TRIGGERS 1440 /* a line of a crontab has at most one for each minute of a day */
 
 /* A run has at most 1 outcome. A tick has at most 1,184: 32 continuations, 16 timers for 64 rules each, 64 Every slots, 64 rules by the wall
  * clock. An outcome has at most as many effects as the image's budget B (1 to 256): a tick has at most 1,184 * B effects, and an image of 365 words
@@ -67,6 +70,7 @@ extern "C" {
 #define CERAMBIU_DEADLINE_VALUES 3  /* mark, low word, high word; all 0 where there is no deadline */
 #define CERAMBIU_COUNTERS_VALUES 17 /* see enum cerambiu_counter */
 #define CERAMBIU_TELEGRAMS_VALUES 2 /* number of effects kept, low word and high word */
+#define CERAMBIU_CRONTAB_VALUES 1   /* number of triggers */
 
 /* REFUSALS, and who can cause each ------------------------------------------------------------------------------------------------- */
 
@@ -95,6 +99,11 @@ enum cerambiu_refusal {
     /* the host: tick and run */
     CERAMBIU_NO_ROOM = 30,       /* more outcomes or effects than the lent stores hold */
     CERAMBIU_NO_NUMBER = 31,     /* the call's continuations would take the next sequence number past 2^64 - 1 */
+
+    /* who writes the line: crontab alone */
+    CERAMBIU_CRONTAB_FORM = 50,  /* the line is not of the POSIX form, or Sunday's number is above 6 */
+    CERAMBIU_CRONTAB_DATE = 51,  /* day of month or month is not an asterisk */
+    CERAMBIU_CRONTAB_ROOM = 52,  /* the host's: more triggers than the lent store holds */
 
     /* the host: telegrams alone */
     CERAMBIU_NO_EFFECTS = 60,    /* the words are no whole number of effects, or one has a kind above 12 */
@@ -379,6 +388,16 @@ uint32_t cerambiu_counters(const uint32_t *store, size_t store_words, uint32_t *
  * but kinds is checked. Answer: the number of effects kept, low word and high word. Refusals: 60, 61. Time: effects times different targets. */
 uint32_t cerambiu_telegrams(const uint32_t *effects, size_t effect_words, uint32_t *list, size_t list_words, uint32_t *answer,
                             size_t answer_words);
+
+/* Reads the five time fields of one line of a crontab, without its newline, into AtTime triggers for an image: 2, hour, minute, days, four 0. It takes
+ * no store of a house. `sunday` is the weekday that Sunday has here, 0 to 6. The fields are minute 0 to 59, hour 0 to 23, day of month and month, which
+ * must be `*`, and weekday 0 to 6, where 0 is Sunday. A field is `*` alone, or numbers and ranges (`1-5`) with commas between; names, steps (`*` with
+ * a slash) and 7 for Sunday are not of the POSIX form. Spaces or tabs part the fields, none stands before the first; what follows the fifth behind a
+ * blank is not read, whatever its bytes. The triggers come by hour, then minute, each pair once, all with the same days: some trigger is due at a
+ * minute of the week exactly if the line matches it. Words behind the triggers are 0, and all of them on a refusal. Answer: number of triggers.
+ * Refusals: 50 to 52. Time: some 90 readings of the line, and the words of the answer. */
+uint32_t cerambiu_crontab(const uint8_t *line, size_t line_bytes, uint32_t sunday, uint32_t *triggers, size_t trigger_words, uint32_t *answer,
+                          size_t answer_words);
 
 #ifdef __cplusplus
 }

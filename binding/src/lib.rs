@@ -1,4 +1,4 @@
-//! The eight proved calls and the list of telegrams over word slices: `include/cerambiu.h`, which says what the words mean, in safe Rust.
+//! The eight proved calls, the list of telegrams and the reader of crontab lines over word slices: `include/cerambiu.h`, which says what the words mean, in safe Rust.
 //!
 //! The functions of this module give Rust values. Those of [`words`] are the C functions as they are, with the lent words of the answer.
 
@@ -7,6 +7,7 @@ pub mod words;
 pub const STORE_WORDS: usize = 16_384;
 pub const OUTCOME_WORDS: usize = 6;
 pub const EFFECT_WORDS: usize = 5;
+pub const TRIGGER_WORDS: usize = 8;
 pub const COUNTERS: usize = 17;
 
 /// Document 01's number of a refusal. A refused call has changed nothing.
@@ -93,6 +94,13 @@ pub fn telegrams(effects: &[u32], list: &mut [u32]) -> Result<u64, Refused> {
     accepted(number, low | high << 32)
 }
 
+/// How many AtTime triggers a line of a crontab has; they stand in the lent words. `sunday` is the weekday that Sunday has here.
+pub fn crontab(line: &[u8], sunday: u32, triggers: &mut [u32]) -> Result<u32, Refused> {
+    let mut answer = [0];
+    let number = words::crontab(line, sunday, triggers, &mut answer);
+    accepted(number, answer[0])
+}
+
 #[cfg(test)]
 mod tests {
     use super::*;
@@ -149,5 +157,17 @@ mod tests {
         assert_eq!(list, [0; 12]);
         assert_eq!(telegrams(&effects[1..], &mut list), Err(Refused(60)));
         assert_eq!(telegrams(&[], &mut []), Ok(0));
+    }
+
+    #[test]
+    fn a_line_of_a_crontab() {
+        let mut triggers = [1; 20];
+        assert_eq!(crontab(b"30,0 5 * * 1-5 lights up", 6, &mut triggers), Ok(2));
+        assert_eq!(triggers, [2, 5, 0, 31, 0, 0, 0, 0, 2, 5, 30, 31, 0, 0, 0, 0, 0, 0, 0, 0]);
+        assert_eq!(crontab(b"* 5 * * 1-5", 6, &mut triggers), Err(Refused(52)));
+        assert_eq!(triggers, [0; 20]);
+        assert_eq!(crontab(b"0 5 1 * 1-5", 6, &mut triggers), Err(Refused(51)));
+        assert_eq!(crontab(b"0 5 1 * 7", 6, &mut triggers), Err(Refused(50)));
+        assert_eq!(crontab(b"0 5 * * *", 7, &mut []), Err(Refused(50)));
     }
 }

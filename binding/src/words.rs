@@ -56,6 +56,15 @@ mod c {
             answer_words: usize,
         ) -> u32;
         pub fn cerambiu_counters(store: *const u32, store_words: usize, answer: *mut u32, answer_words: usize) -> u32;
+        pub fn cerambiu_crontab(
+            line: *const u8,
+            line_bytes: usize,
+            sunday: u32,
+            triggers: *mut u32,
+            trigger_words: usize,
+            answer: *mut u32,
+            answer_words: usize,
+        ) -> u32;
         pub fn cerambiu_telegrams(
             effects: *const u32,
             effect_words: usize,
@@ -159,6 +168,22 @@ pub fn telegrams(effects: &[u32], list: &mut [u32], answer: &mut [u32]) -> u32 {
             list_words,
             answer.as_mut_ptr(),
             answer_words,
+        )
+    }
+}
+
+/// Value: the number of triggers.
+pub fn crontab(line: &[u8], sunday: u32, triggers: &mut [u32], answer: &mut [u32]) -> u32 {
+    // SAFETY: as above.
+    unsafe {
+        c::cerambiu_crontab(
+            line.as_ptr(),
+            line.len(),
+            sunday,
+            triggers.as_mut_ptr(),
+            triggers.len(),
+            answer.as_mut_ptr(),
+            answer.len(),
         )
     }
 }

@@ -7,11 +7,13 @@
 //!
 //! Prints the counts, the slowest images, and each difference; its status is 1 if there is one, or if a cell of the table is empty.
 //!
-//! `comparison calls ..` compares the eight calls (`calls`), `comparison telegrams ..` the list of telegrams (`telegrams`), `comparison speed ..` times them and `comparison once ..` makes each check once (`speed`).
+//! `comparison calls ..` compares the eight calls (`calls`), `comparison telegrams ..` the list of telegrams (`telegrams`), `comparison crontab ..` lines of a
+//! crontab (`crontab`), `comparison speed ..` times them and `comparison once ..` makes each check once (`speed`).
 
 mod calls;
 mod cells;
 mod changes;
+mod crontab;
 mod evaluation;
 mod flat_form;
 mod good_stores;
@@ -37,7 +39,7 @@ fn numbers() -> Option<[u64; 3]> {
 }
 
 fn main() -> ExitCode {
-    if let Some(status) = calls::command().or_else(telegrams::command).or_else(speed::command) {
+    if let Some(status) = calls::command().or_else(telegrams::command).or_else(crontab::command).or_else(speed::command) {
         return status;
     }
     let Some([histories, sweeps, seed]) = numbers() else {

@@ -9,6 +9,7 @@
  */
 #include <inttypes.h>
 #include <stdio.h>
+#include <string.h>
 
 #include "cerambiu.h"
 
@@ -104,6 +105,23 @@ static void send(void)
     print_effects(list, kept[0]);
 }
 
+/* The triggers of a line of a crontab, where Sunday is weekday 6. */
+static void programme(const char *line)
+{
+    static uint32_t triggers[CERAMBIU_CRONTAB_MAX_TRIGGERS * CERAMBIU_TRIGGER_WORDS];
+    uint32_t answer[CERAMBIU_CRONTAB_VALUES];
+    uint32_t refusal = cerambiu_crontab((const uint8_t *)line, strlen(line), 6, triggers, COUNT(triggers), answer, COUNT(answer));
+    if (refusal != CERAMBIU_OK) {
+        printf("crontab refused %" PRIu32 "\n", refusal);
+        return;
+    }
+    printf("crontab %" PRIu32 "\n", answer[0]);
+    for (uint32_t i = 0; i < answer[0]; i++) {
+        const uint32_t *trigger = triggers + i * CERAMBIU_TRIGGER_WORDS;
+        printf("trigger %" PRIu32 " %" PRIu32 " %" PRIu32 "\n", trigger[1], trigger[2], trigger[3]);
+    }
+}
+
 int main(void)
 {
     uint32_t refusal = cerambiu_new(store, COUNT(store), 0);
@@ -131,5 +149,9 @@ int main(void)
     run(1001, 5, true, CERAMBIU_OUTCOME_WORDS - 1);
     run(1001, 5, true, COUNT(outcomes));
     send();
+
+    /* An integrator: from Monday to Friday at 5:00 and 5:30; then on the first of a month, which no trigger can say. */
+    programme("0,30 5 * * 1-5 lights up");
+    programme("0 5 1 * * lights up");
     return 0;
 }

@@ -22,9 +22,9 @@
 #define PATTERN 0xa5
 #define OWN_BYTES 256 /* for the frame that measures */
 
-enum call { NEW, LOAD, UNLOAD, ENABLE, RUN, DRY_RUN, TICK, NEXT_DEADLINE, COUNTERS, TELEGRAMS };
+enum call { NEW, LOAD, UNLOAD, ENABLE, RUN, DRY_RUN, TICK, NEXT_DEADLINE, COUNTERS, TELEGRAMS, CRONTAB };
 
-static const char *const names[] = { "new", "load", "unload", "enable", "run", "dry run", "tick", "next_deadline", "counters", "telegrams" };
+static const char *const names[] = { "new", "load", "unload", "enable", "run", "dry run", "tick", "next_deadline", "counters", "telegrams", "crontab" };
 
 static uint32_t store[CERAMBIU_STORE_WORDS], image[CERAMBIU_IMAGE_MAX_WORDS];
 static size_t image_words;
@@ -32,6 +32,7 @@ static uint32_t outcomes[CERAMBIU_TICK_MAX_OUTCOMES * CERAMBIU_OUTCOME_WORDS], e
 static uint32_t list[4096 * CERAMBIU_EFFECT_WORDS];
 static uint32_t snapshot[CERAMBIU_SNAPSHOT_HEAD_WORDS], answer[CERAMBIU_COUNTERS_VALUES];
 static uint32_t refusal;
+static const uint8_t line[] = { '*', ' ', '*', ' ', '*', ' ', '*', ' ', '0', '-', '6', ',', '0', '0', '1' };
 
 static void make(enum call which)
 {
@@ -47,6 +48,7 @@ static void make(enum call which)
     case NEXT_DEADLINE: refusal = cerambiu_next_deadline(store, n, answer, a); break;
     case COUNTERS: refusal = cerambiu_counters(store, n, answer, a); break;
     case TELEGRAMS: refusal = cerambiu_telegrams(effects, es, list, COUNT(list), answer, a); break;
+    case CRONTAB: refusal = cerambiu_crontab(line, sizeof(line), 6, list, COUNT(list), answer, a); break;
     }
 }
 
@@ -200,7 +202,7 @@ static void measure_all(size_t bytes[])
     needs(LOAD);
     look(0, 719);
     needs(TICK);
-    for (enum call which = ENABLE; which <= TELEGRAMS; which++) {
+    for (enum call which = ENABLE; which <= CRONTAB; which++) {
         look(which == TICK ? 2000 : 100, which == TICK ? 720 : 719);
         bytes[which] = needs(which);
     }
@@ -216,6 +218,7 @@ static void all_fit(void)
     fits(NEXT_DEADLINE);
     fits(COUNTERS);
     fits(TELEGRAMS);
+    fits(CRONTAB);
     fits(UNLOAD);
 }
 
@@ -236,7 +239,7 @@ int main(void)
     for (size_t which = 0; which < COUNT(names); which++) {
         printf("%-14s %12zu %12zu %12zu\n", names[which], bytes[0][which], bytes[1][which], bytes[2][which]);
     }
-    printf("on 64 KB of stack, with each image: new, load, load again, enable, next_deadline, counters, telegrams, unload .. ");
+    printf("on 64 KB of stack, with each image: new, load, load again, enable, next_deadline, counters, telegrams, crontab, unload .. ");
     fflush(stdout);
     for (size_t i = 0; i < COUNT(images); i++) {
         images[i]();

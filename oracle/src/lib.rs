@@ -3,6 +3,7 @@
 pub mod build;
 pub mod check;
 pub mod coverage;
+pub mod crontab;
 pub mod decode;
 pub mod edges;
 pub mod generate;

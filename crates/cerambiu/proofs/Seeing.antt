@@ -13,7 +13,7 @@ use Rattle.engine.specs.Answers.{numberOf, valuesOf, shown, shownCounters}
 use Rattle.engine.specs.declared.Answer.{Answer}
 use Rattle.engine.specs.declared.Answer.the-variants.{Done, Refused, Enabled, Handled, Due, NoDeadline}
 use Rattle.engine.specs.declared.Counted.{Counted}
-use Rattle.engine.specs.Asked.{Asked, shownAsked}
+use Rattle.model.specs.Asked.{Asked, shownAsked}
 use Rattle.cerambiu.specs.Called.{Called, called, lentAnswer, answered}
 use Rattle.cerambiu.specs.Told as Told
 use Rattle.cerambiu.specs.Told.{tells}

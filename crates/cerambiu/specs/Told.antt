@@ -5,7 +5,7 @@ use Rattle.words.specs.Pairs.{lowOf, highOf}
 use Rattle.model.specs.Telegrams as telegrams
 use Rattle.model.specs.declared.TelegramAnswer.{TelegramAnswer}
 use Rattle.model.specs.declared.TelegramAnswer.the-variants.{Refused, Kept}
-use Rattle.engine.specs.Asked.{Asked}
+use Rattle.model.specs.Asked.{Asked}
 use Rattle.cerambiu.specs.Called.{lentAnswer}
 
 pub record Told : Type 0 where

@@ -1,4 +1,4 @@
-// The C interface: the eight calls of crate `engine`, and `telegrams`, under C names, as include/cerambiu.h describes them. A slice is a pointer and a
+// The C interface: the eight calls of crate `engine`, `telegrams` and `crontab` under C names, as include/cerambiu.h describes them. A slice is a pointer and a
 // length in C. A call returns document 01's number of its refusal, 0 for none, and writes its values into the lent words of the answer. A contract is one
 // equation with the specification's call on words (model's `callOn`), for all arguments.
 use engine::Answer;
@@ -10,6 +10,7 @@ ghost use lib.Dec.{eqb};
 ghost use lib.ListN.{length};
 ghost use Rattle.model.specs.Calls.{new, load, unload, enable, tick, run, deadline, counters};
 ghost use Rattle.model.specs.OnWords.{callOn};
+ghost use Rattle.model.specs.Crontab.{crontab};
 ghost use Rattle.engine.specs.Answers.{numberOf, valuesOf};
 ghost use Rattle.cerambiu.specs.Called.{called, answered, lentAnswer};
 ghost use Rattle.cerambiu.specs.Told.{tells, told, telegramNumber, telegramValues, sending};
@@ -187,4 +188,18 @@ pub extern "C" fn cerambiu_telegrams(effects: &[u32], list: &mut [u32], answer: 
     let values = telegram_values(a);
     put_values(answer, &values);
     telegram_number(a)
+}
+
+#[no_mangle]
+pub extern "C" fn cerambiu_crontab(
+    line: &[u8],
+    sunday: u32,
+    triggers: &mut [u32],
+    answer: &mut [u32],
+) -> u32
+    ensures { λ r. ⌜ tells r (now (answer .exit)) (now (triggers .exit)) ≡ told (length (now (answer .entry))) (crontab (now (line .entry)) sunday (length (now (triggers .entry)))) ⌝ }
+{
+    let a = crontab::read(line, sunday, triggers);
+    let values = [a.count];
+    put_asked(answer, a.refusal, &values)
 }

@@ -20,7 +20,8 @@ use Rattle.model.specs.OnWords.{result, storeRefusal, storeAfter, outcomeWordsO
 use Rattle.model.proofs.StoreLaws.{write-read}
 use Rattle.engine.specs.Seen.{Seen, seen, refusalOf}
 use Rattle.engine.specs.Answers.{numberOf, valuesOf, shown, shownCounters}
-use Rattle.engine.specs.Asked.{Asked, declined, lowestOf, askedOf, asked, seenAsked}
+use Rattle.model.specs.Asked.{Asked, declined}
+use Rattle.engine.specs.Asked.{lowestOf, askedOf, asked, seenAsked}
 use Rattle.engine.specs.declared.Answer.the-variants.{Refused}
 use Rattle.engine.specs.declared.Counted.{Counted}
 use Rattle.engine.proofs.Seeing.{OnStore, is-store}

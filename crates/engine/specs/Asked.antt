@@ -1,24 +1,12 @@
 -- Calls that ask: the store, and what else is given, are checked, an answer is given, and nothing changes.
-use mathlib.Core.Bool.{cond}
 use mathlib.Core.List.{List, []}
 use mathlib.Core.Option.{Option, none, some}
 use Prim.Native.Nat.{ℕ, zero, suc}
-use lib.Dec.{eqb}
-use lib.ListN.{replicate}
 use Rattle.model.specs.State.{Store}
 use Rattle.model.specs.Store.{read}
 use Rattle.model.specs.OnWords.{storeRefusal}
+use Rattle.model.specs.Asked.{Asked, declined}
 use Rattle.engine.specs.Seen.{Seen}
-
--- what is seen of such a call: the number of its refusal, 0 for none; the values of its answer; the words of a store that it is lent to answer into
-pub record Asked : Type 0 where
-  pub number : ℕ
-  pub values : List ℕ
-  pub lent : List ℕ
-
--- a refusal returns its number only; n lent words are 0
-unfoldable pub declined : ℕ → ℕ → Asked
-declined n number = record { number = number; values = []; lent = replicate n 0 }
 
 -- the lowest refusal: that of the words w, if they are no store, before the one of what else is given, `other`, 0 where that is accepted
 abbrev pub lowestOf : Option Store → List ℕ → ℕ → ℕ
@@ -34,10 +22,6 @@ askedOf (some s) w (suc other) n answer = declined n (suc other)
 unfoldable pub asked : List ℕ → ℕ → ℕ → (Store → Asked) → Asked
 asked w other n answer = askedOf (read w) w other n answer
 
--- what code that answers a number and values shows, with the lent words after it
-unfoldable pub shownAsked : ℕ → List ℕ → List ℕ → Asked
-shownAsked number values lent = record { number = number; values = cond (eqb number 0) values []; lent = lent }
-
--- the same as it is seen of the eight calls: the store's words stay, and there are no outcomes
+-- what is seen of it as of one of the eight calls: the store's words stay, and there are no outcomes
 abbrev pub seenAsked : Asked → List ℕ → Seen
 seenAsked a w = record { number = a .number; values = a .values; store = w; outcomes = []; effects = [] }

@@ -27,3 +27,8 @@ pub mod Calls
 pub mod Answers
 pub mod OnWords
 pub mod Telegrams
+pub mod Text
+pub mod Digits
+pub mod Asked
+pub mod Crontab
+pub mod CrontabMeaning

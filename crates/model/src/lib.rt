@@ -382,3 +382,9 @@ pub enum TelegramAnswer {
     Refused(u32),
     Kept(usize),
 }
+
+// An element of a pattern of a crontab line: the numbers from the first to the last.
+pub enum Element {
+    Malformed,
+    Range(u32, u32),
+}

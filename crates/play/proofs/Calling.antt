@@ -6,7 +6,7 @@ use lib.ListN.{length, getD, take, drop, take-append-drop}
 use lib.Seq.{take-at}
 use Rattle.model.specs.Calls.{Call}
 use Rattle.model.specs.OnWords.{callOn}
-use Rattle.engine.specs.Asked.{Asked}
+use Rattle.model.specs.Asked.{Asked}
 use Rattle.cerambiu.specs.Called.{Called, called, answered}
 use Rattle.cerambiu.specs.Told.{Told, tells, told}
 use Rattle.script.specs.declared.Line.{Line}

@@ -3,7 +3,9 @@ use mathlib.Core.Path.{_≡_, refl}
 use mathlib.Core.List.{_++_}
 use Rattle.edges.proofs.Definitions.{definitions}
 use Rattle.cerambiu.specs.Called.{called, lentAnswer, answered}
-use Rattle.script.specs.Words.{argumentOf, isDigit, isSpace, pastSpace, pastWord, pastWords, upTo, valueFrom, wordsOf}
+use Rattle.model.specs.Digits.{isDigit, valueFrom}
+use Rattle.decimal.specs.Numbers.{argumentOf}
+use Rattle.script.specs.Words.{isSpace, pastSpace, pastWord, pastWords, upTo, wordsOf}
 use Rattle.script.specs.Table.{mostOf, rows}
 use Rattle.script.specs.Script.{behindName, callNamed, command, ending, listFrom, numbersFrom, parse, parseCall}
 use Rattle.script.specs.Print.{callName, decimal, digitCount, digits, handledLine, line, numbers}

@@ -3,7 +3,7 @@ use Prim.Native.Nat.{ℕ}
 use mathlib.Core.List.{List}
 use lib.ListN.{replicate}
 use Rattle.model.specs.Calls.{new}
-use Rattle.script.specs.Text.{bytesOf}
+use Rattle.model.specs.Text.{bytesOf}
 use Rattle.play.specs.Playing.{Room, Play, calling, begins}
 
 -- the buffers of `main`

@@ -6,7 +6,8 @@ use lib.ListN.{length, getD, take, drop, set}
 use Rattle.words.specs.Saturating.{saturatingAdd, max64}
 use Rattle.model.specs.Calls.{Call, new, load, unload, enable, tick, run, deadline, counters}
 use Rattle.model.specs.OnWords.{callOn}
-use Rattle.engine.specs.Asked.{Asked}
+use Rattle.model.specs.Asked.{Asked}
+use Rattle.model.specs.Crontab.{crontab}
 use Rattle.cerambiu.specs.Called.{Called, answered}
 use Rattle.cerambiu.specs.Told.{told, sending}
 use Rattle.script.specs.Table.{rows}
@@ -16,7 +17,7 @@ use Rattle.script.specs.declared.Line.the-variants.{Blank, Command, Bad}
 use Rattle.script.specs.declared.Wrong.the-variants.{LineTooLong}
 use Rattle.script.specs.Print.{peekLine, wrongLine}
 use Rattle.play.specs.declared.Settings.{Settings}
-use Rattle.play.specs.Printed.{callLines, toldLines, telegramLines}
+use Rattle.play.specs.Printed.{callLines, toldLines, telegramLines, triggerLines}
 
 -- ONE LINE ---------------------------------------------------------------------------------------------------------------------------
 -- the store's words after a line, and what is printed for it
@@ -55,6 +56,7 @@ doings os es t list text a b c d =
     ∷ (λ w. quiet (set w a b))
     ∷ (λ w. record { store = w; lines = peekLine a (getD w a 0) })
     ∷ asking 12 telegramLines (sending (min a es) list)
+    ∷ asking 13 triggerLines (crontab text a (min b es))
     ∷ []
 
 -- line number k

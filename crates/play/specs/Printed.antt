@@ -9,7 +9,7 @@ use Rattle.model.specs.World.{nowOf}
 use Rattle.model.specs.Calls.{Call, new, load, unload, enable, tick, run, deadline, counters}
 use Rattle.cerambiu.specs.Called.{Called}
 use Rattle.cerambiu.specs.Told.{Told}
-use Rattle.script.specs.Text.{bytesOf}
+use Rattle.model.specs.Text.{bytesOf}
 use Rattle.script.specs.Script.{pick}
 use Rattle.script.specs.Print.{numbers, line, handledLine, enabledLine, deadlineLine, refusedLine}
 use Rattle.play.specs.declared.Columns.{Columns}
@@ -90,3 +90,9 @@ toldLines call lines r = unlessRefused call (r .number) (lines (r .answer) (r .l
 -- how many effects are to be sent, and a line for each
 unfoldable pub telegramLines : List ℕ → List ℕ → List ℕ
 telegramLines answer list = line (bytesOf "telegrams") (numbers (wordsAt answer 0 1)) ++ effectLines list 0 (getD answer 0 0)
+
+-- how many triggers a line of a crontab has, and hour, minute and days of each
+unfoldable pub triggerLines : List ℕ → List ℕ → List ℕ
+triggerLines answer ws =
+    line (bytesOf "crontab") (numbers (wordsAt answer 0 1))
+    ++ rowLines (bytesOf "trigger") (record { width = 8; from = 1; shown = 3 }) ws 0 (getD answer 0 0)

@@ -4,10 +4,10 @@ ghost use mathlib.Core.List.{[], _∷_, _++_};
 ghost use lib.Dec.{eqb};
 ghost use lib.ListN.{length, getD};
 ghost use Rattle.model.specs.World.{nowOf};
-ghost use Rattle.script.specs.Text.{bytesOf};
+ghost use Rattle.model.specs.Text.{bytesOf};
 ghost use Rattle.script.specs.Script.{pick};
 ghost use Rattle.script.specs.Print.{numbers, line, handledLine, enabledLine, peekLine, refusedLine};
-ghost use Rattle.play.specs.Printed.{wordsAt, rowLine, rowLines, effectLines, outcomeAt, outcomeWith, outcomeLines, handledLines, deadlineOf, telegramLines, unlessRefused};
+ghost use Rattle.play.specs.Printed.{wordsAt, rowLine, rowLines, effectLines, outcomeAt, outcomeWith, outcomeLines, handledLines, deadlineOf, telegramLines, triggerLines, unlessRefused};
 ghost use Rattle.play.specs.Gathered.{Gathers};
 use crate::Columns;
 use crate::Stream;
@@ -238,4 +238,39 @@ pub fn telegrams(
     let q = output::words(p, out, answer, 0, 1);
     let r = output::end(q, out);
     effects_of(r, out, 0, count, list)
+}
+
+// Hour, minute and days of so many triggers.
+fn triggers_of(o: Stream, out: &mut [u8], count: u32, triggers: &[u32]) -> Stream
+    requires { ⌜ 1024 ≤ length (now out) ⌝ }
+    ensures { λ r. ⌜ Gathers (now (out .entry)) o (rowLines (bytesOf "trigger") (record { width = 8; from = 1; shown = 3 }) (now (triggers .entry)) 0 count) (now (out .exit)) r ⌝ }
+{
+    let x = Columns {
+        width: 8,
+        from: 1,
+        shown: 3,
+    };
+    rows(o, out, b"trigger", x, triggers, 0, count)
+}
+
+// A line of a crontab: how many triggers, and a line for each.
+pub fn crontab(
+    o: Stream,
+    out: &mut [u8],
+    call: u32,
+    number: u32,
+    answer: &[u32],
+    triggers: &[u32],
+) -> Stream
+    requires { ⌜ 1024 ≤ length (now out) ⌝ }
+    ensures { λ r. ⌜ Gathers (now (out .entry)) o (unlessRefused call number (triggerLines (now (answer .entry)) (now (triggers .entry)))) (now (out .exit)) r ⌝ }
+{
+    if number != 0 {
+        return refused(o, out, call, number);
+    }
+    let count = fields::word(answer, 0);
+    let p = output::text(o, out, b"crontab");
+    let q = output::words(p, out, answer, 0, 1);
+    let r = output::end(q, out);
+    triggers_of(r, out, count, triggers)
 }

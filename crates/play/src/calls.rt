@@ -3,9 +3,10 @@ ghost use Prim.Native.Nat.{_≤_, min};
 ghost use mathlib.Core.Path.{_≡_};
 ghost use lib.ListN.{length, getD, set};
 ghost use Rattle.model.specs.Calls as Calls;
+ghost use Rattle.model.specs.Crontab as Crontab;
 ghost use Rattle.cerambiu.specs.Told.{told, sending};
 ghost use Rattle.script.specs.Print.{peekLine, largestOf};
-ghost use Rattle.play.specs.Printed.{toldLines, telegramLines};
+ghost use Rattle.play.specs.Printed.{toldLines, telegramLines, triggerLines};
 ghost use Rattle.play.specs.Playing.{calling, quiet, doings, obeyed};
 ghost use Rattle.play.specs.Gathered.{Gathers, Does};
 ghost use Rattle.play.specs.Played.{Lends, Ranged};
@@ -196,6 +197,23 @@ fn telegrams(o: Stream, room: usize, words: &[u32], effects: &mut [u32], out: &m
     answers::telegrams(o, out, calls::TELEGRAMS, number, &answer, &effects[..n])
 }
 
+fn crontab(
+    o: Stream,
+    sunday: u32,
+    room: usize,
+    text: &[u8],
+    effects: &mut [u32],
+    out: &mut [u8],
+) -> Stream
+    requires { ⌜ 1024 ≤ length (now out) ⌝ }
+    ensures { λ r. ⌜ Gathers (now (out .entry)) o (toldLines 13 triggerLines (told 17 (Crontab.crontab (now (text .entry)) sunday (min room (length (now (effects .entry))))))) (now (out .exit)) r ⌝ }
+{
+    let n = within(room, effects);
+    let mut answer = [0u32; 17];
+    let number = cerambiu::cerambiu_crontab(text, sunday, &mut effects[..n], &mut answer);
+    answers::crontab(o, out, calls::CRONTAB, number, &answer, &effects[..n])
+}
+
 // A call of the table, with its numbers, the words of its list and the bytes of its text.
 fn command(
     o: Stream,
@@ -232,6 +250,7 @@ fn command(
         }
         calls::PEEK => peek(o, a, store, out),
         calls::TELEGRAMS => telegrams(o, a as usize, list, effects, out),
+        calls::CRONTAB => crontab(o, a as u32, b as usize, text, effects, out),
         _ => o,
     }
 }

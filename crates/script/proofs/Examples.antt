@@ -6,8 +6,10 @@ use mathlib.Core.Bool.{true, false}
 use Prim.Native.Nat.{ℕ}
 use Prim.Native.String.{String}
 use lib.ListN.{length}
-use Rattle.script.specs.Text.{bytesOf}
-use Rattle.script.specs.Words.{upTo, isSpace, wordsOf, pastSpace, pastWord, pastWords, isDigit, valueFrom, argumentOf}
+use Rattle.model.specs.Text.{bytesOf}
+use Rattle.script.specs.Words.{upTo, isSpace, wordsOf, pastSpace, pastWord, pastWords}
+use Rattle.model.specs.Digits.{isDigit, valueFrom}
+use Rattle.decimal.specs.Numbers.{argumentOf}
 use Rattle.script.specs.Table.{Row, row, rows, mostOf, words, word, Words, Text}
 use Rattle.script.specs.Script.{Parsed, Line, plain, command, callNamed, parse, parseCall, numbersFrom, ending, behindName, listFrom}
 use Rattle.script.specs.Script.{Blank, Command, Bad}
@@ -50,26 +52,27 @@ wrong-lists :
 unfolding says
 wrong-lists = refl
 
--- a table with a call that takes a text, and one with four numbers
-later : List Row
-later = row "say" (word ∷ words ∷ []) Text ∷ row "four" (word ∷ word ∷ word ∷ word ∷ []) Words ∷ []
-
+-- a call that takes a text: what would be a comment belongs to it
 said : String → Parsed
-said t = record { line = Command 0 6 16 0 0 0 (length (bytesOf t)); list = []; text = bytesOf t }
+said t = record { line = Command 13 6 16 0 0 0 (length (bytesOf t)); list = []; text = bytesOf t }
 
 texts :
-    map (saysOf later) ("say 6 16 # 5 * # x" ∷ "say 6  16" ∷ "say 6 16 " ∷ "say 6 16  a" ∷ [])
+    map says ("crontab 6 16 # 5 * # x" ∷ "crontab 6  16" ∷ "crontab 6 16 " ∷ "crontab 6 16  a" ∷ [])
     ≡ map said ("# 5 * # x" ∷ "" ∷ "" ∷ " a" ∷ [])
-unfolding saysOf later said
+unfolding says said
 texts = refl
 
 wrong-texts :
-    map (saysOf later) ("say # 5" ∷ "say 6 16#x" ∷ "say#6 16 x" ∷ "say 6" ∷ [])
-    ≡ map (λ w. plain (Bad w)) (NotDecimal 0 0 ∷ NotDecimal 0 1 ∷ NotDecimal 0 0 ∷ Missing 0 1 ∷ [])
-unfolding saysOf later
+    map says ("crontab # 5" ∷ "crontab 6 16#x" ∷ "crontab#6 16 x" ∷ "crontab 6" ∷ "crontab 6 16385 x" ∷ "crontab 4294967296 8 x" ∷ [])
+    ≡ map (λ w. plain (Bad w)) (NotDecimal 13 0 ∷ NotDecimal 13 1 ∷ NotDecimal 13 0 ∷ Missing 13 1 ∷ OutOfRange 13 1 ∷ OutOfRange 13 0 ∷ [])
+unfolding says
 wrong-texts = refl
 
-four-numbers : saysOf later "four 1 2 3 4 5 6 # 7" ≡ record { line = Command 1 1 2 3 4 2 0; list = 5 ∷ 6 ∷ []; text = [] }
+-- a table with a call that has four numbers
+later : List Row
+later = row "four" (word ∷ word ∷ word ∷ word ∷ []) Words ∷ []
+
+four-numbers : saysOf later "four 1 2 3 4 5 6 # 7" ≡ record { line = Command 0 1 2 3 4 2 0; list = 5 ∷ 6 ∷ []; text = [] }
 unfolding saysOf later
 four-numbers = refl
 

@@ -1,6 +1,5 @@
 -- Laws that belong to no one function.
 pub mod Splits
-pub mod Decimal
 pub mod Tables
 pub mod Reading
 pub mod Ways

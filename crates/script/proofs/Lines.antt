@@ -4,7 +4,7 @@ use mathlib.Core.List.{List, [], _∷_, _++_, append-assoc}
 use Prim.Native.Nat.{ℕ}
 use borrow.Author.Tests.{eq-eqb, ne-eqb}
 use Rattle.words.specs.Saturating.{max32, max64}
-use Rattle.script.specs.Text.{bytesOf}
+use Rattle.model.specs.Text.{bytesOf}
 use Rattle.script.specs.Script.{Wrong}
 use Rattle.script.specs.Print.{numbers, line, callName, ofCall, overText, wrongText, wrongLine}
 

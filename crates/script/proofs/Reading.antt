@@ -11,7 +11,10 @@ use lib.Dec.{ltb}
 use lib.ListN.{length, getD, take, drop, set, replicate, length-set, length-drop, take-append-drop, drop-of-length-le}
 use lib.Seq.{take-suc-set, drop-set-lt, drop-drop, drop-nil, drop-cons, drop-append-le, take-all, take-at, length-take-le}
 use Rattle.words.specs.Saturating.{max32}
-use Rattle.script.specs.Words.{wordsOf, uncommented, pastSpace, pastWord, pastWords, argumentOf, Argument, NoNumber, TooLarge, Number}
+use Rattle.script.specs.Words.{wordsOf, uncommented, pastSpace, pastWord, pastWords}
+use Rattle.decimal.specs.declared.Argument.{Argument}
+use Rattle.decimal.specs.declared.Argument.the-variants.{NoNumber, TooLarge, Number}
+use Rattle.decimal.specs.Numbers.{argumentOf}
 use Rattle.script.specs.Table.{Row, rows, rowOf, noParam, mostOf, Tail, Nothing, Words, Text}
 use Rattle.script.specs.Script.{Parsed, plain, command, pick, Line, Blank, Command, Bad, Wrong, NoSuchCall, Missing, NotDecimal, OutOfRange, ListTooLong, TooManyWords, Numbered, Stops, Goes, numbersFrom, lineWith, atEnd, withList, withText, tailed, ending, goingOn, parseCall, callNamed, commentOf, behindName, calledBy, parseWords, parse, Listed, listed, listFrom, stopped}
 use Rattle.script.specs.Scan.{part, over, WordAt, Parses, Takes, TakesNumber, TakesAll, TakesThem, Taken, Refused, Taking, takenOf, Got, Failed, Behind, lastOf, ListStep, Stop, Item, stepOf, ListEnds, Ended, Stopped, Count, endWith, Named, Unknown, Call, namedBy}

@@ -15,7 +15,7 @@ use Rattle.model.specs.Lists as lists
 use Rattle.model.specs.Lists.{all, position, positionFrom}
 use Rattle.model.proofs.Bools.{both}
 use Rattle.fields.proofs.Every as every
-use Rattle.script.specs.Text.{bytesOf}
+use Rattle.model.specs.Text.{bytesOf}
 use Rattle.script.specs.Words.{upTo}
 use Rattle.script.specs.Table.{Row, row, rows, rowOf, namesOf, Param, param, params, noParam, mostOf, Nothing}
 use Rattle.script.specs.Script.{pick, sameBytes}

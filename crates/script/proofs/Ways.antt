@@ -6,10 +6,13 @@ use mathlib.Core.Option.{Option, none, some}
 use Prim.Native.Nat.{ℕ, zero, suc, _≤_, zero-le}
 use lib.Dec.{eqb}
 use lib.ListN.{length, getD, take, drop, take-append-drop}
-use Rattle.script.specs.Words.{wordsOf, upTo, uncommented, isSpace, pastSpace, pastWord, pastWords, argumentOf, Argument, NoNumber, TooLarge, Number}
+use Rattle.script.specs.Words.{wordsOf, upTo, uncommented, isSpace, pastSpace, pastWord, pastWords}
+use Rattle.decimal.specs.declared.Argument.{Argument}
+use Rattle.decimal.specs.declared.Argument.the-variants.{NoNumber, TooLarge, Number}
+use Rattle.decimal.specs.Numbers.{argumentOf}
 use Rattle.script.specs.Table.{Row, rowOf, mostOf, noParam, Tail, Nothing, Words, Text}
 use Rattle.script.specs.Script.{Parsed, plain, command, Line, Blank, Bad, Wrong, NoSuchCall, Missing, NotDecimal, OutOfRange, TooManyWords, Numbered, Stops, Goes, withNumber, numbersFrom, Listed, listFrom, lineWith, atEnd, withList, withText, tailed, ending, goingOn, parseCall, callNamed, commentOf, behindName, calledBy, parseWords, parse}
-use Rattle.script.proofs.Decimal.{taken-most}
+use Rattle.decimal.proofs.DigitLaws.{taken-most}
 
 -- each number is at most the largest of its parameter; past the numbers, and past the parameters, stands 0
 pub record InRange (ps ns : List ℕ) : Type 0 where

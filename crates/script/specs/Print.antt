@@ -8,7 +8,7 @@ use lib.IntN.{ℤ, pos, negsuc}
 use lib.ListN.{getD}
 use Rattle.words.specs.Saturating.{max32, max64}
 use Rattle.words.specs.Signed.{signed32}
-use Rattle.script.specs.Text.{bytesOf}
+use Rattle.model.specs.Text.{bytesOf}
 use Rattle.script.specs.Table.{rows, rowOf, params, param, noParam, mostOf}
 use Rattle.script.specs.Script.{pick, Wrong, NoSuchCall, Missing, NotDecimal, OutOfRange, WordNotDecimal, WordOutOfRange, TooManyWords, ListTooLong, LineTooLong}
 

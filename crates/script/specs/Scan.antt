@@ -1,13 +1,13 @@
 -- What the parts of the parser find in a line.
 use Prim.Native.Nat.{ℕ, _+_, _-_, _≤_, _<_}
 use mathlib.Core.Path.{_≡_}
-use mathlib.Core.Bool.{Bool, true, false}
+use mathlib.Core.Bool.{false}
 use mathlib.Core.List.{List, [], _∷_, _++_}
 use mathlib.Core.Option.{Option, none, some}
-use lib.Dec.{leb}
 use lib.ListN.{length, getD, take, drop}
-use Rattle.words.specs.Saturating.{max64}
-use Rattle.script.specs.Words.{wordsOf, isSpace, pastSpace, pastWord, pastWords, Argument, NoNumber, TooLarge, Number}
+use Rattle.decimal.specs.declared.Argument.{Argument}
+use Rattle.decimal.specs.declared.Argument.the-variants.{NoNumber, TooLarge, Number}
+use Rattle.script.specs.Words.{wordsOf, isSpace, pastSpace, pastWord, pastWords}
 use Rattle.script.specs.Table.{Tail, Nothing, Words, Text}
 use Rattle.script.specs.Script.{Parsed, Numbered, Stops, Goes, numbersFrom, Listed, listed, listFrom, stopped, Line, Wrong, NotDecimal, OutOfRange, WordNotDecimal, WordOutOfRange}
 pub use Rattle.script.specs.declared.Step.{Step}
@@ -15,8 +15,6 @@ pub use Rattle.script.specs.declared.Step.the-variants.{Stop, Item}
 use Rattle.script.specs.declared.Step.the-variants.{End}
 pub use Rattle.script.specs.declared.Word.{Word}
 pub use Rattle.script.specs.declared.Word.the-variants.{NoWord, At}
-pub use Rattle.script.specs.declared.Value.{Value}
-pub use Rattle.script.specs.declared.Value.the-variants.{Over, Fits}
 pub use Rattle.script.specs.declared.Taken.{Taken}
 pub use Rattle.script.specs.declared.Taken.the-variants.{Refused, Taking}
 pub use Rattle.script.specs.declared.Got.{Got}
@@ -61,14 +59,6 @@ NextWord s at (At from to) = WordAt s at from to
 abbrev pub namedBy : Option ℕ → Named
 namedBy none = Unknown
 namedBy (some call) = Call call
-
--- a value that 64 bits hold
-abbrev pub pickValue : Bool → Value → Value → Value
-pickValue true a b = a
-pickValue false a b = b
-
-abbrev pub fitted : ℕ → Value
-fitted n = pickValue (leb n max64) (Fits n) Over
 
 -- the list xs written over the start of ys
 abbrev pub over : List ℕ → List ℕ → List ℕ

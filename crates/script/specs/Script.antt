@@ -7,7 +7,10 @@ use lib.Dec.{ltb, eqb}
 use lib.ListN.{length, getD, drop}
 use Rattle.words.specs.Saturating.{max32}
 use Rattle.model.specs.Lists.{position}
-use Rattle.script.specs.Words.{wordsOf, uncommented, pastWords, argumentOf, Argument, NoNumber, TooLarge, Number}
+use Rattle.decimal.specs.declared.Argument.{Argument}
+use Rattle.decimal.specs.declared.Argument.the-variants.{NoNumber, TooLarge, Number}
+use Rattle.decimal.specs.Numbers.{argumentOf}
+use Rattle.script.specs.Words.{wordsOf, uncommented, pastWords}
 use Rattle.script.specs.Table.{Row, rowOf, namesOf, mostOf, Tail, Nothing, Words, Text}
 pub use Rattle.script.specs.declared.Line.{Line}
 pub use Rattle.script.specs.declared.Line.the-variants.{Blank, Command, Bad}

@@ -4,7 +4,7 @@ use Prim.Native.String.{String}
 use mathlib.Core.List.{List, [], _∷_, map}
 use lib.ListN.{length, getD}
 use Rattle.words.specs.Saturating.{max32, max64}
-use Rattle.script.specs.Text.{bytesOf}
+use Rattle.model.specs.Text.{bytesOf}
 pub use Rattle.script.specs.declared.Tail.{Tail}
 pub use Rattle.script.specs.declared.Tail.the-variants.{Nothing, Words, Text}
 
@@ -30,6 +30,8 @@ params =
     ∷ param "place" 16383
     ∷ param "word" max32
     ∷ param "room" 8192
+    ∷ param "Sunday" max32
+    ∷ param "number of trigger words" 16384
     ∷ []
 
 -- their numbers
@@ -63,6 +65,12 @@ word = 8
 abbrev pub room : ℕ
 room = 9
 
+abbrev pub sunday : ℕ
+sunday = 10
+
+abbrev pub triggerWords : ℕ
+triggerWords = 11
+
 -- the number of no parameter
 abbrev pub noParam : ℕ
 noParam = length params
@@ -95,6 +103,7 @@ rows =
     ∷ row "poke" (place ∷ word ∷ []) Nothing
     ∷ row "peek" (place ∷ []) Nothing
     ∷ row "telegrams" (room ∷ []) Words
+    ∷ row "crontab" (sunday ∷ triggerWords ∷ []) Text
     ∷ []
 
 abbrev pub rowOf : List Row → ℕ → Row

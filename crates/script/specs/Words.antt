@@ -1,11 +1,8 @@
--- A line of a script: its comment, its words, and the numbers that they stand for.
-use Prim.Native.Nat.{ℕ, zero, suc, _+_, _*_, _-_}
+-- A line of a script: its comment and its words.
+use Prim.Native.Nat.{ℕ, zero, suc}
 use mathlib.Core.Bool.{Bool, true, false, cond, not, _&&_, _||_}
 use mathlib.Core.List.{List, [], _∷_}
 use lib.Dec.{leb, eqb}
-use Rattle.model.specs.Lists.{all}
-pub use Rattle.script.specs.declared.Argument.{Argument}
-pub use Rattle.script.specs.declared.Argument.the-variants.{NoNumber, TooLarge, Number}
 
 -- the bytes in front of the first c
 unfoldable pub upTo : ℕ → List ℕ → List ℕ
@@ -49,19 +46,3 @@ pastWord (b ∷ bs) = cond (isSpace b) (b ∷ bs) (pastWord bs)
 unfoldable pub pastWords : ℕ → List ℕ → List ℕ
 pastWords zero s = s
 pastWords (suc n) s = pastWord (pastSpace (pastWords n s))
-
-unfoldable pub isDigit : ℕ → Bool
-isDigit b = leb 48 b && leb b 57
-
--- the number that decimal digits stand for, behind digits that stand for n
-unfoldable pub valueFrom : ℕ → List ℕ → ℕ
-valueFrom n [] = n
-valueFrom n (b ∷ bs) = valueFrom (10 * n + (b - 48)) bs
-
-abbrev pub pickArgument : Bool → Argument → Argument → Argument
-pickArgument true a b = a
-pickArgument false a b = b
-
--- a word that is to be a number of at most `most`
-unfoldable pub argumentOf : ℕ → List ℕ → Argument
-argumentOf most w = pickArgument (all isDigit w) (pickArgument (leb (valueFrom 0 w) most) (Number (valueFrom 0 w)) TooLarge) NoNumber

@@ -36,6 +36,8 @@ pub const PEEK: u32 = 11;
 
 pub const TELEGRAMS: u32 = 12;
 
+pub const CRONTAB: u32 = 13;
+
 // The parameters, by their numbers: as in `names`.
 const TIME: u32 = 0;
 
@@ -57,10 +59,14 @@ const WORD: u32 = 8;
 
 const ROOM: u32 = 9;
 
-const NONE: u32 = 10;
+const SUNDAY: u32 = 10;
+
+const TRIGGER_WORDS: u32 = 11;
+
+const NONE: u32 = 12;
 
 // The largest number of each.
-const LARGEST: [u64; 10] = [
+const LARGEST: [u64; 12] = [
     u64::MAX,
     4294967295,
     1,
@@ -71,6 +77,8 @@ const LARGEST: [u64; 10] = [
     16383,
     4294967295,
     8192,
+    4294967295,
+    16384,
 ];
 
 fn row(call: u32) -> Shape
@@ -90,6 +98,7 @@ fn row(call: u32) -> Shape
         POKE => Shape(PLACE, WORD, NONE, NONE, Tail::Nothing),
         PEEK => Shape(PLACE, NONE, NONE, NONE, Tail::Nothing),
         TELEGRAMS => Shape(ROOM, NONE, NONE, NONE, Tail::Words),
+        CRONTAB => Shape(SUNDAY, TRIGGER_WORDS, NONE, NONE, Tail::Text),
         _ => Shape(NONE, NONE, NONE, NONE, Tail::Nothing),
     }
 }

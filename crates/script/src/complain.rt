@@ -2,7 +2,7 @@
 ghost use Prim.Native.Nat.{_+_, _*_, _≤_};
 ghost use mathlib.Core.List.{[], _∷_, _++_};
 ghost use lib.ListN.{length, getD};
-ghost use Rattle.script.specs.Text.{bytesOf};
+ghost use Rattle.model.specs.Text.{bytesOf};
 ghost use Rattle.script.specs.Print.{numbers, callName, paramName, largestOf, overText, ofCall, wrongText, wrongLine};
 ghost use Rattle.script.specs.Put.{Puts, Prints};
 use crate::Wrong;

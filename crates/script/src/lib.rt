@@ -2,7 +2,6 @@
 pub mod calls;
 pub mod complain;
 mod names;
-mod number;
 pub mod put;
 mod read;
 mod scan;
@@ -49,19 +48,6 @@ pub enum Wrong {
     TooManyWords { call: u32 },
     ListTooLong { call: u32, room: usize },
     LineTooLong,
-}
-
-// A word that is to be a number.
-pub enum Argument {
-    NoNumber,
-    TooLarge,
-    Number(u64),
-}
-
-// Digits as a number of 64 bits.
-pub enum Value {
-    Over,
-    Fits(u64),
 }
 
 // The next word of a text: from its first byte to the place behind its last.

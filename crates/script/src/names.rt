@@ -16,11 +16,11 @@ use crate::calls;
 use crate::put;
 use crate::scan;
 
-const CALLS: [u8; 79] =
-    *b"new,load,unload,enable,tick,run,deadline,counters,lend,size,poke,peek,telegrams";
+const CALLS: [u8; 87] =
+    *b"new,load,unload,enable,tick,run,deadline,counters,lend,size,poke,peek,telegrams,crontab";
 
-const PARAMS: [u8; 102] =
-    *b"time,rule,mark,dry mark,number of outcome words,number of effect words,number of words,place,word,room";
+const PARAMS: [u8; 133] =
+    *b"time,rule,mark,dry mark,number of outcome words,number of effect words,number of words,place,word,room,Sunday,number of trigger words";
 
 // The end of the name that begins at `at`.
 fn name_end(names: &[u8], at: usize) -> usize

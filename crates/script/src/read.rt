@@ -4,12 +4,12 @@ ghost use Prim.Native.Nat.{_≤_, _<_};
 ghost use mathlib.Core.List.{List};
 ghost use lib.ListN.{length, getD, take, drop};
 ghost use Rattle.words.specs.Saturating.{max32};
-ghost use Rattle.script.specs.Words.{wordsOf, pastWords, argumentOf};
+ghost use Rattle.decimal.specs.Numbers.{argumentOf};
+ghost use Rattle.script.specs.Words.{wordsOf, pastWords};
 ghost use Rattle.script.specs.Table.{rows, rowOf, noParam};
 ghost use Rattle.script.specs.Script.{parseCall, ending, command, withList, listFrom};
 ghost use Rattle.script.specs.Print.{largestOf};
 ghost use Rattle.script.specs.Scan.{part, Takes, TakesThem, takenOf, ListStep, stepOf, ListEnds, lastOf, Parses};
-use crate::Argument;
 use crate::Ended;
 use crate::Got;
 use crate::Line;
@@ -19,8 +19,8 @@ use crate::Taken;
 use crate::Word;
 use crate::Wrong;
 use crate::calls;
-use crate::number;
 use crate::scan;
+use decimal::Argument;
 
 // A word that is to be parameter i of a call.
 fn number_at(text: &[u8], from: usize, to: usize, call: u32, i: u32) -> Taken
@@ -28,7 +28,7 @@ fn number_at(text: &[u8], from: usize, to: usize, call: u32, i: u32) -> Taken
     ensures { λ r. ⌜ r ≡ takenOf call i to (argumentOf (largestOf call i) (part (now (text .entry)) from to)) ⌝ }
 {
     let most = calls::largest(call, i);
-    match number::argument(&text[from..to], most) {
+    match decimal::read(&text[from..to], most) {
         Argument::NoNumber => Taken::Refused(Wrong::NotDecimal { call, param: i }),
         Argument::TooLarge => Taken::Refused(Wrong::OutOfRange { call, param: i }),
         Argument::Number(n) => Taken::Taking(n, to),
@@ -72,7 +72,7 @@ fn item_at(text: &[u8], from: usize, to: usize, call: u32, n: usize) -> Step
     requires { ⌜ (from ≤ to) × (to ≤ length (now text)) ⌝ }
     ensures { λ r. ⌜ r ≡ stepOf call n to (argumentOf max32 (part (now (text .entry)) from to)) ⌝ }
 {
-    match number::argument(&text[from..to], 4294967295) {
+    match decimal::read(&text[from..to], 4294967295) {
         Argument::NoNumber => Step::Stop(Wrong::WordNotDecimal { call, word: n }),
         Argument::TooLarge => Step::Stop(Wrong::WordOutOfRange { call, word: n }),
         Argument::Number(v) => Step::Item(v as u32, to),

@@ -1,5 +1,6 @@
 //! The calls of the script language, a row for each, and the parser over the rows.
 
+use crate::crontab;
 use crate::house::{Call, House};
 use crate::telegrams;
 
@@ -86,6 +87,12 @@ pub const ROWS: &[Row] = &[
         params: &[Param("room", 8_192)],
         tail: Tail::Words,
         meaning: Meaning::Own(|_, given| telegrams::lines(given.word(0) as usize, &given.list)),
+    },
+    Row {
+        name: "crontab",
+        params: &[Param("Sunday", WORD), Param("number of trigger words", 16_384)],
+        tail: Tail::Text,
+        meaning: Meaning::Own(|_, given| crontab::answer(given)),
     },
 ];
 

@@ -136,7 +136,7 @@ fn a_call_and_its_line_are_each_other_back() {
     let lines = [
         "new 18446744073709551615", "load 1 2 3", "unload 0", "enable 5 1", "tick 1 2", "tick",
         "run 5 1 2 3", "deadline", "counters", "lend 6 5", "size 7", "poke 1 2", "peek 3",
-        "telegrams 8192 12 1 10 0 0",
+        "telegrams 8192 12 1 10 0 0", "crontab 6 16 0 5 * * 1-5 # up", "crontab 7 0",
     ];
     for text in lines {
         let call = parse(text).expect("good text").expect("a call");
@@ -155,16 +155,15 @@ fn the_list_of_telegrams_asks_no_store() {
     assert_eq!(text, format!("{list}telegrams refused 61\ntelegrams refused 60\ntelegrams 0\nline 7: telegrams: room is over 8192\n"));
 }
 
-/// Rows as later calls will have them: a text, four numbers, an answer of the oracle's own.
-const LATER: &[Row] = &[Row {
-    name: "say",
-    params: &[table::Param("word", u32::MAX as u64), table::Param("number of words", 16_384)],
-    tail: Tail::Text,
-    meaning: Meaning::Own(|_, given| Ok(format!("say {}\n", given.text.len()))),
-}];
+#[test]
+fn a_line_of_a_crontab_asks_no_store() {
+    let text = played(&["size 1", "crontab 6 16 30,0 5 * * 1-5 # up", "crontab 6 15 30,0 5 * * *", "crontab 6 16 0 5 1 * *", "crontab 7 16 0 5 * * *"]);
+    let list = "crontab 2\ntrigger 5 0 31\ntrigger 5 30 31\n";
+    assert_eq!(text, format!("{list}crontab refused 52\ncrontab refused 51\ncrontab refused 50\n"));
+}
 
 fn said(text: &[u8]) -> Result<Vec<u8>, String> {
-    match table::parse(LATER, text)? {
+    match table::parse(ROWS, text)? {
         Some(Call::Own { given, .. }) => Ok(given.text),
         other => Err(format!("{other:?}")),
     }
@@ -172,14 +171,14 @@ fn said(text: &[u8]) -> Result<Vec<u8>, String> {
 
 #[test]
 fn a_text_is_the_rest_of_the_line_as_it_stands() {
-    assert_eq!(said(b"say 6 16 # 5 * # \xff"), Ok(b"# 5 * # \xff".to_vec()));
-    assert_eq!(said(b" say 6  16"), Ok(Vec::new()));
-    assert_eq!(said(b"say 6 16 "), Ok(Vec::new()));
-    assert_eq!(said(b"say 6 16  a\r"), Ok(b" a\r".to_vec()));
-    assert_eq!(said(b"say # 5"), Err("say: word is no decimal number".to_owned()));
-    assert_eq!(said(b"say 6 16#x"), Err("say: number of words is no decimal number".to_owned()));
-    assert_eq!(said(b"say#6 16 x"), Err("say: word is no decimal number".to_owned()));
-    assert_eq!(said(b"say 6"), Err("say: number of words is missing".to_owned()));
-    assert_eq!(said(b"say 6 16385 x"), Err("say: number of words is over 16384".to_owned()));
-    assert_eq!(said(b"# say 6 16 x"), Err("None".to_owned()));
+    assert_eq!(said(b"crontab 6 16 # 5 * # \xff"), Ok(b"# 5 * # \xff".to_vec()));
+    assert_eq!(said(b" crontab 6  16"), Ok(Vec::new()));
+    assert_eq!(said(b"crontab 6 16 "), Ok(Vec::new()));
+    assert_eq!(said(b"crontab 6 16  a\r"), Ok(b" a\r".to_vec()));
+    assert_eq!(said(b"crontab # 5"), Err("crontab: Sunday is no decimal number".to_owned()));
+    assert_eq!(said(b"crontab 6 16#x"), Err("crontab: number of trigger words is no decimal number".to_owned()));
+    assert_eq!(said(b"crontab#6 16 x"), Err("crontab: Sunday is no decimal number".to_owned()));
+    assert_eq!(said(b"crontab 6"), Err("crontab: number of trigger words is missing".to_owned()));
+    assert_eq!(said(b"crontab 6 16385 x"), Err("crontab: number of trigger words is over 16384".to_owned()));
+    assert_eq!(said(b"# crontab 6 16 x"), Err("None".to_owned()));
 }

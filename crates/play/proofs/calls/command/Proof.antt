@@ -31,6 +31,10 @@ cast-poke : tie.Need-cast-poke
 unfolding largestOf mostOf rows
 cast-poke c = omega (arith, rw (c .before .match .keys11) at (c .before .before .before .before .before .before .before .before .pre .2))
 
+cast-crontab : tie.Need-cast-crontab
+unfolding largestOf mostOf rows
+cast-crontab c = omega (arith, rw (c .match .keys14) at (c .before .before .before .before .before .before .before .pre .1))
+
 returns : tie.Need-returns
 unfolding doings
 returns c = does-command _ 0 (table (c .before .before .before .before .before .before .before .before .before .before .before .before .before .before)) (c .before .before .before .before .before .before .before .before .before .before .before .before .before .before .args .store .now) _ _ _ _ _ (c .before .before .before .before .before .before .before .match .keys1) (c .before .before .before .before .new .ensures)
@@ -85,7 +89,15 @@ returns-13 c = does-command _ 12 (table (c .before .before .before .before .befo
 
 returns-14 : tie.Need-returns-14
 unfolding doings
-returns-14 c = rw (List·getD-eq-default (table (c .before .before .before .before .before .before .before)) quiet (past 13 _ (c .match .rest))) (does-quietly _ _ _ _ refl)
+returns-14 c =
+    let made = c .before .before .before .before in
+    let match = made .before .before .before in
+    let s = match .before .before .before .before .before .before .before in
+    does-command _ 13 (table s) (s .args .store .now) _ _ _ _ _ (match .match .keys14) (record { store = refl; lines = made .crontab .ensures })
+
+returns-15 : tie.Need-returns-15
+unfolding doings
+returns-15 c = rw (List·getD-eq-default (table (c .before .before .before .before .before .before .before)) quiet (past 14 _ (c .match .rest))) (does-quietly _ _ _ _ refl)
 
 pub command-spec : {M : Type 1} → statement M
-command-spec = tie.close (tie.spec (λ c κs. search needs) (λ c κs. search needs) (λ c κs. search needs) cast-enable (λ c κs. search needs) (λ c κs. search needs) cast-run (λ c κs. search needs) (λ c κs. search needs) (λ c κs. search needs) cast-poke (λ c κs. search needs) (λ c κs. search needs) (λ c κs. search needs) (λ c. search needs) (λ c. search needs) returns (λ c. search needs) (λ c. search needs) returns-2 (λ c. search needs) (λ c. search needs) returns-3 (λ c. search needs) (λ c. search needs) returns-4 (λ c. search needs) (λ c. search needs) (λ c. search needs) (λ c. search needs) returns-5 (λ c. search needs) (λ c. search needs) (λ c. search needs) (λ c. search needs) returns-6 (λ c. search needs) (λ c. search needs) returns-7 (λ c. search needs) (λ c. search needs) returns-8 returns-9 returns-10 (λ c. search needs) returns-11 (λ c. search needs) (λ c. search needs) returns-12 (λ c. search needs) (λ c. search needs) returns-13 returns-14)
+command-spec = tie.close (tie.spec (λ c κs. search needs) (λ c κs. search needs) (λ c κs. search needs) cast-enable (λ c κs. search needs) (λ c κs. search needs) cast-run (λ c κs. search needs) (λ c κs. search needs) (λ c κs. search needs) cast-poke (λ c κs. search needs) (λ c κs. search needs) (λ c κs. search needs) cast-crontab (λ c κs. search needs) (λ c. search needs) (λ c. search needs) returns (λ c. search needs) (λ c. search needs) returns-2 (λ c. search needs) (λ c. search needs) returns-3 (λ c. search needs) (λ c. search needs) returns-4 (λ c. search needs) (λ c. search needs) (λ c. search needs) (λ c. search needs) returns-5 (λ c. search needs) (λ c. search needs) (λ c. search needs) (λ c. search needs) returns-6 (λ c. search needs) (λ c. search needs) returns-7 (λ c. search needs) (λ c. search needs) returns-8 returns-9 returns-10 (λ c. search needs) returns-11 (λ c. search needs) (λ c. search needs) returns-12 (λ c. search needs) (λ c. search needs) returns-13 (λ c. search needs) (λ c. search needs) returns-14 returns-15)

@@ -13,11 +13,11 @@ use Rattle.script.proofs.calls.largest.Statement.{statement}
 use Rattle.script.proofs.calls.largest.Tie as tie
 
 largests : List ℕ
-largests = max64 ∷ max32 ∷ 1 ∷ 1 ∷ 24576 ∷ 327680 ∷ max32 ∷ 16383 ∷ max32 ∷ 8192 ∷ []
+largests = max64 ∷ max32 ∷ 1 ∷ 1 ∷ 24576 ∷ 327680 ∷ max32 ∷ 16383 ∷ max32 ∷ 8192 ∷ max32 ∷ 16384 ∷ []
 
 returns : tie.Need-returns
 unfolding largestOf mostOf every largests
-returns c = agree-at 10 (λ k. getD largests k 0) mostOf refl _ (c .if1 .taken) ∙ ap mostOf (c .before .param .ensures)
+returns c = agree-at 12 (λ k. getD largests k 0) mostOf refl _ (c .if1 .taken) ∙ ap mostOf (c .before .param .ensures)
 
 returns-2 : tie.Need-returns-2
 unfolding largestOf

@@ -5,14 +5,14 @@ use Rattle.script.proofs.read.number_at.Statement.{statement}
 use Rattle.script.proofs.read.number_at.Tie as tie
 
 returns : tie.Need-returns
-returns c = rw (← c .before .before .before .before .largest .ensures, ← c .before .before .argument .ensures, c .enum-told .given .1)
+returns c = rw (← c .before .before .before .before .largest .ensures, ← c .before .before .read .ensures, c .enum-told .given .1)
 
 returns-2 : tie.Need-returns-2
-returns-2 c = rw (← c .before .before .before .before .largest .ensures, ← c .before .before .argument .ensures, c .enum-told2 .given .1)
+returns-2 c = rw (← c .before .before .before .before .largest .ensures, ← c .before .before .read .ensures, c .enum-told2 .given .1)
 
 returns-3 : tie.Need-returns-3
 returns-3 c =
-    rw (← c .before .before .before .before .before .largest .ensures, ← c .before .before .before .argument .ensures, c .before .n .given .1)
+    rw (← c .before .before .before .before .before .largest .ensures, ← c .before .before .before .read .ensures, c .before .n .given .1)
 
 pub number-at-spec : {M : Type 1} → statement M
 number-at-spec =

@@ -1,0 +1,2 @@
+pub mod Programme
+pub mod Scanned
