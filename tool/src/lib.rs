@@ -1,0 +1,19 @@
+//! `barn`: rules as text, a day as a picture, refusals explained.
+//!
+//! This program is not proved. What counts is proved below it: the proved `load` judges every image that it makes, the proved `tick` and `run`
+//! make every day that it prints. What it must get right by itself, text to words and back and the reasons of refusals, is held to the proved
+//! calls by the tests.
+
+pub mod cron;
+pub mod expect;
+pub mod fault;
+pub mod flat;
+pub mod grammar;
+pub mod image;
+pub mod lex;
+pub mod names;
+pub mod parse;
+pub mod schema;
+pub mod spell;
+pub mod tree;
+pub mod written;
