@@ -6,6 +6,7 @@
 
 pub mod cron;
 pub mod expect;
+pub mod explain;
 pub mod fault;
 pub mod flat;
 pub mod grammar;
@@ -15,5 +16,6 @@ pub mod names;
 pub mod parse;
 pub mod schema;
 pub mod spell;
+pub mod store;
 pub mod tree;
 pub mod written;
