@@ -96,6 +96,11 @@ pub fn read(image: &[u32]) -> Result<Set, Unread> {
     Ok(set)
 }
 
+/// One record of an image with what is inside it; None where it cannot be read.
+pub fn record(tables: &Tables<'_>, table: Table, index: u32) -> Option<Record> {
+    Reader { tables: *tables, left: MOST_RECORDS }.record(table, index).ok()
+}
+
 impl Reader<'_> {
     fn list(&mut self, table: Table, first: u32, count: u32) -> Result<Vec<Record>, Unread> {
         let mut records = Vec::new();

@@ -4,18 +4,25 @@
 //! make every day that it prints. What it must get right by itself, text to words and back and the reasons of refusals, is held to the proved
 //! calls by the tests.
 
+pub mod args;
+pub mod command;
 pub mod cron;
 pub mod expect;
 pub mod explain;
 pub mod fault;
+pub mod files;
 pub mod flat;
 pub mod grammar;
+pub mod help;
 pub mod image;
 pub mod lex;
+pub mod light;
+pub mod lint;
 pub mod names;
 pub mod parse;
 pub mod schema;
 pub mod spell;
+pub mod state;
 pub mod store;
 pub mod tree;
 pub mod written;

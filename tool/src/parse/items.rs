@@ -318,6 +318,11 @@ impl Matcher<'_> {
     }
 
     fn value(&mut self) -> Fit<Record> {
+        let spot = self.spot();
+        self.bare_value().map(|value| Record { spot, ..value })
+    }
+
+    fn bare_value(&mut self) -> Fit<Record> {
         if self.sees("-") || self.token().is_some_and(|token| token.kind == Kind::Number) {
             return Ok(Record::new(0, &pair(self.integer("a number")? as u64)));
         }
