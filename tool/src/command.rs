@@ -38,6 +38,7 @@ pub fn run(args: &[String]) -> Said {
         "words" => words(rest),
         "show" => show(rest),
         "explain" => explained(rest),
+        "day" => crate::day::command(rest),
         other => {
             let near = crate::fault::nearest(other, help::COMMANDS).map_or(String::new(), |near| format!(" Is `{near}` meant?"));
             Err(Stop::usage(format!("barn: no command `{other}`.{near}\n{}", help::SHORT)))

@@ -4,9 +4,13 @@
 //! make every day that it prints. What it must get right by itself, text to words and back and the reasons of refusals, is held to the proved
 //! calls by the tests.
 
+pub mod account;
 pub mod args;
 pub mod command;
 pub mod cron;
+pub mod day;
+pub mod draw;
+pub mod effect;
 pub mod expect;
 pub mod explain;
 pub mod fault;
@@ -20,9 +24,11 @@ pub mod light;
 pub mod lint;
 pub mod names;
 pub mod parse;
+pub mod play;
 pub mod schema;
 pub mod spell;
 pub mod state;
 pub mod store;
+pub mod sun;
 pub mod tree;
 pub mod written;

@@ -177,7 +177,9 @@ pub fn fault_of(miss: Miss, line: &Line) -> Fault {
     let token = line.tokens.get(miss.at);
     let spot = token.map_or(line.end, |token| token.spot);
     let found = token.map_or("the end of the line".to_string(), |token| format!("`{}`", token.text));
-    let fault = Fault::error(spot, format!("{} expected, found {found}", or_list(&miss.expected)));
+    // What is described stands before words of the language.
+    let (plain, words): (Vec<String>, Vec<String>) = miss.expected.iter().cloned().partition(|text| !text.starts_with('`'));
+    let fault = Fault::error(spot, format!("{} expected, found {found}", or_list(&[plain, words].concat())));
     let words: Vec<&str> = miss.expected.iter().filter_map(|text| text.strip_prefix('`')?.strip_suffix('`')).collect();
     let near = token.and_then(|token| nearest(&token.text, words));
     fault.help(near.map_or(String::new(), |near| format!("is `{near}` meant?")))

@@ -39,7 +39,12 @@ pub fn file(source: &str, known: &Book) -> Result<File, Vec<Fault>> {
     parser.declarations();
     parser.file();
     let mut faults = std::mem::take(&mut parser.faults);
-    let resolved = if faults.is_empty() { resolve::resolve(parser, known) } else { Err(Vec::new()) };
+    let resolved = match faults.is_empty() {
+        true => resolve::resolve(parser, known),
+        // A declaration that cannot be read would make its names unknown too.
+        false if parser.bad_declaration => Err(Vec::new()),
+        false => Err(resolve::undeclared(&parser.declared.defs, &parser.uses)),
+    };
     match resolved {
         Ok(file) => Ok(file),
         Err(more) => {
@@ -62,6 +67,7 @@ pub(crate) struct Parser<'a> {
     pub(crate) rules: Vec<Rule>,
     pub(crate) blocks: Vec<Block>,
     pub(crate) expects: Vec<Expect>,
+    bad_declaration: bool,
     faults: Vec<Fault>,
 }
 
@@ -95,6 +101,7 @@ impl<'a> Parser<'a> {
             self.declared_lines.push(is_declaration);
             if is_declaration {
                 if let Err(fault) = self.declared.line(line) {
+                    self.bad_declaration = true;
                     self.fault(fault);
                 }
             }

@@ -47,9 +47,9 @@ pub(super) fn resolve(parser: Parser<'_>, known: &Book) -> Result<File, Vec<Faul
     Ok(File { set, book, places: declared.places, expects, defs: declared.defs, uses })
 }
 
-fn undeclared(defs: &[Def], uses: &[Use]) -> Vec<Fault> {
+pub(super) fn undeclared(defs: &[Def], uses: &[Use]) -> Vec<Fault> {
     let mut faults = Vec::new();
-    for used in uses.iter().filter(|used| must_be_declared(used.sort)) {
+    for used in uses.iter().filter(|used| must_be_declared(used.sort) && !used.name.is_empty()) {
         let (sort, name) = (used.sort, &used.name);
         if defs.iter().any(|def| def.sort == sort && def.name == *name) {
             continue;
