@@ -23,8 +23,8 @@ impl Spell {
 /// The spells of each light, from the beginning to the end without a gap.
 pub fn spells(played: &Played, start: i64, end: i64) -> BTreeMap<u32, Vec<Spell>> {
     let mut told: BTreeMap<u32, Vec<(i64, u32)>> = BTreeMap::new();
-    for (time, target, ppm) in &played.lights {
-        told.entry(*target).or_default().push((*time, *ppm));
+    for shine in &played.lights {
+        told.entry(shine.light).or_default().push((shine.time, shine.ppm));
     }
     told.into_iter().map(|(target, told)| (target, spells_of(&told, &played.cuts, start, end))).collect()
 }
@@ -82,6 +82,11 @@ pub fn dark(spells: &[Spell]) -> Vec<(i64, i64)> {
     out
 }
 
+/// A dark stretch in words: one that began before the time that was played has no known length.
+pub fn is_open(spells: &[Spell], begin: i64) -> bool {
+    spells.first().is_some_and(|first| first.from == begin)
+}
+
 /// The longest dark stretch that ends within a span, or is not over at its end; it may have begun before.
 pub fn longest_dark(spells: &[Spell], from: i64, to: i64) -> Option<(i64, i64)> {
     let clipped = dark(spells).into_iter().map(|(begin, end)| (begin, end.min(to))).filter(|(begin, end)| *end > from && begin < end);
@@ -101,11 +106,11 @@ pub fn days(spells: &[Spell], days: i64) -> Vec<i64> {
 #[cfg(test)]
 mod tests {
     use super::{at, dark, lit, longest_dark, spells};
-    use crate::play::Played;
+    use crate::play::{Played, Shine};
 
     #[test]
     fn spells_of_a_light_with_a_cut() {
-        let lights = vec![(-10, 1, 0), (5, 1, 500), (5, 1, 700), (20, 1, 0)];
+        let lights = [(-10, 0), (5, 500), (5, 700), (20, 0)].map(|(time, ppm)| Shine { time, light: 1, ppm, told: [0, 0] }).to_vec();
         let played = Played { lights, cuts: vec![(8, 10)], ..Played::default() };
         let all = spells(&played, -20, 40);
         let one = &all[&1];

@@ -39,6 +39,9 @@ pub fn run(args: &[String]) -> Said {
         "show" => show(rest),
         "explain" => explained(rest),
         "day" => crate::day::command(rest),
+        "test" => crate::test::command(rest),
+        "log" => crate::log::command(rest),
+        "watch" => crate::watch::command(rest),
         other => {
             let near = crate::fault::nearest(other, help::COMMANDS).map_or(String::new(), |near| format!(" Is `{near}` meant?"));
             Err(Stop::usage(format!("barn: no command `{other}`.{near}\n{}", help::SHORT)))

@@ -1,7 +1,7 @@
 //! Plays a set on the proved engine: the store, the clock, the sun, presses, power cuts. Times are milliseconds from the midnight at which the
 //! first day begins; the week before it has negative ones.
 
-use std::io::Write as _;
+use std::io::{IsTerminal as _, Write as _};
 use std::time::Instant;
 
 use crate::effect;
@@ -82,8 +82,15 @@ pub struct Event {
     pub late: bool,
 }
 
-/// A light that is told something: time, target, parts per million.
-pub type Shine = (i64, u32, u32);
+/// A light that is told something.
+#[derive(Clone, Copy, Debug, PartialEq)]
+pub struct Shine {
+    pub time: i64,
+    pub light: u32,
+    pub ppm: u32,
+    /// The effect's kind and its verb or level.
+    pub told: [u32; 2],
+}
 
 #[derive(Clone, Debug, Default)]
 pub struct Played {
@@ -126,10 +133,45 @@ pub fn play(image: &[u32], book: &Book, plan: &Plan, progress: bool) -> Result<P
     Ok(house.played)
 }
 
+/// A line on standard error while a run takes long: on a terminal it is written over, elsewhere it comes every ten seconds.
+struct Progress {
+    wanted: bool,
+    days: i64,
+    began: Instant,
+    last: Option<u128>,
+}
+
+impl Progress {
+    fn new(wanted: bool, days: i64) -> Progress {
+        Progress { wanted, days, began: Instant::now(), last: None }
+    }
+
+    fn show(&mut self, time: i64) {
+        if !self.wanted || time.rem_euclid(DAY) != 0 {
+            return;
+        }
+        let is_terminal = std::io::stderr().is_terminal();
+        let (first, each) = if is_terminal { (1_000, 200) } else { (10_000, 10_000) };
+        let now = self.began.elapsed().as_millis();
+        if now < self.last.map_or(first, |last| last + each) {
+            return;
+        }
+        self.last = Some(now);
+        let text = format!("day {} of {}", time.max(0) / DAY + 1, self.days);
+        let _ = if is_terminal { write!(std::io::stderr(), "\r{text}") } else { writeln!(std::io::stderr(), "{text}") };
+    }
+
+    fn end(&self) {
+        if self.last.is_some() && std::io::stderr().is_terminal() {
+            let _ = write!(std::io::stderr(), "\r{:30}\r", "");
+        }
+    }
+}
+
 impl House<'_> {
     fn run(&mut self, start: i64, progress: bool) -> Result<(), String> {
         let end = self.plan.days * DAY;
-        let (began, mut shown) = (Instant::now(), false);
+        let mut progress = Progress::new(progress, self.plan.days);
         let mut time = start;
         while time < end {
             if let Some((from, to)) = self.plan.cuts.iter().find(|(from, to)| (*from..*to).contains(&time)).copied() {
@@ -140,14 +182,9 @@ impl House<'_> {
             self.tick(time, time, false)?;
             self.press(time)?;
             time = self.next(time);
-            if progress && self.played.ticks % 4_096 == 0 && began.elapsed().as_secs() >= 1 {
-                shown = true;
-                let _ = write!(std::io::stderr(), "\rday {} of {}", time.max(0) / DAY + 1, self.plan.days);
-            }
+            progress.show(time);
         }
-        if shown {
-            let _ = write!(std::io::stderr(), "\r{:30}\r", "");
-        }
+        progress.end();
         Ok(())
     }
 
@@ -250,7 +287,7 @@ impl House<'_> {
             for words in effects {
                 has_any = true;
                 if let Some((target, ppm)) = effect::light_of(words, self.book) {
-                    self.played.lights.push((told, target, ppm));
+                    self.played.lights.push(Shine { time: told, light: target, ppm, told: [words[0], words[2]] });
                 }
                 if told >= 0 {
                     self.played.events.push(event(Some([words[0], words[1], words[2], words[3], words[4]])));

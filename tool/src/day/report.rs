@@ -101,8 +101,10 @@ fn bar(spells: &[Spell], day: i64) -> String {
     (0..48).map(cell).collect()
 }
 
-fn dark_text(spells: &[Spell], from: i64, to: i64) -> String {
+/// The longest dark stretch of a span of time, with its ends.
+pub fn dark_text(spells: &[Spell], from: i64, to: i64) -> String {
     match account::longest_dark(spells, from, to) {
+        Some((begin, end)) if account::is_open(spells, begin) => format!("over a week (to {})", time_text(end)),
         Some((begin, end)) => format!("{} ({} to {})", hours_text(end - begin), time_text(begin), time_text(end)),
         None => "none".to_string(),
     }

@@ -81,7 +81,11 @@ fn row(name: &str, spells: &[Spell], day: i64, y: f64) -> String {
         let x = x_of(begin).min(LEFT + PLOT - wide);
         text.push_str(&rect(x, y, wide, BAR, &fill, &title));
     }
-    let dark = account::longest_dark(spells, from, to).map_or("none".to_string(), |(begin, end)| hours_text(end - begin));
+    let dark = match account::longest_dark(spells, from, to) {
+        Some((begin, _)) if account::is_open(spells, begin) => "over a week".to_string(),
+        Some((begin, end)) => hours_text(end - begin),
+        None => "none".to_string(),
+    };
     let hours = hours_text(account::lit(spells, from, to));
     text.push_str(&words(LEFT + PLOT + 12.0, y + 16.0, "start", INK, 12, &format!("{hours}, {dark}")));
     text

@@ -3,7 +3,7 @@
 use std::fmt::Write as _;
 
 use crate::account;
-use crate::day::report::{event_text, head, hours_text, time_text, when};
+use crate::day::report::{dark_text, event_text, head, hours_text, when};
 use crate::day::Shown;
 use crate::grammar::DAYS;
 use crate::play::DAY;
@@ -51,8 +51,7 @@ fn hours(shown: &Shown<'_>) -> String {
         let _ = write!(text, "<tr><td class=\"n\">{} {}</td>", DAYS[date.weekday() as usize], date.text());
         for (_, spells) in &shown.lights {
             let (from, to) = (day * DAY, (day + 1) * DAY);
-            let dark = account::longest_dark(spells, from, to);
-            let dark = dark.map_or("none".to_string(), |(begin, end)| format!("{} ({} to {})", hours_text(end - begin), time_text(begin), time_text(end)));
+            let dark = dark_text(spells, from, to);
             let _ = write!(text, "<td class=\"n\">{}</td><td class=\"n\">{dark}</td>", hours_text(account::lit(spells, from, to)));
         }
         text.push_str("</tr>\n");
