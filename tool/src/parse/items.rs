@@ -99,7 +99,7 @@ impl Matcher<'_> {
     /// Event and signed offset.
     fn sun(&mut self) -> Fit<[u32; 2]> {
         let Some(event) = SUN.iter().position(|event| self.take(event)) else {
-            return self.miss("a time of day, `sunrise` or `sunset`");
+            return Err(super::matcher::Miss { at: self.at, expected: SUN.map(|event| format!("`{event}`")).to_vec(), fault: None });
         };
         let back = self.sees("-");
         if !self.take("+") && !self.take("-") {
@@ -149,7 +149,14 @@ impl Matcher<'_> {
         if self.token().is_some_and(|token| token.kind == Kind::Clock) {
             return Ok(Record::new(0, &self.clock()?));
         }
-        Ok(Record::new(1, &self.sun()?))
+        let from = self.at;
+        let sun = self.sun().map_err(|mut miss| {
+            if miss.at == from {
+                miss.expected.push("a time of day".to_string());
+            }
+            miss
+        })?;
+        Ok(Record::new(1, &sun))
     }
 
     fn on_days(&mut self) -> Fit<u32> {
