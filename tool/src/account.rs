@@ -23,8 +23,8 @@ impl Spell {
 /// The spells of each light, from the beginning to the end without a gap.
 pub fn spells(played: &Played, start: i64, end: i64) -> BTreeMap<u32, Vec<Spell>> {
     let mut told: BTreeMap<u32, Vec<(i64, u32)>> = BTreeMap::new();
-    for shine in &played.lights {
-        told.entry(shine.light).or_default().push((shine.time, shine.ppm));
+    for setting in &played.lights {
+        told.entry(setting.light).or_default().push((setting.time, setting.ppm));
     }
     told.into_iter().map(|(target, told)| (target, spells_of(&told, &played.cuts, start, end))).collect()
 }
@@ -106,11 +106,11 @@ pub fn days(spells: &[Spell], days: i64) -> Vec<i64> {
 #[cfg(test)]
 mod tests {
     use super::{at, dark, lit, longest_dark, spells};
-    use crate::play::{Played, Shine};
+    use crate::play::{Played, Setting};
 
     #[test]
     fn spells_of_a_light_with_a_cut() {
-        let lights = [(-10, 0), (5, 500), (5, 700), (20, 0)].map(|(time, ppm)| Shine { time, light: 1, ppm, told: [0, 0] }).to_vec();
+        let lights = [(-10, 0), (5, 500), (5, 700), (20, 0)].map(|(time, ppm)| Setting { time, light: 1, ppm, told: [0, 0] }).to_vec();
         let played = Played { lights, cuts: vec![(8, 10)], ..Played::default() };
         let all = spells(&played, -20, 40);
         let one = &all[&1];

@@ -26,8 +26,8 @@ pub fn words(effect: &[u32], book: &Book) -> String {
         10 => format!("publish {} {}{}", name(Sort::Topic, 1), text(book, word(2)), if word(3) == 1 { " retain" } else { "" }),
         11 => format!("log {}", text(book, word(1))),
         12 => {
-            let shine = percent(u64::from(light::of_level(word(2)) / 100 * 100));
-            format!("light {} level {} ({shine}){}", name(Sort::Light, 1), word(2), hold(3))
+            let shown = percent(u64::from(light::of_level(word(2)) / 100 * 100));
+            format!("light {} level {} ({shown}){}", name(Sort::Light, 1), word(2), hold(3))
         }
         kind => format!("effect {kind} {} {} {} {}", word(1), word(2), word(3), word(4)),
     }

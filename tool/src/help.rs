@@ -66,9 +66,9 @@ allowed range and the rule that reaches the record. Exit status 1 if there is on
   --as ..    what the words are; without it: by the file's end (.img, .snap, .store), by their number, or what accepts them
 ";
 
-const DAY: &str = "usage: barn day FILE.rules [options]
+const DAY: &str = "usage: barn day FILE.rules|IMAGE [options]
 
-Plays the rules on the proved engine and prints a timeline, a bar for each light, the light hours of each light and day, and the longest dark
+Plays the rules, or an image that ends with .img or .words, on the proved engine and prints a timeline, a bar for each light, the light hours of each light and day, and the longest dark
 stretch. The week before is played too, unseen, so that the day begins with the lights as they are.
 
   --days N                 so many days (1); over 7 the timeline is left out unless --timeline is given

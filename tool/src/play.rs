@@ -82,9 +82,9 @@ pub struct Event {
     pub late: bool,
 }
 
-/// A light that is told something.
+/// What a light is told, and when.
 #[derive(Clone, Copy, Debug, PartialEq)]
-pub struct Shine {
+pub struct Setting {
     pub time: i64,
     pub light: u32,
     pub ppm: u32,
@@ -97,7 +97,7 @@ pub struct Played {
     /// Of the shown days.
     pub events: Vec<Event>,
     /// Of the week before too.
-    pub lights: Vec<Shine>,
+    pub lights: Vec<Setting>,
     pub cuts: Vec<(i64, i64)>,
     pub notes: Vec<String>,
     pub ticks: u64,
@@ -287,7 +287,7 @@ impl House<'_> {
             for words in effects {
                 has_any = true;
                 if let Some((target, ppm)) = effect::light_of(words, self.book) {
-                    self.played.lights.push(Shine { time: told, light: target, ppm, told: [words[0], words[2]] });
+                    self.played.lights.push(Setting { time: told, light: target, ppm, told: [words[0], words[2]] });
                 }
                 if told >= 0 {
                     self.played.events.push(event(Some([words[0], words[1], words[2], words[3], words[4]])));

@@ -107,14 +107,14 @@ impl Case<'_> {
 
     fn looks_otherwise(&self, light: u32, look: &Look, at: i64, number: &impl Fn(u32) -> u32) -> Option<String> {
         let book = &self.rules.file.book;
-        let last = self.shown.played.lights.iter().rev().find(|shine| shine.light == light && shine.time <= at);
+        let last = self.shown.played.lights.iter().rev().find(|setting| setting.light == light && setting.time <= at);
         let spell = account::at(self.spells(light), at);
         let is_lit = spell.is_some_and(|spell| spell.is_lit());
         let fits = match look {
             Look::Lit => is_lit,
             Look::Dark => !is_lit,
-            Look::Verb(verb) => last.is_some_and(|shine| shine.told == [0, number(*verb)]),
-            Look::Percent(ppm) => last.is_some_and(|shine| shine.told[0] == 12 && shine.told[1] == level_of(*ppm)),
+            Look::Verb(verb) => last.is_some_and(|setting| setting.told == [0, number(*verb)]),
+            Look::Percent(ppm) => last.is_some_and(|setting| setting.told[0] == 12 && setting.told[1] == level_of(*ppm)),
         };
         if fits {
             return None;

@@ -9,12 +9,14 @@ use barn::names::Book;
 use oracle::house::Call;
 use oracle::random::Random;
 
-const IMAGES: u64 = 10_000;
-const STORES: u64 = 10_000;
+const IMAGES: u64 = 30_000;
+const STORES: u64 = 20_000;
 
 #[derive(Default)]
 struct Tally {
     numbers: BTreeMap<u32, u64>,
+    /// What a finding says before its first word or place.
+    rules: std::collections::BTreeSet<String>,
 }
 
 impl Tally {
@@ -25,6 +27,7 @@ impl Tally {
             panic!("{what}: the proved call says {proved}, explain {number}\n{shown}\n{:?}", &words[..words.len().min(200)]);
         }
         if let Some(refusal) = said {
+            self.rules.extend(refusal.findings.iter().map(|finding| finding.what.split(':').next().unwrap_or("").to_string()));
             assert!(explain::text(&refusal, "load", &[13, 14]).lines().count() > 0);
         }
         *self.numbers.entry(number).or_default() += 1;
@@ -142,6 +145,8 @@ fn stores() {
     }
     tally.met(&[0, 1, 2]);
     assert!(changed_and_good > 100, "{changed_and_good}");
+    // Nearly every rule of a store is broken by some change.
+    assert!(tally.rules.len() >= 22, "{} {:#?}", tally.rules.len(), tally.rules);
     println!("stores {:?}", tally.numbers);
 }
 

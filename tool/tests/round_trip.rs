@@ -2,7 +2,10 @@
 
 mod common;
 
+use std::collections::BTreeSet;
+
 use barn::names::Book;
+use barn::schema::{kinds, Table};
 use barn::{image, parse, spell};
 use oracle::house::Call;
 
@@ -11,7 +14,9 @@ const IMAGES: usize = 10_000;
 
 #[derive(Default)]
 struct Tally {
-    seen: std::collections::BTreeSet<Vec<u32>>,
+    seen: BTreeSet<Vec<u32>>,
+    /// Tables and kinds that were met; of values also the reading.
+    met: BTreeSet<(Table, u32, u32)>,
     tried: usize,
     longest_text: usize,
 }
@@ -33,6 +38,10 @@ impl Tally {
             assert_eq!(common::load_number(&written), 0, "load accepts what is written: {written:?}");
             assert_eq!(image::write(&image::read(&written).expect("read")), written, "writing a written one changes nothing");
         }
+        tree.each(|table, record| {
+            let reading = if table == Table::Values && record.kind > 0 { record.word(0) } else { 0 };
+            self.met.insert((table, record.kind, reading));
+        });
         self.longest_text = self.longest_text.max(text.len());
         self.tried += 1;
     }
@@ -56,6 +65,14 @@ fn show_then_words_gives_the_same_tree() {
             }
         }
         seed += 1;
+    }
+    for table in [Table::Triggers, Table::Conditions, Table::Actions, Table::Values, Table::Bounds] {
+        for kind in 0..kinds(table).0.len() as u32 {
+            assert!(tally.met.iter().any(|met| (met.0, met.1) == (table, kind)), "{} {kind} was never met", table.name());
+        }
+    }
+    for (kind, reading) in [1, 2].into_iter().flat_map(|kind| (0..=22).map(move |reading| (kind, reading))) {
+        assert!(tally.met.contains(&(Table::Values, kind, reading)), "value {kind} with reading {reading} was never met");
     }
     println!("round trip: {} images, {of_files} of them of files, the longest text {} bytes", tally.tried, tally.longest_text);
 }

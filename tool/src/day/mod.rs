@@ -7,8 +7,10 @@ use crate::account;
 use crate::args::Args;
 use crate::command::{accepted, Said};
 use crate::draw;
+use crate::explain;
 use crate::files::{self, Stop};
 use crate::help;
+use crate::image;
 use crate::names::Book;
 use crate::play::{self, Plan, Played, DAY};
 use crate::schema::Sort;
@@ -61,12 +63,11 @@ const MOST_DAYS_TOLD: i64 = 7;
 pub fn command(args: &[String]) -> Result<Said, Stop> {
     let args = Args::read("day", args, &VALUES, &["--new", "--timeline"])?;
     let [path] = args.given.as_slice() else { return Err(Stop::usage(help::of("day").unwrap_or_default())) };
-    let rules = files::read_rules(path)?;
-    let plan = options::plan(&args, &rules.file.book)?;
-    let words = accepted(&rules)?;
-    let played = play::play(&words, &rules.file.book, &plan, true).map_err(|what| Stop::fails(format!("barn day: {what}\n")))?;
+    let (set, book, words) = rules_or_image(path)?;
+    let plan = options::plan(&args, &book)?;
+    let played = play::play(&words, &book, &plan, true).map_err(|what| Stop::fails(format!("barn day: {what}\n")))?;
     let title = std::path::Path::new(path).file_name().map_or(path.clone(), |name| name.to_string_lossy().into_owned());
-    let shown = Shown::new(&title, &rules.file.set, &rules.file.book, &plan, &played);
+    let shown = Shown::new(&title, &set, &book, &plan, &played);
     let mut out = report::head(&shown);
     if plan.days <= MOST_DAYS_TOLD || args.has("--timeline") {
         out.push_str(&report::timeline(&shown));
@@ -76,7 +77,7 @@ pub fn command(args: &[String]) -> Result<Said, Stop> {
         true => report::bars(&shown),
         false => report::hours(&shown),
     });
-    let mut err = report::notes(&shown, &rules.file.set);
+    let mut err = report::notes(&shown, &set);
     for (option, text) in [("--svg", draw::svg as fn(&Shown<'_>) -> String), ("--html", draw::html), ("--csv", report::csv)] {
         if let Some(path) = args.value(option) {
             files::write(path, text(&shown).as_bytes())?;
@@ -84,4 +85,20 @@ pub fn command(args: &[String]) -> Result<Said, Stop> {
         }
     }
     Ok(Said { out, err, status: 0 })
+}
+
+/// A file of rules; or an image, with the names beside it.
+fn rules_or_image(path: &str) -> Result<(Set, Book, Vec<u32>), Stop> {
+    if !path.ends_with(".img") && !path.ends_with(".words") {
+        let rules = files::read_rules(path)?;
+        let words = accepted(&rules)?;
+        return Ok((rules.file.set, rules.file.book, words));
+    }
+    let words = files::read_words(path)?;
+    let book = files::known_names(path)?;
+    if let Some(refusal) = explain::image::refusal(&words, &book) {
+        return Err(Stop::fails(explain::text(&refusal, "load", &explain::image::NUMBERS)));
+    }
+    let set = image::read(&words).map_err(|_| Stop::fails(format!("barn day: {path}: its lists are shared too often to be shown\n")))?;
+    Ok((set, book, words))
 }

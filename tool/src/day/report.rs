@@ -195,7 +195,8 @@ pub fn notes(shown: &Shown<'_>, set: &Set) -> String {
     }
     let dark_days = (0..shown.plan.days).filter(|day| shown.plan.sun_of(*day).is_none()).count();
     if dark_days > 0 {
-        notes.push(format!("on {dark_days} days the sun does not rise or does not set there: rules by the sun do not run"));
+        let days = if dark_days == 1 { "1 day".to_string() } else { format!("{dark_days} days") };
+        notes.push(format!("on {days} the sun does not rise or does not set there: rules by the sun do not run"));
     }
     let lost = shown.played.events.iter().filter(|event| event.reason != 0).count();
     if lost > 0 {

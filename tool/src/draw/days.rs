@@ -7,7 +7,7 @@ use crate::grammar::DAYS;
 use crate::play::DAY;
 use crate::spell::percent;
 
-use super::{escaped, line, open, rect, shine, words, CUT, FAINT, INK, NIGHT, SKY, UNTOLD};
+use super::{colour, line, open, rect, words, CUT, FAINT, INK, NIGHT, SKY, UNTOLD};
 
 const WIDTH: i64 = 1_000;
 const LEFT: f64 = 150.0;
@@ -68,7 +68,7 @@ fn row(name: &str, spells: &[Spell], day: i64, y: f64) -> String {
             (true, _) => CUT.to_string(),
             (_, None) => UNTOLD.to_string(),
             (_, Some(0)) => NIGHT.to_string(),
-            (_, Some(ppm)) => shine(ppm),
+            (_, Some(ppm)) => colour(ppm),
         };
         let what = match (spell.cut, spell.ppm) {
             (true, _) => "power cut".to_string(),
@@ -101,8 +101,9 @@ fn hours(top: f64, height: f64) -> String {
             text.push_str(&words(x, top + height + 14.0, "middle", FAINT, 11, &format!("{hour:02}:00")));
         }
         if hour % 6 == 0 && hour > 0 && hour < 24 {
-            let dash = format!("<line x1=\"{x:.1}\" y1=\"{top:.1}\" x2=\"{x:.1}\" y2=\"{:.1}\" stroke=\"#ffffff\" stroke-opacity=\"0.35\" stroke-width=\"1\"/>\n", top + height - 8.0);
-            text.push_str(&dash);
+            text.push_str("<g stroke-opacity=\"0.35\">\n");
+            text.push_str(&line(x, top, x, top + height - 8.0, "#ffffff", 1.0));
+            text.push_str("</g>\n");
         }
     }
     text
@@ -111,9 +112,11 @@ fn hours(top: f64, height: f64) -> String {
 fn legend(y: f64) -> String {
     let mut text = String::new();
     let mut x = LEFT;
-    for (fill, name) in [(shine(1_000_000), "full"), (shine(300_000), "30 %"), (shine(30_000), "3 %"), (NIGHT.to_string(), "dark"), (UNTOLD.to_string(), "not told yet"), (CUT.to_string(), "power cut"), (SKY.to_string(), "sun")] {
+    let lights = [(1_000_000, "full"), (300_000, "30 %"), (30_000, "3 %")].map(|(ppm, name)| (colour(ppm), name));
+    let others = [(NIGHT, "dark"), (UNTOLD, "not told yet"), (CUT, "power cut"), (SKY, "sun")].map(|(fill, name)| (fill.to_string(), name));
+    for (fill, name) in lights.into_iter().chain(others) {
         text.push_str(&rect(x, y - 10.0, 14.0, 11.0, &fill, ""));
-        text.push_str(&words(x + 19.0, y, "start", FAINT, 11, &escaped(name)));
+        text.push_str(&words(x + 19.0, y, "start", FAINT, 11, name));
         x += 32.0 + 7.2 * name.len() as f64;
     }
     text

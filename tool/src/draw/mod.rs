@@ -43,7 +43,7 @@ const CUT: &str = "#b3392f";
 const SKY: &str = "#8fbfe8";
 
 /// The colour of a light: from ember to yellow. The eye sees a tenth of the light as a third.
-fn shine(ppm: u32) -> String {
+fn colour(ppm: u32) -> String {
     let part = (f64::from(ppm) / 1_000_000.0).clamp(0.0, 1.0).powf(0.45);
     let mix = |low: f64, high: f64| (low + (high - low) * part).round() as u32;
     format!("#{:02x}{:02x}{:02x}", mix(120.0, 255.0), mix(72.0, 209.0), mix(28.0, 64.0))

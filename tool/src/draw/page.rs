@@ -36,7 +36,8 @@ pub fn html(shown: &Shown<'_>) -> String {
     text.push_str(&svg(shown));
     text.push_str(&hours(shown));
     text.push_str(&timeline(shown));
-    text.push_str("<footer><p>Played by barn on the proved engine: every line of the timeline is an answer of its tick or run.</p></footer>\n</body>\n</html>\n");
+    text.push_str("<footer><p>Played by barn on the proved engine: every line of the timeline is an answer of its tick or run.</p></footer>\n");
+    text.push_str("</body>\n</html>\n");
     text
 }
 

@@ -5,7 +5,7 @@ use crate::day::report::{head, hours_text};
 use crate::day::Shown;
 use crate::play::DAY;
 
-use super::{line, open, polyline, rect, shine, words, CUT, FAINT, INK, NIGHT, SKY};
+use super::{colour, line, open, polyline, rect, words, CUT, FAINT, INK, NIGHT, SKY};
 
 const WIDTH: i64 = 1_000;
 const LEFT: f64 = 70.0;
@@ -43,7 +43,7 @@ fn panel(shown: &Shown<'_>, name: &str, spells: &[Spell], top: f64) -> String {
         for spell in spells.iter().filter(|spell| spell.from < to && spell.to > from) {
             let fill = match (spell.cut, spell.is_lit(), spell.ppm) {
                 (true, _, _) => CUT.to_string(),
-                (_, true, Some(ppm)) => shine(ppm),
+                (_, true, Some(ppm)) => colour(ppm),
                 _ => continue,
             };
             let (begin, end) = (spell.from.max(from) - from, spell.to.min(to) - from);

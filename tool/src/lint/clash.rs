@@ -4,7 +4,7 @@ use crate::fault::Fault;
 use crate::names::Book;
 use crate::schema::{Sort, Table, AFTER, AT_SOLAR, AT_TIME, LIGHT, PERCENT, WAIT};
 use crate::spell::{span, Speller};
-use crate::tree::{Record, Rule, Set, Spot};
+use crate::tree::{Record, Rule, Set};
 
 const DAY: i64 = 1_440;
 
@@ -51,13 +51,10 @@ fn fault(first: &Told<'_>, second: &Told<'_>, book: &Book) -> Fault {
         }
     };
     let (a, b) = (book.name(Sort::Rule, first.rule.name), book.name(Sort::Rule, second.rule.name));
-    let what = format!("{when} rule `{a}` says `{}` and rule `{b}` says `{}`", speller.head(Table::Actions, first.step), speller.head(Table::Actions, second.step));
+    let says = |told: &Told<'_>| speller.head(Table::Actions, told.step);
+    let what = format!("{when} rule `{a}` says `{}` and rule `{b}` says `{}`", says(first), says(second));
     let last = if first.rule.name < second.rule.name { b } else { a };
-    Fault::warning(spot_of(second), what).help(format!("rules of one minute are served in the order of their names: `{last}` has the last word"))
-}
-
-fn spot_of(told: &Told<'_>) -> Spot {
-    told.step.spot
+    Fault::warning(second.step.spot, what).help(format!("rules of one minute are served in the order of their names: `{last}` has the last word"))
 }
 
 fn meet(first: &Told<'_>, second: &Told<'_>) -> bool {

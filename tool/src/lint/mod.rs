@@ -11,7 +11,7 @@ use crate::names::Book;
 use crate::parse::File;
 use crate::schema::{self, Sort, Table, AFTER, AT_TIME, EVERY, LIGHT, PERCENT, READING_VAR, TIMER_FIRES};
 use crate::spell::{span, Speller};
-use crate::tree::{each, Record, Rule, Set, Spot};
+use crate::tree::{Record, Rule, Set, Spot};
 
 /// The warnings of a file, in the order of its lines.
 pub fn warnings(file: &File) -> Vec<Fault> {
@@ -104,7 +104,8 @@ impl<'a> Lint<'a> {
                     self.name(Sort::Light, *light),
                     span(u64::from(after.word(0)))
                 );
-                let help = format!("`timer restart NAME {}` here, and a rule `when timer NAME fires`, count from the last press", span(u64::from(after.word(0))));
+                let span = span(u64::from(after.word(0)));
+                let help = format!("`timer restart NAME {span}` here, and a rule `when timer NAME fires`, count from the last press");
                 self.warn(after.spot, what, &help);
             }
         }
@@ -242,13 +243,4 @@ pub fn bright(step: &Record, book: &Book) -> Option<u32> {
         PERCENT => step.one(2)?.literal().and_then(|ppm| u32::try_from(ppm).ok()),
         _ => None,
     }
-}
-
-/// Whether a list has a step of these kinds, nested ones too.
-pub fn has_step(steps: &[Record], wanted: impl Fn(u32) -> bool) -> bool {
-    let mut found = false;
-    for step in steps {
-        each(Table::Actions, step, &mut |table, record| found |= table == Table::Actions && wanted(record.kind));
-    }
-    found
 }

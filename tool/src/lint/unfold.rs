@@ -2,7 +2,7 @@
 
 use crate::fault::Fault;
 use crate::names::Book;
-use crate::schema::{Sort, AFTER, CALL, CONDITIONAL, REPEAT, WAIT};
+use crate::schema::{Sort, AFTER, CALL, CONDITIONAL, REPEAT};
 use crate::tree::{Record, Set, Spot};
 
 const MOST_IN_LIST: u64 = 256;
@@ -99,7 +99,6 @@ impl Walk<'_> {
                 self.list(step.list(3), size, inside);
                 size.paid = size.paid.max(then);
             }
-            WAIT => self.one(size),
             _ => self.one(size),
         }
     }
@@ -117,7 +116,8 @@ impl Walk<'_> {
                 self.one(size);
             }
             Some(_) if around.calls >= set.limits.depth => {
-                let what = format!("this call of block `{name}` is reached {} calls deep, and the depth limit is {}: there it fails", around.calls + 1, set.limits.depth);
+                let (deep, limit) = (around.calls + 1, set.limits.depth);
+                let what = format!("this call of block `{name}` is reached {deep} calls deep, and the depth limit is {limit}: there it fails");
                 self.warn(step.spot, what, "");
                 self.one(size);
             }
@@ -136,7 +136,8 @@ impl Walk<'_> {
         self.list(step.list(1), &mut body, Around { repeat: true, ..around });
         for copy in 0..times {
             if size.steps + body.steps > MOST_IN_LIST {
-                let what = format!("of this repeat {copy} of {times} copies fit under {MOST_IN_LIST} steps: the others are left out, and load does not say so");
+                let fit = format!("of this repeat {copy} of {times} copies fit under {MOST_IN_LIST} steps");
+                let what = format!("{fit}: the others are left out, and load does not say so");
                 self.warn(step.spot, what, "lower the repeat, or make several rules of it");
                 return self.one(size);
             }
