@@ -14,7 +14,7 @@ pub const BRANCH: u32 = 2;
 pub const PUTS_OFF: u32 = 3;
 const FAIL: Step = [4, 0, 0, 0];
 
-const MOST_IN_LIST: usize = 256;
+pub const MOST_IN_LIST: usize = 256;
 pub const MOST_STEPS: usize = 2_048;
 pub const MOST_TAKEN: u64 = 65_536;
 
@@ -86,11 +86,11 @@ pub fn flatten(tables: &Tables<'_>) -> Flat {
 
 /// What is around a list, through calls too.
 #[derive(Clone, Copy, Default)]
-struct Around {
-    calls: u32,
-    repeat: bool,
-    conditional: bool,
-    after: bool,
+pub struct Around {
+    pub calls: u32,
+    pub repeat: bool,
+    pub conditional: bool,
+    pub after: bool,
 }
 
 struct Writer<'a> {

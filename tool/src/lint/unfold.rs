@@ -1,20 +1,10 @@
 //! Goes through the steps as flattening does, with the reason of each step that will fail; and counts what a run pays.
 
 use crate::fault::Fault;
+use crate::flat::{Around, MOST_IN_LIST, MOST_TAKEN};
 use crate::names::Book;
 use crate::schema::{Sort, AFTER, CALL, CONDITIONAL, REPEAT};
 use crate::tree::{Record, Set, Spot};
-
-const MOST_IN_LIST: u64 = 256;
-const MOST_TAKEN: u64 = 65_536;
-
-#[derive(Clone, Copy, Default)]
-struct Around {
-    calls: u32,
-    repeat: bool,
-    conditional: bool,
-    after: bool,
-}
 
 /// The size of a list, and the most that a run through it can pay; `late` is what a body of an after would need in all.
 #[derive(Clone, Copy, Default)]
@@ -59,7 +49,7 @@ impl Walk<'_> {
             if self.taken > MOST_TAKEN {
                 return;
             }
-            if size.steps >= MOST_IN_LIST {
+            if size.steps >= MOST_IN_LIST as u64 {
                 let what = format!("a list holds {MOST_IN_LIST} steps: this one and all behind it are left out, and load does not say so");
                 self.warn(step.spot, what, "make several rules of it, and have one start the next by a timer");
                 size.steps += 1;
@@ -135,7 +125,7 @@ impl Walk<'_> {
         let mut body = Size::default();
         self.list(step.list(1), &mut body, Around { repeat: true, ..around });
         for copy in 0..times {
-            if size.steps + body.steps > MOST_IN_LIST {
+            if size.steps + body.steps > MOST_IN_LIST as u64 {
                 let fit = format!("of this repeat {copy} of {times} copies fit under {MOST_IN_LIST} steps");
                 let what = format!("{fit}: the others are left out, and load does not say so");
                 self.warn(step.spot, what, "lower the repeat, or make several rules of it");
