@@ -13,8 +13,8 @@
  *             Stores of one call do not overlap. A store that is not const is written within its words only. A text is a pointer and its number of
  *             bytes.
  *   threads   Two calls may run at once if they share no store that either of them writes.
- *   stack     In bytes, at most, for every input, on x86-64: tick 210,696, run 164,632, load 52,104, unload 37,944, next_deadline 36,440,
- *             enable 36,392, counters 30,920, crontab 616, telegrams 88, new 40. The gate computes them from the machine code. The return address is in;
+ *   stack     In bytes, at most, for every input, on x86-64: tick 37,832, load 35,336, run 30,760, next_deadline 30,696, enable 30,680,
+ *             unload 30,664, counters 25,608, crontab 616, telegrams 88, new 40. The gate computes them from the machine code. The return address is in;
  *             not in: what memcpy, memmove and memset use, the arguments that the caller pushes, the dynamic linker, interrupts
  *             (docs/PERFORMANCE.md, "Stack").
  *   refusals  Each call returns 0, or the number of a refusal: the lowest that applies. A refused call has changed nothing: the store is as

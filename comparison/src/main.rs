@@ -8,7 +8,8 @@
 //! Prints the counts, the slowest images, and each difference; its status is 1 if there is one, or if a cell of the table is empty.
 //!
 //! `comparison calls ..` compares the eight calls (`calls`), `comparison telegrams ..` the list of telegrams (`telegrams`), `comparison crontab ..` lines of a
-//! crontab (`crontab`), `comparison speed ..` times them and `comparison once ..` makes each check once (`speed`).
+//! crontab (`crontab`), `comparison speed ..` times them, `comparison once ..` makes each check once (`speed`), and `comparison small-stack ..` makes every
+//! call of scripts on a small stack (`small_stack`).
 
 mod calls;
 mod cells;
@@ -20,6 +21,7 @@ mod good_stores;
 mod kept;
 mod proved;
 mod refusals;
+mod small_stack;
 mod speed;
 mod store;
 mod store_reader;
@@ -39,7 +41,8 @@ fn numbers() -> Option<[u64; 3]> {
 }
 
 fn main() -> ExitCode {
-    if let Some(status) = calls::command().or_else(telegrams::command).or_else(crontab::command).or_else(speed::command) {
+    let command = calls::command().or_else(telegrams::command).or_else(crontab::command).or_else(speed::command);
+    if let Some(status) = command.or_else(small_stack::command) {
         return status;
     }
     let Some([histories, sweeps, seed]) = numbers() else {

@@ -3,7 +3,7 @@
  * used. With a rule that has an action of most kinds; with the image that takes the most actions one behind the other and inside each other; and with
  * one that opens as many lists inside each other as any image can: 12. What every call needs at most, for every input, is computed from the machine
  * code (docs/PERFORMANCE.md, "Stack").
- * Then every call but run and tick is made with these images on a thread that has 64 KB of stack, above pages that must not be touched.
+ * Then every call is made with these images on a thread that has 64 KB of stack, above pages that must not be touched.
  *
  *   cc -std=c99 -O2 -Iinclude examples/c/stack.c target/staticlib/libcerambiu.a -lpthread -o stack && ./stack
  */
@@ -208,13 +208,20 @@ static void measure_all(size_t bytes[])
     }
 }
 
-/* Every call but run and tick, on 64 KB. */
+/* Every call, on 64 KB. */
 static void all_fit(void)
 {
     fits(NEW);
     fits(LOAD);
     fits(LOAD);
+    look(0, 719);
+    fits(TICK);
     fits(ENABLE);
+    look(100, 719);
+    fits(RUN);
+    fits(DRY_RUN);
+    look(2000, 720);
+    fits(TICK);
     fits(NEXT_DEADLINE);
     fits(COUNTERS);
     fits(TELEGRAMS);
@@ -239,7 +246,7 @@ int main(void)
     for (size_t which = 0; which < COUNT(names); which++) {
         printf("%-14s %12zu %12zu %12zu\n", names[which], bytes[0][which], bytes[1][which], bytes[2][which]);
     }
-    printf("on 64 KB of stack, with each image: new, load, load again, enable, next_deadline, counters, telegrams, crontab, unload .. ");
+    printf("on 64 KB of stack, with each image: new, load, load again, tick, enable, run, dry run, tick, next_deadline, counters, telegrams, crontab, unload .. ");
     fflush(stdout);
     for (size_t i = 0; i < COUNT(images); i++) {
         images[i]();

@@ -12,7 +12,7 @@ use Rattle.model.specs.Image.{budget}
 use Rattle.model.specs.Outcome.{started, resumed, aborted}
 use Rattle.model.specs.Rules.{nameOf, holdHclOf, ruleNamed}
 use Rattle.model.specs.State as model-state
-use Rattle.model.specs.State.{Env, Rest, withRest, activationsDry, continuationsFired}
+use Rattle.model.specs.State.{Env, Rest, withRest, bump, activationsDry, continuationsFired}
 use Rattle.model.specs.Steps.{FlatStep, start}
 use Rattle.model.specs.declared.Pending.{Pending}
 use Rattle.state.specs.Meaning.{meaning}
@@ -20,13 +20,15 @@ use Rattle.eval.specs.Answers.{envOf}
 use Rattle.exec.specs.Results.{jobOf}
 use Rattle.exec.specs.declared.Job.{Job}
 use Rattle.activate.specs.Handled.{Handles, Activates, Resumes, modeOf}
-use Rattle.activate.specs.Outcomes.{Refuses}
+use Rattle.activate.specs.Outcomes.{Pushes}
 use Rattle.activate.specs.Decisions.{isDry, decisionOf, Decides}
-use Rattle.activate.specs.Executes.{Changes, Counts, NotesPartial, Starts, RunsWet, RunsDry, Executes, dryOutcome}
+use Rattle.activate.specs.Executes.{Changes, NotesPartial, Starts, RunsWet, RunsDry, Executes, dryOutcome}
+use Rattle.activate.specs.Carried.{Carried, carried}
 use Rattle.activate.specs.declared.Handled.{Handled}
 use Rattle.activate.specs.declared.Mode.{Mode}
 use Rattle.activate.specs.declared.decide.Decision.{Decision}
 use Rattle.activate.specs.declared.decide.Decision.the-variants.{Begins, InCooldown, Rejected, TooDeep, Unevaluable}
+use Rattle.activate.proofs.Continues.{withVol}
 use Rattle.activate.proofs.Running.{changed, after-change, same-handles, refuses}
 
 -- ---- `execute`
@@ -38,26 +40,29 @@ wet-case : (e : Env) (j : actions.Job) (v : model-state.Volatile) (t : Bool) →
 wet-case e j v false h = refl
 wet-case e j v true h = absurd (true≢false h)
 
-module _ (snapshot image part : List ℕ) (own : ℕ) (j : Job) (x y : Handled) (ow ew : List ℕ) (r : Handled) (ow′ ew′ : List ℕ) where
-  pub executes-dry : j .dry ≡ true → Counts activationsDry x y → RunsDry snapshot image part own j y ow ew r ow′ ew′ → Executes snapshot image part own j x ow ew r ow′ ew′
+module _ (snapshot image part : List ℕ) (own : ℕ) (j : Job) (x : Carried) (w ow ew : List ℕ) (r : Carried) (ow′ ew′ : List ℕ) where
+  abbrev rest-of : Rest
+  rest-of = meaning (x .vol) .rest
+
+  pub executes-dry : j .dry ≡ true → Changes (x .vol) (bump activationsDry rest-of) w → RunsDry snapshot image part own j (withVol w x) ow ew r ow′ ew′ → Executes snapshot image part own j x ow ew r ow′ ew′
   unfolding model.executeDry
   executes-dry t a h =
       let k : List (List FlatStep) → model-state.Volatile → model.Handled =
       λ flat m. dryOutcome (jobOf j) (runStepsDry (budget image) (envOf snapshot image flat) (jobOf j) start [] (m .rest)) m in
-      same-handles part own (j .index) _ _ x ow ew r ow′ ew′ (λ flat. dry-case (envOf snapshot image flat) (jobOf j) (meaning (x .vol)) (j .dry) t) (after-change x y _ a part own (j .index) k ow ew r ow′ ew′ h)
+      same-handles part own (j .index) _ _ x ow ew r ow′ ew′ (λ flat. dry-case (envOf snapshot image flat) (jobOf j) (meaning (x .vol)) (j .dry) t) (after-change x w _ a part own (j .index) k ow ew r ow′ ew′ h)
 
-  pub executes-wet : (b : ℕ) → j .dry ≡ false → b ≡ budget image → Starts snapshot j x y → RunsWet snapshot image part own j start b y ow ew r ow′ ew′ → Executes snapshot image part own j x ow ew r ow′ ew′
+  pub executes-wet : (b : ℕ) → j .dry ≡ false → b ≡ budget image → Starts snapshot j (x .vol) w → RunsWet snapshot image part own j start b (withVol w x) ow ew r ow′ ew′ → Executes snapshot image part own j x ow ew r ow′ ew′
   unfolding model.executeWet
   executes-wet b f e a h =
       let k : List (List FlatStep) → model-state.Volatile → model.Handled =
       λ flat m. model.finished (jobOf j) (started (j .rule)) (runSteps (budget image) (envOf snapshot image flat) (jobOf j) start m) in
       same-handles part own (j .index) _ _ x ow ew r ow′ ew′ (λ flat. wet-case (envOf snapshot image flat) (jobOf j) (meaning (x .vol)) (j .dry) f)
-      (after-change x y _ a part own (j .index) k ow ew r ow′ ew′ (subst (λ (n : ℕ). RunsWet snapshot image part own j start n y ow ew r ow′ ew′) e h (started (j .rule))))
+      (after-change x w _ a part own (j .index) k ow ew r ow′ ew′ (subst (λ (n : ℕ). RunsWet snapshot image part own j start n (withVol w x) ow ew r ow′ ew′) e h (started (j .rule))))
 
 -- ---- `activate`
-module _ (snapshot image part : List ℕ) (own i kind depth : ℕ) (mode : Mode) (x : Handled) (ow ew : List ℕ) (r : Handled) where
+module _ (snapshot image part : List ℕ) (own i kind depth : ℕ) (mode : Mode) (v : List ℕ) (x : Handled) (ow ew : List ℕ) where
   abbrev rest : Rest
-  rest = meaning (x .vol) .rest
+  rest = meaning v .rest
 
   abbrev pub jobWith : ℕ → Bool → Job
   jobWith name dry = record { rule = name; index = i; hold = holdHclOf image i; trigger = kind; dry = dry }
@@ -66,7 +71,7 @@ module _ (snapshot image part : List ℕ) (own i kind depth : ℕ) (mode : Mode)
   job = jobWith (nameOf image i) (isDry mode)
 
   activated : (a d : Decision) → Decides snapshot image i depth mode rest a → a ≡ d → (flat : List (List FlatStep))
-      → model.decided (decisionOf d (isDry mode) rest) (envOf snapshot image flat) (jobOf job) (meaning (x .vol)) ≡ model.activate (envOf snapshot image flat) i kind depth (modeOf mode) (meaning (x .vol))
+      → model.decided (decisionOf d (isDry mode) rest) (envOf snapshot image flat) (jobOf job) (meaning v) ≡ model.activate (envOf snapshot image flat) i kind depth (modeOf mode) (meaning v)
   unfolding model.activate model.jobOf
   activated a d h e flat = rw (h flat, e)
 
@@ -74,47 +79,47 @@ module _ (snapshot image part : List ℕ) (own i kind depth : ℕ) (mode : Mode)
     is-job : j ≡ job
     is-job = e ∙ ap (λ (k : ℕ). jobWith k dry) n ∙ ap (jobWith (nameOf image i)) w
 
-    pub begins : (ow′ ew′ : List ℕ) → a ≡ Begins → Executes snapshot image part own j x ow ew r ow′ ew′ → Activates snapshot image part own i kind depth mode x ow ew r ow′ ew′
-    begins ow′ ew′ t h = same-handles part own i _ _ x ow ew r ow′ ew′ (activated a Begins d t) (subst (λ (k : Job). Executes snapshot image part own k x ow ew r ow′ ew′) is-job h)
+    pub begins : (r : Carried) (ow′ ew′ : List ℕ) → a ≡ Begins → Executes snapshot image part own j (carried v x) ow ew r ow′ ew′ → Activates snapshot image part own i kind depth mode (carried v x) ow ew r ow′ ew′
+    begins r ow′ ew′ t h =
+        same-handles part own i _ _ (carried v x) ow ew r ow′ ew′ (activated a Begins d t) (subst (λ (k : Job). Executes snapshot image part own k (carried v x) ow ew r ow′ ew′) is-job h)
 
-    abbrev refusedWith : Rest → ℕ → model.Handled
-    refusedWith s reason = record { vol = withRest s (meaning (x .vol)); outcomes = model.outcome (jobOf job) [] reason ∷ []; trace = aborted (job .rule) ∷ [] }
+    refusing : (u : List ℕ) (r : Handled) (ow′ : List ℕ) (s : Rest) (reason : ℕ) → Changes v s u → Pushes x ow j reason (x .effects) r ow′
+        → Handles part own i (λ flat. record { vol = withRest s (meaning v); outcomes = model.outcome (jobOf job) [] reason ∷ []; trace = aborted (job .rule) ∷ [] }) (carried v x) ow ew (carried u r) ow′ ew
+    refusing u r ow′ s reason c h = refuses part own i v x ow ew u s job reason (aborted (job .rule) ∷ []) r ow′ c (subst (λ (k : Job). Pushes x ow k reason (x .effects) r ow′) is-job h)
 
-    refusing : (ow′ : List ℕ) (y : Handled) (s : Rest) (reason : ℕ) → Changes x s y → Refuses y ow j reason r ow′ → Handles part own i (λ flat. refusedWith s reason) x ow ew r ow′ ew
-    refusing ow′ y s reason b h =
-        let k : List (List FlatStep) → model-state.Volatile → model.Handled = λ flat m. record { vol = m; outcomes = model.outcome (jobOf job) [] reason ∷ []; trace = aborted (job .rule) ∷ [] } in
-        after-change x y s b part own i k ow ew r ow′ ew (refuses part own i y ow ew job reason r ow′ (subst (λ (k : Job). Refuses y ow k reason r ow′) is-job h))
+    pub too-deep : (u : List ℕ) (r : Handled) (ow′ : List ℕ) → a ≡ TooDeep → Changes v (bump model-state.chainDepthExceeded rest) u → Pushes x ow j model.chainDepth (x .effects) r ow′
+        → Activates snapshot image part own i kind depth mode (carried v x) ow ew (carried u r) ow′ ew
+    too-deep u r ow′ t c h = same-handles part own i _ _ (carried v x) ow ew (carried u r) ow′ ew (activated a TooDeep d t) (refusing u r ow′ _ model.chainDepth c h)
 
-    pub too-deep : (ow′ : List ℕ) (y : Handled) → a ≡ TooDeep → Counts model-state.chainDepthExceeded x y → Refuses y ow j model.chainDepth r ow′
-        → Activates snapshot image part own i kind depth mode x ow ew r ow′ ew
-    too-deep ow′ y t b h = same-handles part own i _ _ x ow ew r ow′ ew (activated a TooDeep d t) (refusing ow′ y _ model.chainDepth b h)
+    pub unevaluable : (u : List ℕ) (r : Handled) (ow′ : List ℕ) → a ≡ Unevaluable → NotesPartial dry v u → Pushes x ow j actions.conditionUnevaluable (x .effects) r ow′
+        → Activates snapshot image part own i kind depth mode (carried v x) ow ew (carried u r) ow′ ew
+    unevaluable u r ow′ t c h =
+        same-handles part own i _ _ (carried v x) ow ew (carried u r) ow′ ew (activated a Unevaluable d t) (refusing u r ow′ _ actions.conditionUnevaluable (subst (λ (z : Bool). NotesPartial z v u) w c) h)
 
-    pub unevaluable : (ow′ : List ℕ) (y : Handled) → a ≡ Unevaluable → NotesPartial dry x y → Refuses y ow j actions.conditionUnevaluable r ow′
-        → Activates snapshot image part own i kind depth mode x ow ew r ow′ ew
-    unevaluable ow′ y t b h = same-handles part own i _ _ x ow ew r ow′ ew (activated a Unevaluable d t) (refusing ow′ y _ actions.conditionUnevaluable (subst (λ (z : Bool). NotesPartial z x y) w b) h)
+  module _ (u : List ℕ) (a : Decision) (d : Decides snapshot image i depth mode rest a) where
+    pub in-cooldown : a ≡ InCooldown → Changes v (bump model-state.suppressedCooldown rest) u → Activates snapshot image part own i kind depth mode (carried v x) ow ew (carried u x) ow ew
+    in-cooldown t c = same-handles part own i _ _ (carried v x) ow ew (carried u x) ow ew (activated a InCooldown d t) (changed (carried v x) u _ c part own i ow ew)
 
-  module _ (a : Decision) (d : Decides snapshot image i depth mode rest a) where
-    pub in-cooldown : a ≡ InCooldown → Counts model-state.suppressedCooldown x r → Activates snapshot image part own i kind depth mode x ow ew r ow ew
-    in-cooldown t b = same-handles part own i _ _ x ow ew r ow ew (activated a InCooldown d t) (changed x r _ b part own i ow ew)
-
-    pub rejected : a ≡ Rejected → Counts model-state.conditionsRejected x r → Activates snapshot image part own i kind depth mode x ow ew r ow ew
-    rejected t b = same-handles part own i _ _ x ow ew r ow ew (activated a Rejected d t) (changed x r _ b part own i ow ew)
+    pub rejected : a ≡ Rejected → Changes v (bump model-state.conditionsRejected rest) u → Activates snapshot image part own i kind depth mode (carried v x) ow ew (carried u x) ow ew
+    rejected t c = same-handles part own i _ _ (carried v x) ow ew (carried u x) ow ew (activated a Rejected d t) (changed (carried v x) u _ c part own i ow ew)
 
 -- ---- `resume`
-module _ (snapshot image part : List ℕ) (own i : ℕ) (c : Pending) (x y : Handled) (ow ew : List ℕ) (r : Handled) (ow′ ew′ : List ℕ) where
+module _ (snapshot image part : List ℕ) (own i : ℕ) (c : Pending) (x : Carried) (w ow ew : List ℕ) (r : Carried) (ow′ ew′ : List ℕ) where
   abbrev resumedJob : Job
   resumedJob = record { rule = c .rule; index = i; hold = holdHclOf image i; trigger = c .trigger; dry = false }
 
   abbrev resumedRun : List (List FlatStep) → model-state.Volatile → model.Handled
   resumedRun flat m = model.finished (jobOf resumedJob) (resumed c) (runSteps (c .budget) (envOf snapshot image flat) (jobOf resumedJob) (c .point) m)
 
-  is-resumed : ruleNamed image (c .rule) ≡ some i → (flat : List (List FlatStep))
-      → resumedRun flat (withRest (model-state.bump continuationsFired (meaning (x .vol) .rest)) (meaning (x .vol))) ≡ model.resume (envOf snapshot image flat) c (meaning (x .vol))
+  abbrev counted : Rest
+  counted = bump continuationsFired (meaning (x .vol) .rest)
+
+  is-resumed : ruleNamed image (c .rule) ≡ some i → (flat : List (List FlatStep)) → resumedRun flat (withRest counted (meaning (x .vol))) ≡ model.resume (envOf snapshot image flat) c (meaning (x .vol))
   unfolding model.resume model.jobOf
   is-resumed h flat = rw h
 
-  pub resumes : (j : Job) → j ≡ resumedJob → ruleNamed image (c .rule) ≡ some i → Counts continuationsFired x y → RunsWet snapshot image part own j (c .point) (c .budget) y ow ew r ow′ ew′
+  pub resumes : (j : Job) → j ≡ resumedJob → ruleNamed image (c .rule) ≡ some i → Changes (x .vol) counted w → RunsWet snapshot image part own j (c .point) (c .budget) (withVol w x) ow ew r ow′ ew′
       → Resumes snapshot image part own i c x ow ew r ow′ ew′
   resumes j e named a h =
       same-handles part own i _ _ x ow ew r ow′ ew′ (is-resumed named)
-      (after-change x y _ a part own i resumedRun ow ew r ow′ ew′ (subst (λ (k : Job). RunsWet snapshot image part own k (c .point) (c .budget) y ow ew r ow′ ew′) e h (resumed c)))
+      (after-change x w counted a part own i resumedRun ow ew r ow′ ew′ (subst (λ (k : Job). RunsWet snapshot image part own k (c .point) (c .budget) (withVol w x) ow ew r ow′ ew′) e h (resumed c)))

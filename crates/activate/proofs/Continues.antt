@@ -12,13 +12,17 @@ use Rattle.model.specs.Calls.{effectsOf}
 use Rattle.model.specs.Outcome.{Outcome}
 use Rattle.model.specs.State as model-state
 use Rattle.model.specs.declared.Effect.{Effect}
-use Rattle.state.specs.Meaning.{Sound, Means, meaning}
-use Rattle.state.proofs.Follows.{accepted-by-next}
+use Rattle.state.specs.Meaning.{Sound, Means, meaning, base, accepted}
+use Rattle.state.proofs.Follows.{next-is, accepted-by-next}
 use Rattle.lent_words.specs.PutEffects.{putEffects}
 use Rattle.lent_words.proofs.Written as lent-written
 use Rattle.activate.specs.Handled.{Continues, Within, Room, putOutcomes, allEffects}
-use Rattle.activate.specs.declared.Handled.{Handled}
+use Rattle.activate.specs.Carried.{Carried}
 use Rattle.activate.proofs.Written.{put-append, all-effects-length, lent-outcomes, lent-effects}
+
+-- the words of the state are others then
+abbrev pub withVol : List ℕ → Carried → Carried
+withVol w x = record { vol = w; outcomes = x .outcomes; effects = x .effects }
 
 pub effects-append : (os ps : List Outcome) → effectsOf (os ++ ps) ≡ effectsOf os + effectsOf ps
 effects-append [] ps = omega arith
@@ -29,7 +33,7 @@ all-effects-append [] ps = refl
 all-effects-append (o ∷ os) ps = ap (λ (l : List Effect). o .effects ++ l) (all-effects-append os ps) ∙ sym (append-assoc (o .effects) (allEffects os) (allEffects ps))
 
 -- x to r by h, and r to s by k of h's state
-pub then-continues : (x : Handled) (ow ew : List ℕ) (h : model.Handled) (r : Handled) (ow′ ew′ : List ℕ) (k : model-state.Volatile → model.Handled) (s : Handled) (ow″ ew″ : List ℕ)
+pub then-continues : (x : Carried) (ow ew : List ℕ) (h : model.Handled) (r : Carried) (ow′ ew′ : List ℕ) (k : model-state.Volatile → model.Handled) (s : Carried) (ow″ ew″ : List ℕ)
     → Continues x ow ew h r ow′ ew′ → Continues r ow′ ew′ (k (h .vol)) s ow″ ew″ → Continues x ow ew (andThen h k) s ow″ ew″
 then-continues x ow ew h r ow′ ew′ k s ow″ ew″ a b =
     let y = k (h .vol) in
@@ -44,19 +48,19 @@ then-continues x ow ew h r ow′ ew′ k s ow″ ew″ a b =
     }
 
 -- the state alone changes
-pub no-outcome : (x : Handled) (ow ew : List ℕ) (v : model-state.Volatile) (r : Handled) → Means (r .vol) (x .vol .«next_seq») v → r .outcomes ≡ x .outcomes → r .effects ≡ x .effects → Continues x ow ew (noOutcome v) r ow ew
+pub no-outcome : (x : Carried) (ow ew : List ℕ) (v : model-state.Volatile) (r : Carried) → Means (r .vol) (base (x .vol)) v → r .outcomes ≡ x .outcomes → r .effects ≡ x .effects → Continues x ow ew (noOutcome v) r ow ew
 unfolding putOutcomes putEffects
 no-outcome x ow ew v r m a b = record { state = m; outcomes = a ∙ omega arith; effects = b ∙ omega arith; outcomeWords = refl; effectWords = refl }
 
 -- nothing happens
-pub nothing-done : (x : Handled) (ow ew : List ℕ) → Sound (x .vol) → Continues x ow ew (noOutcome (meaning (x .vol))) x ow ew
+pub nothing-done : (x : Carried) (ow ew : List ℕ) → Sound (x .vol) → Continues x ow ew (noOutcome (meaning (x .vol))) x ow ew
 nothing-done x ow ew s = no-outcome x ow ew (meaning (x .vol)) x (record { says = refl; sound = s; based = refl }) refl refl
 
 -- ---- room
-pub within-none : (x r : Handled) → Sound (r .vol) → r .vol .accepted ≡ x .vol .accepted → r .outcomes ≡ x .outcomes → r .effects ≡ x .effects → Within 0 x r
+pub within-none : (x r : Carried) → Sound (r .vol) → accepted (r .vol) ≡ accepted (x .vol) → r .outcomes ≡ x .outcomes → r .effects ≡ x .effects → Within 0 x r
 within-none x r s a b c = record { sound = s; accepted = omega (arith, a); outcomes = omega (arith, b); effects = omega (arith, c) }
 
-pub within-then : (n m : ℕ) (x r s : Handled) → Within n x r → Within m r s → Within (n + m) x s
+pub within-then : (n m : ℕ) (x r s : Carried) → Within n x r → Within m r s → Within (n + m) x s
 within-then n m x r s a b =
     record {
       sound = b .sound;
@@ -65,7 +69,7 @@ within-then n m x r s a b =
       effects = omega (arith, a .effects, b .effects);
     }
 
-pub within-more : (n m : ℕ) (x r : Handled) → n ≤ m → Within n x r → Within m x r
+pub within-more : (n m : ℕ) (x r : Carried) → n ≤ m → Within n x r → Within m x r
 within-more n m x r h a =
     record {
       sound = a .sound;
@@ -74,7 +78,7 @@ within-more n m x r h a =
       effects = omega (arith, a .effects);
     }
 
-pub room-left : (n m : ℕ) (x r : Handled) → Room (n + m) x → Within n x r → Room m r
+pub room-left : (n m : ℕ) (x r : Carried) → Room (n + m) x → Within n x r → Room m r
 room-left n m x r a b =
     record {
       sound = b .sound;
@@ -83,23 +87,22 @@ room-left n m x r a b =
       effects = omega (arith, a .effects, b .effects);
     }
 
-pub room-less : (n m : ℕ) (x : Handled) → n ≤ m → Room m x → Room n x
+pub room-less : (n m : ℕ) (x : Carried) → n ≤ m → Room m x → Room n x
 room-less n m x h a = record { sound = a .sound; accepted = omega (arith, a .accepted); outcomes = omega (arith, a .outcomes); effects = omega (arith, a .effects) }
 
 -- what the specification's parts bound, the code's do
-pub within-by : (n : ℕ) (x : Handled) (ow ew : List ℕ) (h : model.Handled) (r : Handled) (ow′ ew′ : List ℕ) → Continues x ow ew h r ow′ ew′
+pub within-by : (n : ℕ) (x : Carried) (ow ew : List ℕ) (h : model.Handled) (r : Carried) (ow′ ew′ : List ℕ) → Continues x ow ew h r ow′ ew′
     → h .vol .next ≤ meaning (x .vol) .next + n * 256 → length (h .outcomes) ≤ n → effectsOf (h .outcomes) ≤ n * 256 → Within n x r
-unfolding meaning
 within-by n x ow ew h r ow′ ew′ c next os es =
     record {
       sound = c .state .sound;
-      accepted = omega (arith, accepted-by-next (r .vol) (x .vol .«next_seq») (h .vol) (c .state), next);
+      accepted = omega (arith, accepted-by-next (r .vol) (base (x .vol)) (h .vol) (c .state), next-is (x .vol), next);
       outcomes = omega (arith, c .outcomes, os);
       effects = omega (arith, c .effects, es);
     }
 
 -- ---- the whole of a call, over words that were 0
-module _ (x : Handled) (ow ew : List ℕ) (h : model.Handled) (r : Handled) (ow′ ew′ : List ℕ) (c : Continues x ow ew h r ow′ ew′) (no : x .outcomes ≡ 0) (ne : x .effects ≡ 0) where
+module _ (x : Carried) (ow ew : List ℕ) (h : model.Handled) (r : Carried) (ow′ ew′ : List ℕ) (c : Continues x ow ew h r ow′ ew′) (no : x .outcomes ≡ 0) (ne : x .effects ≡ 0) where
   pub all-outcomes : ow ≡ replicate (length ow) 0 → r .outcomes * 6 ≤ length ow → ow′ ≡ lent (length ow) (outcomeWords 0 (h .outcomes))
   all-outcomes z fits =
       let n : r .outcomes ≡ length (h .outcomes) = c .outcomes ∙ omega (arith, no) in

@@ -10,8 +10,8 @@ use Rattle.model.specs.Activate as model
 use Rattle.model.specs.Rules.{cooldownOf}
 use Rattle.model.specs.State.{Rest, lastActivationAt}
 use Rattle.model.specs.World.{worldOf}
-use Rattle.state.specs.Meaning.{option64}
-use Rattle.state.specs.declared.OptionU64.{OptionU64}
+use Rattle.rows.specs.Options.{option64}
+use Rattle.rows.specs.declared.OptionU64.{OptionU64}
 use Rattle.eval.specs.Answers.{verdictOf}
 use Rattle.eval.specs.Equals.{RuleHolds}
 use Rattle.eval.specs.declared.Verdict.{Verdict}

@@ -17,46 +17,41 @@ use Rattle.model.specs.Steps.{start}
 use Rattle.model.specs.World.{worldOf}
 use Rattle.model.specs.declared.Effect.{Effect}
 use Rattle.model.specs.declared.Point.{Point}
-use Rattle.state.specs.Meaning.{Means, meaning}
-use Rattle.state.specs.declared.Volatile.{Volatile}
+use Rattle.state.specs.Meaning.{Means, meaning, base}
 use Rattle.eval.specs.Answers.{envOf}
 use Rattle.exec.specs.Results.{jobOf}
 use Rattle.exec.specs.declared.Job.{Job}
-use Rattle.activate.specs.Handled.{Continues, Handles}
-use Rattle.activate.specs.declared.Handled.{Handled}
+use Rattle.activate.specs.Handled.{Handles}
+use Rattle.activate.specs.Carried.{Carried}
 
 -- all that is no continuation is now s, and nothing else has changed
-abbrev pub Changes : Handled → Rest → Handled → Type 0
-Changes x s r = (ow ew : List ℕ) → Continues x ow ew (model.noOutcome (withRest s (meaning (x .vol)))) r ow ew
+abbrev pub Changes : List ℕ → Rest → List ℕ → Type 0
+Changes w s r = Means r (base w) (withRest s (meaning w))
 
--- counter k goes up
-abbrev pub Counts : ℕ → Handled → Handled → Type 0
-Counts k x r = Changes x (bump k (meaning (x .vol) .rest)) r
-
-abbrev pub NotesPartial : Bool → Handled → Handled → Type 0
-NotesPartial dry x r = let s = meaning (x .vol) .rest in Changes x (cond dry s (bump partialOutcomes s)) r
+abbrev pub NotesPartial : Bool → List ℕ → List ℕ → Type 0
+NotesPartial dry w r = let s = meaning w .rest in Changes w (cond dry s (bump partialOutcomes s)) r
 
 -- the activation is counted, and its time is kept
-abbrev pub Starts : List ℕ → Job → Handled → Handled → Type 0
-Starts snapshot j x r = let s = meaning (x .vol) .rest in Changes x (withLastActivation (set (s .lastActivation) (j .index) (some (worldOf snapshot .now))) (bump activationsTotal s)) r
+abbrev pub Starts : List ℕ → Job → List ℕ → List ℕ → Type 0
+Starts snapshot j w r = let s = meaning w .rest in Changes w (withLastActivation (set (s .lastActivation) (j .index) (some (worldOf snapshot .now))) (bump activationsTotal s)) r
 
 -- so many effects are counted, and a reason
-abbrev pub FinishesWet : Volatile → ℕ → ℕ → Volatile → Type 0
-FinishesWet v count reason r = (es : List Effect) → count ≡ length es → Means r (v .«next_seq») (model.finishWet es reason (meaning v))
+abbrev pub FinishesWet : List ℕ → ℕ → ℕ → List ℕ → Type 0
+FinishesWet v count reason r = (es : List Effect) → count ≡ length es → Means r (base v) (model.finishWet es reason (meaning v))
 
 -- what comes of a dry run
 abbrev pub dryOutcome : actions.Job → DryOutput → model-state.Volatile → model.Handled
 dryOutcome j o v = record { vol = withRest (o .rest) v; outcomes = model.outcome j (o .effects) (o .reason) ∷ []; trace = started (j .rule) ∷ o .trace }
 
 module _ (snapshot image part : List ℕ) (own : ℕ) (j : Job) where
-  abbrev pub RunsWet : Point → ℕ → Handled → List ℕ → List ℕ → Handled → List ℕ → List ℕ → Type 0
+  abbrev pub RunsWet : Point → ℕ → Carried → List ℕ → List ℕ → Carried → List ℕ → List ℕ → Type 0
   RunsWet from b x ow ew r ow′ ew′ =
       (item : Item) → Handles part own (j .index) (λ flat. model.finished (jobOf j) item (runSteps b (envOf snapshot image flat) (jobOf j) from (meaning (x .vol)))) x ow ew r ow′ ew′
 
-  abbrev pub RunsDry : Handled → List ℕ → List ℕ → Handled → List ℕ → List ℕ → Type 0
+  abbrev pub RunsDry : Carried → List ℕ → List ℕ → Carried → List ℕ → List ℕ → Type 0
   RunsDry x =
       Handles part own (j .index)
       (λ flat. dryOutcome (jobOf j) (runStepsDry (budget image) (envOf snapshot image flat) (jobOf j) start [] (meaning (x .vol) .rest)) (meaning (x .vol))) x
 
-  abbrev pub Executes : Handled → List ℕ → List ℕ → Handled → List ℕ → List ℕ → Type 0
+  abbrev pub Executes : Carried → List ℕ → List ℕ → Carried → List ℕ → List ℕ → Type 0
   Executes x = Handles part own (j .index) (λ flat. model.execute (envOf snapshot image flat) (jobOf j) (j .dry) (meaning (x .vol))) x

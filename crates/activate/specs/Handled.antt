@@ -13,10 +13,10 @@ use Rattle.model.specs.declared.Effect.{Effect}
 use Rattle.model.specs.declared.Pending.{Pending}
 use Rattle.model.specs.Steps.{FlatStep}
 use Rattle.flat.specs.Words.{Says}
-use Rattle.state.specs.Meaning.{Sound, Means, meaning}
+use Rattle.state.specs.Meaning.{Sound, Means, meaning, base, accepted}
 use Rattle.eval.specs.Answers.{envOf}
 use Rattle.lent_words.specs.PutEffects.{putEffects}
-use Rattle.activate.specs.declared.Handled.{Handled}
+use Rattle.activate.specs.Carried.{Carried}
 use Rattle.activate.specs.declared.Mode.{Mode}
 use Rattle.activate.specs.declared.Mode.the-variants.{Auto, Manual, Dry}
 
@@ -43,35 +43,35 @@ allEffects [] = []
 allEffects (o ∷ os) = o .effects ++ allEffects os
 
 -- from x, over these words, the code came to r and the specification to h
-pub record Continues (x : Handled) (ow ew : List ℕ) (h : model.Handled) (r : Handled) (ow′ ew′ : List ℕ) : Type 0 where
-  pub state : Means (r .vol) (x .vol .«next_seq») (h .vol)
+pub record Continues (x : Carried) (ow ew : List ℕ) (h : model.Handled) (r : Carried) (ow′ ew′ : List ℕ) : Type 0 where
+  pub state : Means (r .vol) (base (x .vol)) (h .vol)
   pub outcomes : r .outcomes ≡ x .outcomes + length (h .outcomes)
   pub effects : r .effects ≡ x .effects + effectsOf (h .outcomes)
   pub outcomeWords : ow′ ≡ putOutcomes ow (x .outcomes) (x .effects) (h .outcomes)
   pub effectWords : ew′ ≡ putEffects ew (x .effects) (allEffects (h .outcomes))
 
 -- a sound state, and no more than n activations or resumptions add: each has one outcome and a budget of 256 steps at most
-pub record Within (n : ℕ) (x r : Handled) : Type 0 where
+pub record Within (n : ℕ) (x r : Carried) : Type 0 where
   pub sound : Sound (r .vol)
-  pub accepted : r .vol .accepted ≤ x .vol .accepted + n * 256
+  pub accepted : accepted (r .vol) ≤ accepted (x .vol) + n * 256
   pub outcomes : r .outcomes ≤ x .outcomes + n
   pub effects : r .effects ≤ x .effects + n * 256
 
 -- a sound state, and numbers that have room for n activations or resumptions
-pub record Room (n : ℕ) (x : Handled) : Type 0 where
+pub record Room (n : ℕ) (x : Carried) : Type 0 where
   pub sound : Sound (x .vol)
-  pub accepted : x .vol .accepted + n * 256 ≤ max32
+  pub accepted : accepted (x .vol) + n * 256 ≤ max32
   pub outcomes : x .outcomes + n ≤ max32
   pub effects : x .effects + n * 256 ≤ max32
 
 -- one activation or resumption came to r: in every set where this part says the lists of rule i, it is what the specification gives for the set
-pub record Handles (part : List ℕ) (own i : ℕ) (h : List (List FlatStep) → model.Handled) (x : Handled) (ow ew : List ℕ) (r : Handled) (ow′ ew′ : List ℕ) : Type 0 where
+pub record Handles (part : List ℕ) (own i : ℕ) (h : List (List FlatStep) → model.Handled) (x : Carried) (ow ew : List ℕ) (r : Carried) (ow′ ew′ : List ℕ) : Type 0 where
   pub says : (flat : List (List FlatStep)) → Says part own (getD flat i []) → Continues x ow ew (h flat) r ow′ ew′
   pub within : Within 1 x r
 
 module _ (snapshot image part : List ℕ) (own i : ℕ) where
-  abbrev pub Activates : ℕ → ℕ → Mode → Handled → List ℕ → List ℕ → Handled → List ℕ → List ℕ → Type 0
+  abbrev pub Activates : ℕ → ℕ → Mode → Carried → List ℕ → List ℕ → Carried → List ℕ → List ℕ → Type 0
   Activates kind depth mode x = Handles part own i (λ flat. model.activate (envOf snapshot image flat) i kind depth (modeOf mode) (meaning (x .vol))) x
 
-  abbrev pub Resumes : Pending → Handled → List ℕ → List ℕ → Handled → List ℕ → List ℕ → Type 0
+  abbrev pub Resumes : Pending → Carried → List ℕ → List ℕ → Carried → List ℕ → List ℕ → Type 0
   Resumes c x = Handles part own i (λ flat. model.resume (envOf snapshot image flat) c (meaning (x .vol))) x

@@ -2,7 +2,6 @@
 use crate::Mode;
 use eval::Verdict;
 use eval::conditions::conditions_hold;
-use state::Volatile;
 ghost use mathlib.Core.Path.{_≡_};
 ghost use Prim.Native.Nat.{_<_};
 ghost use Rattle.model.specs.Image.{sizeOf};
@@ -32,9 +31,9 @@ fn is_auto(mode: Mode) -> bool
     }
 }
 
-fn in_cooldown(snapshot: &[u32], image: &[u32], v: Volatile, i: u32) -> bool
-    requires { ⌜ Sized (now image) × Sound v ⌝ }
-    ensures { λ r. ⌜ InCooldownIs (now (snapshot .entry)) (now (image .entry)) i (meaning v .rest) r ⌝ }
+fn in_cooldown(snapshot: &[u32], image: &[u32], v: &[u32], i: u32) -> bool
+    requires { ⌜ Sized (now image) × Sound (now v) ⌝ }
+    ensures { λ r. ⌜ InCooldownIs (now (snapshot .entry)) (now (image .entry)) i (meaning (now (v .entry)) .rest) r ⌝ }
 {
     let last = state::rules::last_activation(v, i as usize);
     let cooldown = image::rule::cooldown_of(image, i);
@@ -46,9 +45,9 @@ fn in_cooldown(snapshot: &[u32], image: &[u32], v: Volatile, i: u32) -> bool
 }
 
 // Only an automatic activation waits for the cooldown.
-fn cooldown_holds(snapshot: &[u32], image: &[u32], v: Volatile, i: u32, mode: Mode) -> bool
-    requires { ⌜ Sized (now image) × Sound v ⌝ }
-    ensures { λ r. ⌜ CooldownHolds (now (snapshot .entry)) (now (image .entry)) i mode (meaning v .rest) r ⌝ }
+fn cooldown_holds(snapshot: &[u32], image: &[u32], v: &[u32], i: u32, mode: Mode) -> bool
+    requires { ⌜ Sized (now image) × Sound (now v) ⌝ }
+    ensures { λ r. ⌜ CooldownHolds (now (snapshot .entry)) (now (image .entry)) i mode (meaning (now (v .entry)) .rest) r ⌝ }
 {
     if is_auto(mode) {
         return in_cooldown(snapshot, image, v, i);
@@ -59,13 +58,13 @@ fn cooldown_holds(snapshot: &[u32], image: &[u32], v: Volatile, i: u32, mode: Mo
 pub fn decide(
     snapshot: &[u32],
     image: &[u32],
-    v: Volatile,
+    v: &[u32],
     i: u32,
     depth: u32,
     mode: Mode,
 ) -> Decision
-    requires { ⌜ Accepted (now image) × (i < sizeOf (now image) rules) × Sound v ⌝ }
-    ensures { λ r. ⌜ Decides (now (snapshot .entry)) (now (image .entry)) i depth mode (meaning v .rest) r ⌝ }
+    requires { ⌜ Accepted (now image) × (i < sizeOf (now image) rules) × Sound (now v) ⌝ }
+    ensures { λ r. ⌜ Decides (now (snapshot .entry)) (now (image .entry)) i depth mode (meaning (now (v .entry)) .rest) r ⌝ }
 {
     if cooldown_holds(snapshot, image, v, i, mode) {
         return Decision::InCooldown;

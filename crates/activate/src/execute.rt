@@ -7,7 +7,6 @@ use exec::runs::run_steps;
 use image::layout::budget;
 use model::Jump;
 use model::Point;
-use state::Volatile;
 ghost use mathlib.Core.Path.{_≡_};
 ghost use mathlib.Core.Bool.{true};
 ghost use Prim.Native.Nat.{_≤_};
@@ -15,59 +14,38 @@ ghost use Rattle.image.specs.Accepted.{Accepted};
 ghost use Rattle.image.specs.Sized.{Sized};
 ghost use Rattle.state.specs.Meaning.{Sound};
 ghost use Rattle.exec.specs.Lists.{FlatWords};
+ghost use Rattle.activate.specs.Carried.{carried};
 ghost use Rattle.activate.specs.Handled.{Room};
-ghost use Rattle.activate.specs.Executes.{Counts, NotesPartial, Starts, FinishesWet, RunsWet, RunsDry, Executes};
+ghost use Rattle.activate.specs.Executes.{NotesPartial, Starts, FinishesWet, RunsWet, RunsDry, Executes};
 
-// `bump`: a counter goes up by one.
-pub fn count(x: Handled, which: u32) -> Handled
-    requires { ⌜ Sound (x .vol) ⌝ }
-    ensures { λ r. ⌜ Counts which x r ⌝ }
+pub fn note_wet_partial(v: &mut [u32], dry: bool)
+    requires { ⌜ Sound (now v) ⌝ }
+    ensures { λ _. ⌜ NotesPartial dry (now (v .entry)) (now (v .exit)) ⌝ }
 {
-    let v = x.vol;
-    let w = state::bump(v, which, 1);
-    Handled {
-        vol: w,
-        outcomes: x.outcomes,
-        effects: x.effects,
+    if !dry {
+        state::bump(v, counters::PARTIAL_OUTCOMES, 1);
     }
-}
-
-pub fn note_wet_partial(x: Handled, dry: bool) -> Handled
-    requires { ⌜ Sound (x .vol) ⌝ }
-    ensures { λ r. ⌜ NotesPartial dry x r ⌝ }
-{
-    if dry {
-        return x;
-    }
-    count(x, counters::PARTIAL_OUTCOMES)
 }
 
 // A wet activation is counted, and its time is kept before its steps run.
-fn start(snapshot: &[u32], x: Handled, job: Job) -> Handled
-    requires { ⌜ Sound (x .vol) ⌝ }
-    ensures { λ r. ⌜ Starts (now (snapshot .entry)) job x r ⌝ }
+fn start(snapshot: &[u32], v: &mut [u32], job: Job)
+    requires { ⌜ Sound (now v) ⌝ }
+    ensures { λ _. ⌜ Starts (now (snapshot .entry)) job (now (v .entry)) (now (v .exit)) ⌝ }
 {
-    let now = world::now_ms(snapshot);
-    let v = x.vol;
-    let w = state::bump(v, counters::ACTIVATIONS_TOTAL, 1);
-    let u = state::rules::set_last_activation(w, job.index as usize, now);
-    Handled {
-        vol: u,
-        outcomes: x.outcomes,
-        effects: x.effects,
-    }
+    let time = world::now_ms(snapshot);
+    state::bump(v, counters::ACTIVATIONS_TOTAL, 1);
+    state::rules::set_last_activation(v, job.index as usize, time);
 }
 
 // A wet run had so many effects, and this reason.
-fn finish_wet(v: Volatile, effects: u32, reason: u32) -> Volatile
-    requires { ⌜ Sound v ⌝ }
-    ensures { λ r. ⌜ FinishesWet v effects reason r ⌝ }
+fn finish_wet(v: &mut [u32], effects: u32, reason: u32)
+    requires { ⌜ Sound (now v) ⌝ }
+    ensures { λ _. ⌜ FinishesWet (now (v .entry)) effects reason (now (v .exit)) ⌝ }
 {
-    let w = state::bump(v, counters::EFFECTS_EMITTED, effects);
-    if reason == 0 {
-        return w;
+    state::bump(v, counters::EFFECTS_EMITTED, effects);
+    if reason != 0 {
+        state::bump(v, counters::PARTIAL_OUTCOMES, 1);
     }
-    state::bump(w, counters::PARTIAL_OUTCOMES, 1)
 }
 
 // A run from a point on, with a budget, and its outcome.
@@ -78,15 +56,15 @@ pub fn run_wet(
     own: usize,
     outcomes: &mut [u32],
     effects: &mut [u32],
+    v: &mut [u32],
     x: Handled,
     job: Job,
     from: Point,
     most: u32,
 ) -> Handled
-    requires { ⌜ Sized (now image) × FlatWords (now part) own × (most ≤ 256) × Room 1 x ⌝ }
-    ensures { λ r. ⌜ RunsWet (now (snapshot .entry)) (now (image .entry)) (now (part .entry)) own job from most x (now (outcomes .entry)) (now (effects .entry)) r (now (outcomes .exit)) (now (effects .exit)) ⌝ }
+    requires { ⌜ Sized (now image) × FlatWords (now part) own × (most ≤ 256) × Room 1 (carried (now v) x) ⌝ }
+    ensures { λ r. ⌜ RunsWet (now (snapshot .entry)) (now (image .entry)) (now (part .entry)) own job from most (carried (now (v .entry)) x) (now (outcomes .entry)) (now (effects .entry)) (carried (now (v .exit)) r) (now (outcomes .exit)) (now (effects .exit)) ⌝ }
 {
-    let v = x.vol;
     let run = run_steps(
         snapshot,
         image,
@@ -99,9 +77,8 @@ pub fn run_wet(
         most,
         x.effects,
     );
-    let vol = run.vol;
-    let w = finish_wet(vol, run.count - x.effects, run.reason);
-    push_outcome(outcomes, x, w, job, run.reason, run.count)
+    finish_wet(v, run.count - x.effects, run.reason);
+    push_outcome(outcomes, x, job, run.reason, run.count)
 }
 
 // A dry run of the whole rule, and its outcome.
@@ -112,13 +89,13 @@ fn run_dry(
     own: usize,
     outcomes: &mut [u32],
     effects: &mut [u32],
+    v: &mut [u32],
     x: Handled,
     job: Job,
 ) -> Handled
-    requires { ⌜ Accepted (now image) × FlatWords (now part) own × (job .dry ≡ true) × Room 1 x ⌝ }
-    ensures { λ r. ⌜ RunsDry (now (snapshot .entry)) (now (image .entry)) (now (part .entry)) own job x (now (outcomes .entry)) (now (effects .entry)) r (now (outcomes .exit)) (now (effects .exit)) ⌝ }
+    requires { ⌜ Accepted (now image) × FlatWords (now part) own × (job .dry ≡ true) × Room 1 (carried (now v) x) ⌝ }
+    ensures { λ r. ⌜ RunsDry (now (snapshot .entry)) (now (image .entry)) (now (part .entry)) own job (carried (now (v .entry)) x) (now (outcomes .entry)) (now (effects .entry)) (carried (now (v .exit)) r) (now (outcomes .exit)) (now (effects .exit)) ⌝ }
 {
-    let v = x.vol;
     let from = Point {
         list: 0,
         place: 0,
@@ -137,8 +114,7 @@ fn run_dry(
         most,
         x.effects,
     );
-    let w = run.vol;
-    push_outcome(outcomes, x, w, job, run.reason, run.count)
+    push_outcome(outcomes, x, job, run.reason, run.count)
 }
 
 pub fn execute(
@@ -148,17 +124,18 @@ pub fn execute(
     own: usize,
     outcomes: &mut [u32],
     effects: &mut [u32],
+    v: &mut [u32],
     x: Handled,
     job: Job,
 ) -> Handled
-    requires { ⌜ Accepted (now image) × FlatWords (now part) own × Room 1 x ⌝ }
-    ensures { λ r. ⌜ Executes (now (snapshot .entry)) (now (image .entry)) (now (part .entry)) own job x (now (outcomes .entry)) (now (effects .entry)) r (now (outcomes .exit)) (now (effects .exit)) ⌝ }
+    requires { ⌜ Accepted (now image) × FlatWords (now part) own × Room 1 (carried (now v) x) ⌝ }
+    ensures { λ r. ⌜ Executes (now (snapshot .entry)) (now (image .entry)) (now (part .entry)) own job (carried (now (v .entry)) x) (now (outcomes .entry)) (now (effects .entry)) (carried (now (v .exit)) r) (now (outcomes .exit)) (now (effects .exit)) ⌝ }
 {
     if job.dry {
-        let y = count(x, counters::ACTIVATIONS_DRY);
-        return run_dry(snapshot, image, part, own, outcomes, effects, y, job);
+        state::bump(v, counters::ACTIVATIONS_DRY, 1);
+        return run_dry(snapshot, image, part, own, outcomes, effects, v, x, job);
     }
-    let z = start(snapshot, x, job);
+    start(snapshot, v, job);
     let from = Point {
         list: 0,
         place: 0,
@@ -172,7 +149,8 @@ pub fn execute(
         own,
         outcomes,
         effects,
-        z,
+        v,
+        x,
         job,
         from,
         most,

@@ -5,11 +5,9 @@ mod execute;
 mod outcomes;
 
 use crate::decide::Decision;
-use crate::execute::count;
-use crate::outcomes::refusal;
+use crate::outcomes::push_outcome;
 use exec::Job;
 use model::Pending;
-use state::Volatile;
 ghost use mathlib.Core.Path.{_≡_};
 ghost use mathlib.Core.Option.{some};
 ghost use Prim.Native.Nat.{_≤_, _<_};
@@ -19,12 +17,12 @@ ghost use Rattle.model.specs.Rules.{ruleNamed, holdHclOf};
 ghost use Rattle.image.specs.Accepted.{Accepted};
 ghost use Rattle.image.specs.Sized.{Sized};
 ghost use Rattle.exec.specs.Lists.{FlatWords};
+ghost use Rattle.activate.specs.Carried.{carried};
 ghost use Rattle.activate.specs.Decisions.{isDry};
 ghost use Rattle.activate.specs.Handled.{Room, Activates, Resumes};
 
-// What activations and resumptions did so far: the state, and how many outcomes and effects are written, or would be.
+// What activations and resumptions did so far: how many outcomes and effects are written, or would be.
 pub struct Handled {
-    pub vol: Volatile,
     pub outcomes: u32,
     pub effects: u32,
 }
@@ -71,6 +69,7 @@ pub fn activate(
     own: usize,
     outcomes: &mut [u32],
     effects: &mut [u32],
+    v: &mut [u32],
     x: Handled,
     i: u32,
     kind: u32,
@@ -78,23 +77,44 @@ pub fn activate(
     mode: Mode,
 ) -> Handled
     requires { ⌜ Accepted (now image) × FlatWords (now part) own × (i < sizeOf (now image) rules) ⌝ }
-    requires { ⌜ Room 1 x ⌝ }
-    ensures { λ r. ⌜ Activates (now (snapshot .entry)) (now (image .entry)) (now (part .entry)) own i kind depth mode x (now (outcomes .entry)) (now (effects .entry)) r (now (outcomes .exit)) (now (effects .exit)) ⌝ }
+    requires { ⌜ Room 1 (carried (now v) x) ⌝ }
+    ensures { λ r. ⌜ Activates (now (snapshot .entry)) (now (image .entry)) (now (part .entry)) own i kind depth mode (carried (now (v .entry)) x) (now (outcomes .entry)) (now (effects .entry)) (carried (now (v .exit)) r) (now (outcomes .exit)) (now (effects .exit)) ⌝ }
 {
-    let v = x.vol;
     let dry = is_dry(mode);
     let job = job_of(image, image::rule::name_of(image, i), i, kind, dry);
     match decide::decide(snapshot, image, v, i, depth, mode) {
-        Decision::Begins => execute::execute(snapshot, image, part, own, outcomes, effects, x, job),
-        Decision::InCooldown => count(x, counters::SUPPRESSED_COOLDOWN),
-        Decision::Rejected => count(x, counters::CONDITIONS_REJECTED),
+        Decision::Begins => execute::execute(
+            snapshot,
+            image,
+            part,
+            own,
+            outcomes,
+            effects,
+            v,
+            x,
+            job,
+        ),
+        Decision::InCooldown => {
+            state::bump(v, counters::SUPPRESSED_COOLDOWN, 1);
+            x
+        }
+        Decision::Rejected => {
+            state::bump(v, counters::CONDITIONS_REJECTED, 1);
+            x
+        }
         Decision::TooDeep => {
-            let y = count(x, counters::CHAIN_DEPTH_EXCEEDED);
-            refusal(outcomes, y, job, state::reasons::CHAIN_DEPTH)
+            state::bump(v, counters::CHAIN_DEPTH_EXCEEDED, 1);
+            push_outcome(outcomes, x, job, state::reasons::CHAIN_DEPTH, x.effects)
         }
         Decision::Unevaluable => {
-            let y = execute::note_wet_partial(x, dry);
-            refusal(outcomes, y, job, state::reasons::CONDITION_UNEVALUABLE)
+            execute::note_wet_partial(v, dry);
+            push_outcome(
+                outcomes,
+                x,
+                job,
+                state::reasons::CONDITION_UNEVALUABLE,
+                x.effects,
+            )
         }
     }
 }
@@ -107,17 +127,18 @@ pub fn resume(
     own: usize,
     outcomes: &mut [u32],
     effects: &mut [u32],
+    v: &mut [u32],
     x: Handled,
     i: u32,
     c: Pending,
 ) -> Handled
     requires { ⌜ Accepted (now image) × FlatWords (now part) own × (ruleNamed (now image) (c .rule) ≡ some i) ⌝ }
-    requires { ⌜ (c .budget ≤ 256) × Room 1 x ⌝ }
-    ensures { λ r. ⌜ Resumes (now (snapshot .entry)) (now (image .entry)) (now (part .entry)) own i c x (now (outcomes .entry)) (now (effects .entry)) r (now (outcomes .exit)) (now (effects .exit)) ⌝ }
+    requires { ⌜ (c .budget ≤ 256) × Room 1 (carried (now v) x) ⌝ }
+    ensures { λ r. ⌜ Resumes (now (snapshot .entry)) (now (image .entry)) (now (part .entry)) own i c (carried (now (v .entry)) x) (now (outcomes .entry)) (now (effects .entry)) (carried (now (v .exit)) r) (now (outcomes .exit)) (now (effects .exit)) ⌝ }
 {
     let from = c.point;
     let job = job_of(image, c.rule, i, c.trigger, false);
-    let y = count(x, counters::CONTINUATIONS_FIRED);
+    state::bump(v, counters::CONTINUATIONS_FIRED, 1);
     execute::run_wet(
         snapshot,
         image,
@@ -125,7 +146,8 @@ pub fn resume(
         own,
         outcomes,
         effects,
-        y,
+        v,
+        x,
         job,
         from,
         c.budget,

@@ -3,13 +3,11 @@
 use crate::Handled;
 use crate::OUTCOME_WORDS;
 use exec::Job;
-use state::Volatile;
 ghost use mathlib.Core.Path.{_≡_};
 ghost use mathlib.Core.Bool.{cond};
 ghost use Prim.Native.Nat.{_≤_, _<_};
 ghost use Rattle.words.specs.Saturating.{max32};
-ghost use Rattle.state.specs.Meaning.{Sound};
-ghost use Rattle.activate.specs.Outcomes.{Puts, Pushes, Refuses};
+ghost use Rattle.activate.specs.Outcomes.{Puts, Pushes};
 
 fn dry_word(dry: bool) -> u32
     ensures { λ r. ⌜ r ≡ cond dry 1 0 ⌝ }
@@ -33,17 +31,10 @@ fn put_outcome(words: &mut [u32], n: u32, job: Job, reason: u32, first: u32, cou
     }
 }
 
-// The next outcome: with it there are `effects` effects, and the state is v.
-pub fn push_outcome(
-    words: &mut [u32],
-    x: Handled,
-    v: Volatile,
-    job: Job,
-    reason: u32,
-    effects: u32,
-) -> Handled
+// The next outcome: with it there are `effects` effects.
+pub fn push_outcome(words: &mut [u32], x: Handled, job: Job, reason: u32, effects: u32) -> Handled
     requires { ⌜ (x .outcomes < max32) × (x .effects ≤ effects) ⌝ }
-    ensures { λ r. ⌜ Pushes x (now (words .entry)) v job reason effects r (now (words .exit)) ⌝ }
+    ensures { λ r. ⌜ Pushes x (now (words .entry)) job reason effects r (now (words .exit)) ⌝ }
 {
     put_outcome(
         words,
@@ -54,17 +45,7 @@ pub fn push_outcome(
         effects - x.effects,
     );
     Handled {
-        vol: v,
         outcomes: x.outcomes + 1,
         effects,
     }
-}
-
-// An outcome with no effects.
-pub fn refusal(words: &mut [u32], x: Handled, job: Job, reason: u32) -> Handled
-    requires { ⌜ Sound (x .vol) × (x .outcomes < max32) ⌝ }
-    ensures { λ r. ⌜ Refuses x (now (words .entry)) job reason r (now (words .exit)) ⌝ }
-{
-    let v = x.vol;
-    push_outcome(words, x, v, job, reason, x.effects)
 }

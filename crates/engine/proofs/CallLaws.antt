@@ -5,35 +5,43 @@ use mathlib.Core.List.{List, [], _∷_, _++_}
 use mathlib.Core.Option.{Option, none, some}
 use Prim.Native.Nat.{ℕ, zero, suc, _+_, _^_, _≤_, _<_}
 use native.Mathlib.Omega.{arith}
-use lib.ListN.{length, getD, take, drop, length-drop}
-use lib.Seq.{length-take-le}
+use lib.ListN.{length, getD, drop, length-drop, length-map}
 use borrow.Author.Tests.{lt-ltb, le-leb}
 use Rattle.words.specs.Saturating.{max32}
 use Rattle.model.specs.declared.Pending.{Pending}
 use Rattle.model.specs.Lists.{all}
 use Rattle.model.specs.Codec.{wide}
-use Rattle.model.specs.Parts.{loadedPart}
+use Rattle.model.specs.Parts.{any, variableRow, timerRow, loadedPart}
+use Rattle.model.specs.Parts as parts
 use Rattle.model.specs.State as model
 use Rattle.model.specs.State.{RuleSet, Store, strike}
-use Rattle.model.specs.Store.{write, loadedOf, ruleCount, Keeps}
+use Rattle.model.specs.Store.{write, loadedOf, ruleCount, variableOf, Keeps}
 use Rattle.model.specs.Flat.{flattenRules, setOf}
 use Rattle.model.specs.Load.{imageRefusal}
 use Rattle.model.specs.Calls as calls
 use Rattle.model.specs.Calls.{load, unload, enable, done, refused, enabled, answered, restWith, restWithout, loading, callLoad, callUnload, flipped, enabling, ruleIn, callEnable, rulesLoaded, countersOf, call}
 use Rattle.model.proofs.Bools.{join}
+use Rattle.model.proofs.PartsLaws.{variable-laws, timer-laws}
+use Rattle.model.proofs.PartsLaws as parts-laws
 use Rattle.image.specs.Found.{found}
 use Rattle.image.specs.declared.rule.Found.{Found}
 use Rattle.image.specs.declared.rule.Found.the-variants.{At, Nothing}
 use Rattle.counters.specs.Counters as counters
+use Rattle.counters.specs.declared.Counters.{Counters}
 use Rattle.model.specs.OnWords.{callOn}
 use Rattle.ledger.specs.Demand3.{isWord, inWords}
 use Rattle.ledger.proofs.CallRules.{call-keeps}
-use Rattle.state.specs.Meaning.{Means, AllNumbered, Below, meaning}
-use Rattle.state.specs.declared.Volatile.{Volatile}
-use Rattle.state.proofs.Shape.{Long}
-use Rattle.state.proofs.Room.{vars-length, timers-length, pending-length}
-use Rattle.store.specs.Places.{laid}
-use Rattle.store.specs.Volatile.{Wrote}
+use Rattle.state.specs.Cuts.{cut}
+use Rattle.state.specs.Meaning.{pendingRow, partSizes, part, pendingPart, storedIn, recordsIn, Means, AllNumbered, Below, meaning, base, accepted, storedCount, pendingCount}
+use Rattle.state.proofs.Follows.{accepted-by-next}
+use Rattle.state.proofs.Frame.{table-part}
+use Rattle.state.proofs.Records.{pending-laws}
+use Rattle.state.proofs.Typed.{holds-count}
+use Rattle.rows.specs.Places.{rowAt, tableAt, laid}
+use Rattle.store.specs.Places.{setPlace, variablesPlace, timersPlace, pendingPlace, countersPlace}
+use Rattle.store.specs.Volatile.{changingIn, Wrote}
+use Rattle.store.proofs.Parts.{variables-at, timers-at, pending-at, counters-at, table-long}
+use Rattle.store.proofs.Stored.{ReadsAs, volatile-read}
 use Rattle.engine.specs.Seen.{seen}
 use Rattle.engine.specs.Answers.{shown}
 use Rattle.engine.specs.Sets.{cleared}
@@ -43,10 +51,10 @@ use Rattle.engine.proofs.WordLaws.{Said, all-written, volatile-written}
 use Rattle.store.proofs.RecordRules.{found-none, found-at}
 
 -- the same value, by what it says itself
-pub itself : {v : Volatile} {m : model.Volatile} → AllNumbered v m → AllNumbered v (meaning v)
+pub itself : {v : List ℕ} {m : model.Volatile} → AllNumbered v m → AllNumbered v (meaning v)
 itself a = record { says = refl; sound = a .sound; stored = a .stored; noneAccepted = a .noneAccepted }
 
-pub says-wrote : (v : Volatile) (m : model.Volatile) (w w′ : List ℕ) → AllNumbered v m → Wrote w (meaning v) w′ → Wrote w m w′
+pub says-wrote : (v : List ℕ) (m : model.Volatile) (w w′ : List ℕ) → AllNumbered v m → Wrote w (meaning v) w′ → Wrote w m w′
 says-wrote v m w w′ a h = subst (λ (x : model.Volatile). Wrote w x w′) (a .says) h
 
 -- UNLOAD -----------------------------------------------------------------------------------------------------------------------------------
@@ -69,8 +77,8 @@ unload-answer : (t : ℕ) (s : Store) → call (unload t) s .answer ≡ done
 unfolding call callUnload
 unload-answer t s = refl
 
-pub unload-seen : (t : ℕ) (w w₁ w₂ w₃ : List ℕ) (u : Volatile) → t < 2 ^ 64 → (k : Said w) → AllNumbered u (cleared (restWithout (k .store)) (k .store .vol))
-    → w₁ ≡ laid w 2 (loadedPart .put (loadedOf none)) → Wrote w₁ (meaning u) w₂ → w₃ ≡ laid w₂ 0 (wide .put t)
+pub unload-seen : (t : ℕ) (w w₁ w₂ w₃ : List ℕ) (u : List ℕ) → t < 2 ^ 64 → (k : Said w) → AllNumbered u (cleared (restWithout (k .store)) (k .store .vol))
+    → w₁ ≡ laid w setPlace (loadedPart .put (loadedOf none)) → Wrote w₁ (meaning u) w₂ → w₃ ≡ laid w₂ 0 (wide .put t)
     → shown Done w₃ [] [] ≡ seen (callOn (unload t) w)
 unload-seen t w w₁ w₂ w₃ u h k a e₁ e₂ e₃ =
     let s = k .store in
@@ -99,9 +107,9 @@ load-call : (t : ℕ) (img : List ℕ) (s : Store) → imageRefusal img ≡ 0 �
 unfolding call callLoad imageRefusal
 load-call t img s e = ap (λ (n : ℕ). loading n t img (flattenRules img) s) e
 
-pub load-seen : (t : ℕ) (img w w₁ w₂ w₃ : List ℕ) (u : Volatile) → t < 2 ^ 64 → all isWord img ≡ true → imageRefusal img ≡ 0 → (k : Said w)
+pub load-seen : (t : ℕ) (img w w₁ w₂ w₃ : List ℕ) (u : List ℕ) → t < 2 ^ 64 → all isWord img ≡ true → imageRefusal img ≡ 0 → (k : Said w)
     → AllNumbered u (cleared (restWith img t (k .store)) (k .store .vol))
-    → w₁ ≡ laid w 2 (loadedPart .put (loadedOf (some (setOf img (flattenRules img))))) → Wrote w₁ (meaning u) w₂ → w₃ ≡ laid w₂ 0 (wide .put t)
+    → w₁ ≡ laid w setPlace (loadedPart .put (loadedOf (some (setOf img (flattenRules img))))) → Wrote w₁ (meaning u) w₂ → w₃ ≡ laid w₂ 0 (wide .put t)
     → shown Done w₃ [] [] ≡ seen (callOn (load t img) w)
 load-seen t img w w₁ w₂ w₃ u h i r k a e₁ e₂ e₃ =
     let s = k .store in
@@ -125,30 +133,31 @@ none-left : (ps : List Pending) → Below 0 ps → length ps ≡ 0
 none-left [] b = refl
 none-left (p ∷ ps) b = absurd (omega (arith, b .0))
 
-pub same-numbers : (v : Volatile) (base : ℕ) (m : model.Volatile) → length (v .pending) ≡ 32 → Means v base m → m .next ≡ base → AllNumbered v m
-unfolding meaning
-same-numbers v base m l h e =
-    let n : v .«next_seq» + v .accepted ≡ m .next = ap (λ (x : model.Volatile). x .next) (h .says) in
-    let z : v .accepted ≡ 0 = omega (arith, h .based) in
-    let b = none-left (drop (v .«stored_count») (take (v .«pending_count») (v .pending))) (subst (λ (k : ℕ). Below k (drop (v .«stored_count») (take (v .«pending_count») (v .pending)))) z (h .sound .offsets)) in
-    let f : length (take (v .«pending_count») (v .pending)) ≡ v .«pending_count» = length-take-le (v .«pending_count») (v .pending) (omega (arith, h .sound .pendingFit)) in
-    let d = length-drop (v .«stored_count») (take (v .«pending_count») (v .pending)) in
-    record { says = h .says; sound = h .sound; stored = omega (arith, h .sound .storedFit); noneAccepted = z }
+pub same-numbers : (v : List ℕ) (b : ℕ) (m : model.Volatile) → Means v b m → m .next ≡ b → AllNumbered v m
+unfolding accepted storedCount pendingCount
+same-numbers v b m h e =
+    let l = recordsIn (cut partSizes v) in
+    let k = storedIn (cut partSizes v) in
+    let z : accepted v ≡ 0 = omega (arith, accepted-by-next v b m h, e) in
+    let n = none-left (drop k l) (subst (λ (x : ℕ). Below x (drop k l)) z (h .sound .parts .offsets)) in
+    let c = holds-count pendingRow pending-laws 32 (part pendingPart v) l (table-part pendingRow pending-laws pendingPart 32 (omega arith) refl v (h .sound)) in
+    record { says = h .says; sound = h .sound; stored = omega (arith, h .sound .parts .stored, c, n, length-drop k l); noneAccepted = z }
 
 flipped-next : (rule i : ℕ) (on : Bool) (m : model.Volatile) → flipped rule i on m .next ≡ m .next
 unfolding strike
 flipped-next rule i true m = refl
 flipped-next rule i false m = refl
 
-next-is : (v : Volatile) (m : model.Volatile) → AllNumbered v m → m .next ≡ v .«next_seq»
-unfolding meaning
-next-is v m a = let e : v .«next_seq» + v .accepted ≡ m .next = ap (λ (x : model.Volatile). x .next) (a .says) in omega (arith, a .noneAccepted)
+pub next-is : (v : List ℕ) (m : model.Volatile) → AllNumbered v m → m .next ≡ base v
+next-is v m a =
+    let e = accepted-by-next v (base v) m (record { says = a .says; sound = a .sound; based = refl }) in
+    omega (arith, e, a .noneAccepted)
 
-pub flipped-numbers : (v u : Volatile) (s : Store) (rule i : ℕ) (on : Bool) → length (u .pending) ≡ 32 → AllNumbered v (s .vol) → Means u (v .«next_seq») (flipped rule i on (meaning v))
+pub flipped-numbers : (v u : List ℕ) (s : Store) (rule i : ℕ) (on : Bool) → AllNumbered v (s .vol) → Means u (base v) (flipped rule i on (meaning v))
     → AllNumbered u (flipped rule i on (s .vol))
-flipped-numbers v u s rule i on l a h =
-    let h′ : Means u (v .«next_seq») (flipped rule i on (s .vol)) = subst (λ (m : model.Volatile). Means u (v .«next_seq») (flipped rule i on m)) (a .says) h in
-    same-numbers u (v .«next_seq») (flipped rule i on (s .vol)) l h′ (flipped-next rule i on (s .vol) ∙ next-is v (s .vol) a)
+flipped-numbers v u s rule i on a h =
+    let h′ : Means u (base v) (flipped rule i on (s .vol)) = subst (λ (m : model.Volatile). Means u (base v) (flipped rule i on m)) (a .says) h in
+    same-numbers u (base v) (flipped rule i on (s .vol)) h′ (flipped-next rule i on (s .vol) ∙ next-is v (s .vol) a)
 
 pub enable-on : (rule : ℕ) (on : Bool) (w : List ℕ) → OnStore (enable rule on) w
 unfolding callOn
@@ -166,7 +175,7 @@ enable-no rule on w k r e n =
     let a = enabled false in
     call-seen (enable rule on) w w [] [] s (Enabled false) a (enable-on rule on w) (k .is) (ap (λ (x : calls.Done). x .answer) d) (same-enabled false) (sym (k .written) ∙ sym (ap (λ (x : calls.Done). write (x .store)) d)) (no-outcomes 0 a refl) (no-effects 0 a refl)
 
-pub enable-yes : (rule i : ℕ) (on : Bool) (w w₁ : List ℕ) (u : Volatile) (k : Said w) (r : Found) → r ≡ found (ruleIn (k .store .loaded) rule) → r ≡ At i
+pub enable-yes : (rule i : ℕ) (on : Bool) (w w₁ : List ℕ) (u : List ℕ) (k : Said w) (r : Found) → r ≡ found (ruleIn (k .store .loaded) rule) → r ≡ At i
     → AllNumbered u (flipped rule i on (k .store .vol)) → Wrote w (meaning u) w₁ → shown (Enabled true) w₁ [] [] ≡ seen (callOn (enable rule on) w)
 enable-yes rule i on w w₁ u k r e n a h =
     let s = k .store in
@@ -181,14 +190,19 @@ rules-loaded : (o : Option RuleSet) → ruleCount o ≡ rulesLoaded o
 rules-loaded none = refl
 rules-loaded (some set) = refl
 
-pub counters-are : (v : Volatile) (s : Store) (n : ℕ) → Long v → AllNumbered v (s .vol) → n ≡ ruleCount (s .loaded)
-    → counters.countersOf (v .counters) ++ (v .«pending_count» ∷ v .«timer_count» ∷ n ∷ v .«var_count» ∷ []) ≡ countersOf s
-unfolding meaning countersOf
-counters-are v s n l a e =
-    let m = a .says in
-    let c : counters.countersOf (v .counters) ≡ s .vol .rest .counters = ap (λ (x : model.Volatile). x .rest .counters) m in
-    let p = sym (pending-length v (l .pending) (a .sound)) ∙ ap (λ (x : model.Volatile). length (x .pending)) m in
-    let t = sym (timers-length v l (a .sound)) ∙ ap (λ (x : model.Volatile). length (x .rest .timers)) m in
-    let r = e ∙ rules-loaded (s .loaded) in
-    let q = sym (vars-length v l (a .sound)) ∙ ap (λ (x : model.Volatile). length (x .rest .vars)) m in
-    λ i. c i ++ (p i ∷ t i ∷ r i ∷ q i ∷ [])
+pub counters-are : (w : List ℕ) (s : Store) (c : Counters) (p t n q : ℕ) → ReadsAs w s → counters.countersOf c ≡ tableAt any 13 w countersPlace
+    → p ≡ rowAt any w pendingPlace → t ≡ rowAt any w timersPlace → n ≡ ruleCount (s .loaded) → q ≡ rowAt any w variablesPlace
+    → counters.countersOf c ++ (p ∷ t ∷ n ∷ q ∷ []) ≡ countersOf s
+unfolding countersOf
+counters-are w s c p t n q r e ep et en eq =
+    let v = volatile-read w s r in
+    let m = changingIn w in
+    let a : counters.countersOf c ≡ s .vol .rest .counters = e ∙ sym (counters-at w) ∙ ap (λ (x : model.Volatile). x .rest .counters) v in
+    let f : p ≡ length (s .vol .pending) =
+    ep ∙ sym (ap length (pending-at w) ∙ table-long parts.pendingRow parts-laws.pending-laws (rowAt any w pendingPlace) w (pendingPlace + 1)) ∙ ap (λ (x : model.Volatile). length (x .pending)) v in
+    let g : t ≡ length (s .vol .rest .timers) =
+    et ∙ sym (ap length (timers-at w) ∙ table-long timerRow timer-laws (rowAt any w timersPlace) w (timersPlace + 1)) ∙ ap (λ (x : model.Volatile). length (x .rest .timers)) v in
+    let k : q ≡ length (s .vol .rest .vars) =
+    eq ∙ sym (ap length (variables-at w) ∙ table-long variableRow variable-laws (rowAt any w variablesPlace) w (variablesPlace + 1)) ∙ sym (length-map (m .variables) variableOf) ∙ ap (λ (x : model.Volatile). length (x .rest .vars)) v in
+    let h = en ∙ rules-loaded (s .loaded) in
+    λ i. a i ++ (f i ∷ g i ∷ h i ∷ k i ∷ [])

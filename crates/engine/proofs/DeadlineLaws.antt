@@ -14,9 +14,8 @@ use Rattle.model.specs.Calls.{deadline, due, call}
 use Rattle.model.specs.Answers as answers
 use Rattle.model.specs.OnWords.{callOn}
 use Rattle.state.specs.Meaning.{AllNumbered}
-use Rattle.state.specs.declared.Volatile.{Volatile}
 use Rattle.store.specs.Set.{loadedIn}
-use Rattle.store.specs.Places.{rowAt}
+use Rattle.rows.specs.Places.{rowAt}
 use Rattle.store.specs.Volatile.{Readable}
 use Rattle.store.proofs.Stored.{from-read, time-read}
 use Rattle.wheel.specs.Deadline.{setIf, storeOf, AcceptedIf}
@@ -44,7 +43,7 @@ module _ (w img : List ℕ) (s : Store) (e : read w ≡ some s) (i : Readable w 
       let l = loaded-image w img s e i (sym q) in
       record { flat = l .set .flat; is = ap (λ (x : List ℕ). some (record { image = x; flat = l .set .flat })) (sym (l .image)) ∙ sym (l .is) }
 
-  pub deadline-is : (b : Bool) (v : Volatile) (last : ℕ) (t : Option ℕ) → b ≡ isOne (loadedIn w .loaded) → last ≡ rowAt wide w 0 → AllNumbered v (s .vol)
+  pub deadline-is : (b : Bool) (v : List ℕ) (last : ℕ) (t : Option ℕ) → b ≡ isOne (loadedIn w .loaded) → last ≡ rowAt wide w 0 → AllNumbered v (s .vol)
       → ((flat : List (List FlatStep)) → t ≡ nextDeadline (storeOf img b flat v last)) → t ≡ nextDeadline s
   deadline-is b v last t q l a h =
       let k = set-is b q in

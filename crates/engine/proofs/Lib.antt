@@ -1,5 +1,4 @@
 pub mod Seeing
-pub mod Filled
 pub mod SetLaws
 pub mod WordLaws
 pub mod LoadedLaws

@@ -3,9 +3,10 @@ use mathlib.Core.Path.{_≡_, refl, sym, ap, _∙_, subst}
 use mathlib.Core.Bool.{true, false, false≢true}
 use mathlib.Core.List.{List}
 use mathlib.Core.Option.{Option, none, some, Option·none-ne-some}
-use Prim.Native.Nat.{ℕ, _≤_}
+use Prim.Native.Nat.{ℕ, _<_}
 use native.Mathlib.Omega.{arith}
-use lib.ListN.{length, getD, length-map, length-take, List·getD-eq-default}
+use lib.ListN.{length, getD, take, List·getD-eq-default}
+use lib.Seq.{getD-take}
 use Rattle.model.specs.Lists.{present}
 use Rattle.model.specs.Image.{sizeOf}
 use Rattle.model.specs.Rows.{rules}
@@ -13,20 +14,24 @@ use Rattle.model.specs.Rules.{nameOf, ruleNamed}
 use Rattle.model.specs.World.{isOne}
 use Rattle.model.specs.Flat.{flattenRules, setOf}
 use Rattle.model.specs.Load.{imageRefusal}
-use Rattle.model.specs.State.{RuleSet, Store, lastActivationAt, cyclePosAt}
+use Rattle.model.specs.Codec.{word, wide, maybe}
+use Rattle.model.specs.State.{RuleSet, Volatile, Store}
 use Rattle.model.specs.Store.{read, ruleCount}
 use Rattle.model.specs.Calls.{keptAt, kept, ruleIn}
+use Rattle.model.proofs.RowLaws.{word-laws, wide-laws, word-blank, wide-blank, maybe-laws}
+use Rattle.image.proofs.Rules.{named-rule}
 use Rattle.image.specs.Found.{found}
 use Rattle.image.specs.declared.rule.Found.{Found}
 use Rattle.image.specs.declared.rule.Found.the-variants.{At, Nothing}
-use Rattle.state.specs.Meaning.{Sound, meaning}
-use Rattle.state.specs.declared.Volatile.{Volatile}
 use Rattle.store.specs.Set.{loadedIn}
 use Rattle.store.specs.FlatPart.{Kept}
-use Rattle.store.specs.Volatile.{Readable}
-use Rattle.store.proofs.Stored.{from-read}
+use Rattle.store.specs.Places.{activationsPlace, positionsPlace}
+use Rattle.store.specs.Volatile.{Readable, changingIn}
+use Rattle.store.proofs.Parts.{activations-at, positions-at, table-long}
+use Rattle.store.proofs.Stored.{from-read, volatile-read}
 use Rattle.store.proofs.LoadedSet.{loaded-read, image-read, accepted-read, form-read, kept-read}
 use Rattle.store.proofs.RecordRules.{found-none, found-at}
+use Rattle.engine.specs.Sets.{activationOf, positionOf}
 
 module _ (w : List ℕ) (s : Store) (e : read w ≡ some s) where
   absent : (o : Option RuleSet) → present o ≡ false → o ≡ none
@@ -78,36 +83,45 @@ kept-place : (o : Option RuleSet) (xs : List (Option ℕ)) (name : ℕ) → kept
 kept-place none xs name = refl
 kept-place (some set) xs name = refl
 
-module _ (o : Option RuleSet) (xs : List (Option ℕ)) (name : ℕ) (r : Found) (e : r ≡ found (ruleIn o name)) where
-  pub nothing-kept : r ≡ Nothing → length xs ≤ 64 → getD xs 64 none ≡ kept o xs name
-  nothing-kept n l =
-      List·getD-eq-default xs none l ∙ sym (ap (λ (x : Option ℕ). keptAt x xs) (found-none (ruleIn o name) r e n)) ∙ kept-place o xs name
+inside : (o : Option RuleSet) (name i : ℕ) → ruleIn o name ≡ some i → i < ruleCount o
+inside none name i e = absurd (Option·none-ne-some i e)
+inside (some set) name i e = named-rule (set .image) name i e .0
 
-  pub kept-there : (i : ℕ) → r ≡ At i → getD xs i none ≡ kept o xs name
-  kept-there i n = sym (ap (λ (x : Option ℕ). keptAt x xs) (found-at (ruleIn o name) r i e n)) ∙ kept-place o xs name
+module _ (o : Option RuleSet) (xs : List (Option ℕ)) (name : ℕ) (r : Found) (e : r ≡ found (ruleIn o name)) where
+  abbrev ofRules : List (Option ℕ)
+  ofRules = take (ruleCount o) xs
+
+  pub nothing-kept : r ≡ Nothing → length xs ≡ 64 → getD xs 64 none ≡ kept o ofRules name
+  nothing-kept n l =
+      List·getD-eq-default xs none (omega arith) ∙ sym (ap (λ (x : Option ℕ). keptAt x ofRules) (found-none (ruleIn o name) r e n)) ∙ kept-place o ofRules name
+
+  pub kept-there : (i : ℕ) → r ≡ At i → getD xs i none ≡ kept o ofRules name
+  kept-there i n =
+      let q = found-at (ruleIn o name) r i e n in
+      sym (getD-take (ruleCount o) xs i none (inside o name i q)) ∙ sym (ap (λ (x : Option ℕ). keptAt x ofRules) q) ∙ kept-place o ofRules name
 
 -- where a rule is found a set is loaded
 pub set-of : (o : Option RuleSet) (rule i : ℕ) → ruleIn o rule ≡ some i → (set : RuleSet) × (o ≡ some set)
 set-of none rule i e = absurd (Option·none-ne-some i e)
 set-of (some set) rule i e = (set, refl)
 
--- last activations and cycle positions stand in the order of at most 64 rules
-module _ (v : Volatile) (s : Sound v) where
-  pub activations-few : length (meaning v .rest .lastActivation) ≤ 64
-  unfolding meaning
-  activations-few = simp (length-map, length-take) (omega (arith, s .rulesFit))
+-- what is read at that place is what the store keeps
+module _ (w : List ℕ) (s : Store) (e : read w ≡ some s) (k name : ℕ) (img : List ℕ) (i : ℕ) (x : Option ℕ) (n : name ≡ nameOf img i) where
+  pub activation-kept : x ≡ getD (changingIn w .activations) k none → getD (changingIn w .activations) k none ≡ kept (s .loaded) (take (ruleCount (s .loaded)) (changingIn w .activations)) name
+      → x ≡ activationOf img s i
+  activation-kept a h =
+      a ∙ h ∙ ap (kept (s .loaded) (take (ruleCount (s .loaded)) (changingIn w .activations))) n
+      ∙ ap (λ (v : Volatile). kept (s .loaded) (v .rest .lastActivation) (nameOf img i)) (volatile-read w s (from-read w s e))
 
-  pub positions-few : length (meaning v .rest .cyclePos) ≤ 64
-  unfolding meaning
-  positions-few = simp (length-map, length-take) (omega (arith, s .rulesFit))
+  pub position-kept : x ≡ getD (changingIn w .positions) k none → getD (changingIn w .positions) k none ≡ kept (s .loaded) (take (ruleCount (s .loaded)) (changingIn w .positions)) name
+      → x ≡ positionOf img s i
+  position-kept a h =
+      a ∙ h ∙ ap (kept (s .loaded) (take (ruleCount (s .loaded)) (changingIn w .positions))) n
+      ∙ ap (λ (v : Volatile). kept (s .loaded) (v .rest .cyclePos) (nameOf img i)) (volatile-read w s (from-read w s e))
 
-module _ (o : Option RuleSet) (v : Volatile) (k name : ℕ) (img : List ℕ) (i : ℕ) (x : Option ℕ) (e : name ≡ nameOf img i) where
-  pub activation-kept : x ≡ lastActivationAt (meaning v .rest) k → getD (meaning v .rest .lastActivation) k none ≡ kept o (meaning v .rest .lastActivation) name
-      → x ≡ kept o (meaning v .rest .lastActivation) (nameOf img i)
-  unfolding lastActivationAt
-  activation-kept a h = a ∙ h ∙ ap (kept o (meaning v .rest .lastActivation)) e
+-- the rows of 64 rules
+pub activations-all : (w : List ℕ) → length (changingIn w .activations) ≡ 64
+activations-all w = ap length (activations-at w) ∙ table-long (maybe wide) (maybe-laws wide-laws wide-blank) 64 w activationsPlace
 
-  pub position-kept : x ≡ cyclePosAt (meaning v .rest) k → getD (meaning v .rest .cyclePos) k none ≡ kept o (meaning v .rest .cyclePos) name
-      → x ≡ kept o (meaning v .rest .cyclePos) (nameOf img i)
-  unfolding cyclePosAt
-  position-kept a h = a ∙ h ∙ ap (kept o (meaning v .rest .cyclePos)) e
+pub positions-all : (w : List ℕ) → length (changingIn w .positions) ≡ 64
+positions-all w = ap length (positions-at w) ∙ table-long (maybe (word 15)) (maybe-laws (word-laws 15) (word-blank 15)) 64 w positionsPlace

@@ -11,9 +11,9 @@ use Rattle.model.specs.Parts.{loadedPart}
 use Rattle.model.specs.State.{Volatile, Store}
 use Rattle.model.specs.Store.{loadedOf, volatileIn, ruleCount, read, write, Keeps}
 use Rattle.model.proofs.StoreLaws.{write-read}
-use Rattle.store.specs.Places.{laid}
+use Rattle.rows.specs.Places.{laid}
 use Rattle.state.specs.Meaning.{AllNumbered}
-use Rattle.state.specs.declared.Volatile.{Volatile as Value}
+use Rattle.store.specs.Places.{setPlace}
 use Rattle.store.specs.Volatile.{Wrote, changingIn}
 use Rattle.store.proofs.Stored.{long, time-laid, set-laid, volatile-laid, from-read, volatile-read, ReadsAs}
 
@@ -38,20 +38,20 @@ said w p = go (read w) refl p
         record { store = s; is = e; written = r .written; keeps = r .keeps; reads = a; long = a .readable .long }
 
 -- the value that is read is the store's
-pub value-read : (w : List ℕ) (s : Store) → read w ≡ some s → (n : ℕ) (v : Value) → n ≡ ruleCount (s .loaded) → AllNumbered v (volatileIn n (changingIn w)) → AllNumbered v (s .vol)
+pub value-read : (w : List ℕ) (s : Store) → read w ≡ some s → (n : ℕ) (v : List ℕ) → n ≡ ruleCount (s .loaded) → AllNumbered v (volatileIn n (changingIn w)) → AllNumbered v (s .vol)
 value-read w s e n v q a =
     subst (λ (m : Volatile). AllNumbered v m) (ap (λ (k : ℕ). volatileIn k (changingIn w)) q ∙ volatile-read w s (from-read w s e)) a
 
 -- ALL THREE PARTS, AND TWO ----------------------------------------------------------------------------------------------------------------
 pub all-written : (s s′ : Store) (w w₁ w₂ w₃ : List ℕ) → Keeps s → Keeps s′ → write s ≡ w
-    → w₁ ≡ laid w 2 (loadedPart .put (loadedOf (s′ .loaded))) → Wrote w₁ (s′ .vol) w₂ → w₃ ≡ laid w₂ 0 (wide .put (s′ .now))
+    → w₁ ≡ laid w setPlace (loadedPart .put (loadedOf (s′ .loaded))) → Wrote w₁ (s′ .vol) w₂ → w₃ ≡ laid w₂ 0 (wide .put (s′ .now))
     → w₃ ≡ write s′
 all-written s s′ w w₁ w₂ w₃ k k′ e e₁ e₂ e₃ =
     let l = long s k in
     let l′ = long s′ k′ in
     let s₁ : Store = record { now = s .now; loaded = s′ .loaded; vol = s .vol } in
     let s₂ : Store = record { now = s .now; loaded = s′ .loaded; vol = s′ .vol } in
-    let a : w₁ ≡ write s₁ = e₁ ∙ ap (λ (x : List ℕ). laid x 2 (loadedPart .put (loadedOf (s′ .loaded)))) (sym e) ∙ set-laid s (s′ .loaded) (l .loaded) (l′ .loaded) in
+    let a : w₁ ≡ write s₁ = e₁ ∙ ap (λ (x : List ℕ). laid x setPlace (loadedPart .put (loadedOf (s′ .loaded)))) (sym e) ∙ set-laid s (s′ .loaded) (l .loaded) (l′ .loaded) in
     let b : w₂ ≡ write s₂ = volatile-laid s₁ (s′ .vol) w₂ (record { loaded = l′ .loaded; changing = l .changing }) (subst (λ (x : List ℕ). Wrote x (s′ .vol) w₂) a e₂) in
     e₃ ∙ ap (λ (x : List ℕ). laid x 0 (wide .put (s′ .now))) b ∙ time-laid s₂ (s′ .now)
 

@@ -4,7 +4,7 @@ use crate::stored;
 use activate::Handled;
 use activate::Mode;
 use image::rule::Found;
-use state::Volatile;
+use state::place::WORDS;
 use store::set::image_in;
 use store::set::is_loaded;
 ghost use mathlib.Core.Path.{_≡_};
@@ -20,6 +20,7 @@ ghost use Rattle.model.specs.World.{worldOf};
 ghost use Rattle.model.specs.Calls.{tick, run, ruleIn, runRule};
 ghost use Rattle.model.specs.OnWords.{callOn};
 ghost use Rattle.state.specs.Meaning.{Sound, AllNumbered, meaning};
+ghost use Rattle.activate.specs.Carried.{carried};
 ghost use Rattle.activate.specs.Handled.{Continues, Room, modeOf};
 ghost use Rattle.engine.specs.declared.Answer.the-variants.{Refused};
 ghost use Rattle.engine.specs.Seen.{seen};
@@ -41,10 +42,11 @@ fn commit(
     outcomes: &mut [u32],
     effects: &mut [u32],
     time: u64,
+    v: &mut [u32],
     x: Handled,
 ) -> Answer
-    requires { ⌜ (present (read (now store)) ≡ true) × Sound (x .vol) ⌝ }
-    ensures { λ r. ⌜ Commits x time (now (store .entry)) (now (outcomes .entry)) (now (effects .entry)) r (now (store .exit)) (now (outcomes .exit)) (now (effects .exit)) ⌝ }
+    requires { ⌜ (present (read (now store)) ≡ true) × Sound (now v) ⌝ }
+    ensures { λ r. ⌜ Commits (carried (now (v .entry)) x) time (now (store .entry)) (now (outcomes .entry)) (now (effects .entry)) r (now (store .exit)) (now (outcomes .exit)) (now (effects .exit)) ⌝ }
 {
     if outcomes.len() / activate::OUTCOME_WORDS < x.outcomes as usize {
         return refuse(outcomes, effects, 30);
@@ -52,12 +54,11 @@ fn commit(
     if effects.len() / lent_words::EFFECT_WORDS < x.effects as usize {
         return refuse(outcomes, effects, 30);
     }
-    let v = x.vol;
     if !state::sequence::next_fits(v) {
         return refuse(outcomes, effects, 31);
     }
-    let w = state::sequence::assign_numbers(v);
-    store::volatile::put_volatile(store, w);
+    state::sequence::assign_numbers(v);
+    store::volatile::put_state(store, v);
     store::set::put_last(store, time);
     Answer::Handled(x.outcomes, x.effects)
 }
@@ -72,9 +73,9 @@ fn mode_of(dry: bool) -> Mode
 }
 
 // A wet run asks whether the rule is enabled, a dry one does not.
-fn starts(v: Volatile, i: u32, dry: bool) -> bool
-    requires { ⌜ Sound v ⌝ }
-    ensures { λ r. ⌜ r ≡ (dry || isEnabled (meaning v .rest) i) ⌝ }
+fn starts(v: &[u32], i: u32, dry: bool) -> bool
+    requires { ⌜ Sound (now v) ⌝ }
+    ensures { λ r. ⌜ r ≡ (dry || isEnabled (meaning (now (v .entry)) .rest) i) ⌝ }
 {
     if dry {
         return true;
@@ -88,23 +89,19 @@ fn run_at(
     snapshot: &[u32],
     outcomes: &mut [u32],
     effects: &mut [u32],
+    v: &mut [u32],
     x: Handled,
     rule: u32,
     i: u32,
     dry: bool,
 ) -> Handled
     requires { ⌜ (present (read (now store)) ≡ true) × ((s : Store) → read (now store) ≡ some s → ruleIn (s .loaded) rule ≡ some i) ⌝ }
-    requires { ⌜ Room 1 x ⌝ }
-    ensures { λ r. ⌜ ((s : Store) (set : RuleSet) → read (now (store .entry)) ≡ some s → s .loaded ≡ some set → Continues x (now (outcomes .entry)) (now (effects .entry)) (runRule (record { world = worldOf (now (snapshot .entry)); set = set }) (some i) dry (meaning (x .vol))) r (now (outcomes .exit)) (now (effects .exit))) ⌝ }
+    requires { ⌜ Room 1 (carried (now v) x) ⌝ }
+    ensures { λ r. ⌜ ((s : Store) (set : RuleSet) → read (now (store .entry)) ≡ some s → s .loaded ≡ some set → Continues (carried (now (v .entry)) x) (now (outcomes .entry)) (now (effects .entry)) (runRule (record { world = worldOf (now (snapshot .entry)); set = set }) (some i) dry (meaning (now (v .entry)))) (carried (now (v .exit)) r) (now (outcomes .exit)) (now (effects .exit))) ⌝ }
 {
-    let v = x.vol;
     if !starts(v, i, dry) {
-        let w = state::bump(v, counters::SUPPRESSED_DISABLED, 1);
-        return Handled {
-            vol: w,
-            outcomes: x.outcomes,
-            effects: x.effects,
-        };
+        state::bump(v, counters::SUPPRESSED_DISABLED, 1);
+        return x;
     }
     let mode = mode_of(dry);
     let image = image_in(store);
@@ -117,6 +114,7 @@ fn run_at(
         own,
         outcomes,
         effects,
+        v,
         x,
         i,
         0,
@@ -131,21 +129,20 @@ fn run_rule(
     snapshot: &[u32],
     outcomes: &mut [u32],
     effects: &mut [u32],
-    v: Volatile,
+    v: &mut [u32],
     rule: u32,
     dry: bool,
 ) -> Handled
-    requires { ⌜ (present (read (now store)) ≡ true) × AllNumbered v (meaning v) ⌝ }
-    ensures { λ r. ⌜ ((s : Store) → read (now (store .entry)) ≡ some s → Continues (begun v) (now (outcomes .entry)) (now (effects .entry)) (ranIn (s .loaded) rule dry (now (snapshot .entry)) (meaning v)) r (now (outcomes .exit)) (now (effects .exit))) ⌝ }
+    requires { ⌜ (present (read (now store)) ≡ true) × AllNumbered (now v) (meaning (now v)) ⌝ }
+    ensures { λ r. ⌜ ((s : Store) → read (now (store .entry)) ≡ some s → Continues (begun (now (v .entry))) (now (outcomes .entry)) (now (effects .entry)) (ranIn (s .loaded) rule dry (now (snapshot .entry)) (meaning (now (v .entry)))) (carried (now (v .exit)) r) (now (outcomes .exit)) (now (effects .exit))) ⌝ }
 {
     let x = Handled {
-        vol: v,
         outcomes: 0,
         effects: 0,
     };
     match stored::rule_in(store, rule) {
         Found::Nothing => x,
-        Found::At(i) => run_at(store, snapshot, outcomes, effects, x, rule, i, dry),
+        Found::At(i) => run_at(store, snapshot, outcomes, effects, v, x, rule, i, dry),
     }
 }
 
@@ -162,9 +159,10 @@ pub fn run(
     ensures { λ r. ⌜ shown r (now (store .exit)) (now (outcomes .exit)) (now (effects .exit)) ≡ seen (callOn (run rule dry (now (snapshot .entry)) (length (now (outcomes .entry))) (length (now (effects .entry)))) (now (store .entry))) ⌝ }
 {
     let time = world::now_ms(snapshot);
-    let v = stored::volatile_in(store);
-    let x = run_rule(store, snapshot, outcomes, effects, v, rule, dry);
-    commit(store, outcomes, effects, time, x)
+    let mut v = [0u32; WORDS];
+    stored::begin(store, &mut v);
+    let x = run_rule(store, snapshot, outcomes, effects, &mut v, rule, dry);
+    commit(store, outcomes, effects, time, &mut v, x)
 }
 
 // `service_tick`: without a set nothing is due.
@@ -173,14 +171,13 @@ fn service(
     snapshot: &[u32],
     outcomes: &mut [u32],
     effects: &mut [u32],
-    v: Volatile,
+    v: &mut [u32],
 ) -> Handled
-    requires { ⌜ (present (read (now store)) ≡ true) × (snapshotRefusal (now snapshot) ≡ 0) × ((s : Store) → read (now store) ≡ some s → AllNumbered v (s .vol)) ⌝ }
-    ensures { λ r. ⌜ ((s : Store) → read (now (store .entry)) ≡ some s → Continues (begun v) (now (outcomes .entry)) (now (effects .entry)) (tickedIn (s .loaded) (now (snapshot .entry)) (meaning v)) r (now (outcomes .exit)) (now (effects .exit))) ⌝ }
+    requires { ⌜ (present (read (now store)) ≡ true) × (snapshotRefusal (now snapshot) ≡ 0) × ((s : Store) → read (now store) ≡ some s → AllNumbered (now v) (s .vol)) ⌝ }
+    ensures { λ r. ⌜ ((s : Store) → read (now (store .entry)) ≡ some s → Continues (begun (now (v .entry))) (now (outcomes .entry)) (now (effects .entry)) (tickedIn (s .loaded) (now (snapshot .entry)) (meaning (now (v .entry)))) (carried (now (v .exit)) r) (now (outcomes .exit)) (now (effects .exit))) ⌝ }
 {
     if !is_loaded(store) {
         return Handled {
-            vol: v,
             outcomes: 0,
             effects: 0,
         };
@@ -200,7 +197,8 @@ pub fn tick(
     ensures { λ r. ⌜ shown r (now (store .exit)) (now (outcomes .exit)) (now (effects .exit)) ≡ seen (callOn (tick (now (snapshot .entry)) (length (now (outcomes .entry))) (length (now (effects .entry)))) (now (store .entry))) ⌝ }
 {
     let time = world::now_ms(snapshot);
-    let v = stored::volatile_in(store);
-    let x = service(store, snapshot, outcomes, effects, v);
-    commit(store, outcomes, effects, time, x)
+    let mut v = [0u32; WORDS];
+    stored::begin(store, &mut v);
+    let x = service(store, snapshot, outcomes, effects, &mut v);
+    commit(store, outcomes, effects, time, &mut v, x)
 }

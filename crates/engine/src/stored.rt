@@ -2,22 +2,26 @@
 use crate::Answer;
 use crate::Counted;
 use image::rule::Found;
-use state::OptionU64;
-use state::Volatile;
+use rows::OptionU64;
+use rows::read;
+use state::place::WORDS;
 use store::set::image_in;
 use store::set::is_loaded;
+use store::table;
 ghost use mathlib.Core.Path.{_≡_};
 ghost use mathlib.Core.Bool.{true};
 ghost use mathlib.Core.List.{[]};
 ghost use mathlib.Core.Option.{some};
 ghost use Prim.Native.Nat.{_≤_};
+ghost use lib.ListN.{length};
 ghost use Rattle.model.specs.Lists.{present};
 ghost use Rattle.model.specs.State.{Store};
 ghost use Rattle.model.specs.Store.{read, ruleCount};
 ghost use Rattle.model.specs.Calls.{enable, deadline, counters, ruleIn};
 ghost use Rattle.model.specs.OnWords.{callOn};
 ghost use Rattle.image.specs.Found.{found};
-ghost use Rattle.state.specs.Meaning.{AllNumbered, option64};
+ghost use Rattle.state.specs.Meaning.{AllNumbered, stateWords};
+ghost use Rattle.rows.specs.Options.{option64};
 ghost use Rattle.engine.specs.Seen.{seen, refusalOf};
 ghost use Rattle.engine.specs.Answers.{shown, shownCounters, deadlineIs};
 
@@ -45,13 +49,13 @@ fn rule_count(store: &[u32]) -> usize
     image::layout::size_of(image_in(store), 0) as usize
 }
 
-// The parts that calls change.
-pub fn volatile_in(store: &[u32]) -> Volatile
-    requires { ⌜ present (read (now store)) ≡ true ⌝ }
-    ensures { λ r. ⌜ ((s : Store) → read (now (store .entry)) ≡ some s → AllNumbered r (s .vol)) ⌝ }
+// The parts that calls change, as the words of a state.
+pub fn begin(store: &[u32], v: &mut [u32])
+    requires { ⌜ (present (read (now store)) ≡ true) × (length (now v) ≡ stateWords) ⌝ }
+    ensures { λ _. ⌜ ((s : Store) → read (now (store .entry)) ≡ some s → AllNumbered (now (v .exit)) (s .vol)) ⌝ }
 {
     let rules = rule_count(store);
-    store::volatile::volatile_at(store, rules)
+    store::volatile::begin(store, rules, v);
 }
 
 // The rule of a name in the loaded set.
@@ -79,11 +83,12 @@ pub fn next_deadline(store: &[u32]) -> Answer
     requires { ⌜ present (read (now store)) ≡ true ⌝ }
     ensures { λ r. ⌜ shown r (now (store .entry)) [] [] ≡ seen (callOn deadline (now (store .entry))) ⌝ }
 {
-    let v = volatile_in(store);
+    let mut v = [0u32; WORDS];
+    begin(store, &mut v);
     let last = store::set::last_at(store);
     let loaded = is_loaded(store);
     let image = image_in(store);
-    let next = wheel::deadline::next_deadline(image, loaded, v, last);
+    let next = wheel::deadline::next_deadline(image, loaded, &v, last);
     deadline_answer(next)
 }
 
@@ -92,26 +97,25 @@ pub fn counters(store: &[u32]) -> Counted
     requires { ⌜ present (read (now store)) ≡ true ⌝ }
     ensures { λ r. ⌜ shownCounters r (now (store .entry)) ≡ seen (callOn counters (now (store .entry))) ⌝ }
 {
-    let v = volatile_in(store);
-    let c = v.counters;
+    let k = table::COUNTERS;
     let values = [
-        c.activations_total,
-        c.activations_dry,
-        c.suppressed_cooldown,
-        c.suppressed_disabled,
-        c.conditions_rejected,
-        c.partial_outcomes,
-        c.chain_depth_exceeded,
-        c.effects_emitted,
-        c.actions_failed,
-        c.continuations_scheduled,
-        c.continuations_fired,
-        c.continuations_dropped,
-        c.ticks_time_unsynced,
-        v.pending_count as u32,
-        v.timer_count as u32,
+        read::word_at(store, k),
+        read::word_at(store, k + 1),
+        read::word_at(store, k + 2),
+        read::word_at(store, k + 3),
+        read::word_at(store, k + 4),
+        read::word_at(store, k + 5),
+        read::word_at(store, k + 6),
+        read::word_at(store, k + 7),
+        read::word_at(store, k + 8),
+        read::word_at(store, k + 9),
+        read::word_at(store, k + 10),
+        read::word_at(store, k + 11),
+        read::word_at(store, k + 12),
+        read::word_at(store, table::PENDING),
+        read::word_at(store, table::TIMERS),
         rule_count(store) as u32,
-        v.var_count as u32,
+        read::word_at(store, table::VARIABLES),
     ];
     Counted { refusal: 0, values }
 }
@@ -124,9 +128,10 @@ pub fn enable(store: &mut [u32], rule: u32, on: bool) -> Answer
     match rule_in(store, rule) {
         Found::Nothing => Answer::Enabled(false),
         Found::At(i) => {
-            let v = volatile_in(store);
-            let w = state::rules::set_enabled(v, rule, i as usize, on);
-            store::volatile::put_volatile(store, w);
+            let mut v = [0u32; WORDS];
+            begin(store, &mut v);
+            state::rules::set_enabled(&mut v, rule, i as usize, on);
+            store::volatile::put_state(store, &v);
             Answer::Enabled(true)
         }
     }

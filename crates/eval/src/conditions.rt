@@ -17,7 +17,6 @@ use crate::world_conditions::lamp_level_is;
 use crate::world_conditions::sun_is;
 use crate::world_conditions::time_in_range;
 use model::Condition;
-use state::Volatile;
 ghost use mathlib.Core.Path.{_≡_};
 ghost use mathlib.Core.Bool.{true};
 ghost use Prim.Native.Nat.{_<_};
@@ -30,16 +29,11 @@ ghost use Rattle.eval.specs.Dispatch.{pastGroups, pastDevices};
 ghost use Rattle.eval.specs.Equals.{Evaluates, ConditionAt, RuleHolds};
 
 // Kinds 11 on: rules, timers, the controller, variables.
-fn eval_state_condition(
-    snapshot: &[u32],
-    image: &[u32],
-    v: Volatile,
-    condition: Condition,
-) -> Verdict
+fn eval_state_condition(snapshot: &[u32], image: &[u32], v: &[u32], condition: Condition) -> Verdict
     requires { ⌜ Sized (now image) ⌝ }
-    requires { ⌜ Sound v ⌝ }
+    requires { ⌜ Sound (now v) ⌝ }
     requires { ⌜ pastDevices condition ≡ true ⌝ }
-    ensures { λ r. ⌜ Evaluates (now (snapshot .entry)) (now (image .entry)) (meaning v .rest) condition r ⌝ }
+    ensures { λ r. ⌜ Evaluates (now (snapshot .entry)) (now (image .entry)) (meaning (now (v .entry)) .rest) condition r ⌝ }
 {
     match condition {
         Condition::RuleEnabled { rule } => rule_enabled(image, v, rule),
@@ -66,13 +60,13 @@ fn eval_state_condition(
 fn eval_device_condition(
     snapshot: &[u32],
     image: &[u32],
-    v: Volatile,
+    v: &[u32],
     condition: Condition,
 ) -> Verdict
     requires { ⌜ Sized (now image) ⌝ }
-    requires { ⌜ Sound v ⌝ }
+    requires { ⌜ Sound (now v) ⌝ }
     requires { ⌜ pastGroups condition ≡ true ⌝ }
-    ensures { λ r. ⌜ Evaluates (now (snapshot .entry)) (now (image .entry)) (meaning v .rest) condition r ⌝ }
+    ensures { λ r. ⌜ Evaluates (now (snapshot .entry)) (now (image .entry)) (meaning (now (v .entry)) .rest) condition r ⌝ }
 {
     match condition {
         Condition::InputOccupancy {
@@ -104,10 +98,10 @@ fn eval_device_condition(
 }
 
 // Kinds 0 on: first times, lamps and groups.
-pub fn eval_condition(snapshot: &[u32], image: &[u32], v: Volatile, condition: Condition) -> Verdict
+pub fn eval_condition(snapshot: &[u32], image: &[u32], v: &[u32], condition: Condition) -> Verdict
     requires { ⌜ Sized (now image) ⌝ }
-    requires { ⌜ Sound v ⌝ }
-    ensures { λ r. ⌜ Evaluates (now (snapshot .entry)) (now (image .entry)) (meaning v .rest) condition r ⌝ }
+    requires { ⌜ Sound (now v) ⌝ }
+    ensures { λ r. ⌜ Evaluates (now (snapshot .entry)) (now (image .entry)) (meaning (now (v .entry)) .rest) condition r ⌝ }
 {
     match condition {
         Condition::TimeInRange { start, end } => time_in_range(snapshot, image, start, end),
@@ -132,21 +126,21 @@ pub fn eval_condition(snapshot: &[u32], image: &[u32], v: Volatile, condition: C
 }
 
 // Condition i of the image.
-pub fn condition_at(snapshot: &[u32], image: &[u32], v: Volatile, i: u32) -> Verdict
+pub fn condition_at(snapshot: &[u32], image: &[u32], v: &[u32], i: u32) -> Verdict
     requires { ⌜ Sized (now image) ⌝ }
-    requires { ⌜ Sound v ⌝ }
-    ensures { λ r. ⌜ ConditionAt (now (snapshot .entry)) (now (image .entry)) (meaning v .rest) i r ⌝ }
+    requires { ⌜ Sound (now v) ⌝ }
+    ensures { λ r. ⌜ ConditionAt (now (snapshot .entry)) (now (image .entry)) (meaning (now (v .entry)) .rest) i r ⌝ }
 {
     let condition = image::record::condition_of(image::record::record_at(image, 3, i));
     eval_condition(snapshot, image, v, condition)
 }
 
 // The conditions of a rule: the first that does not hold decides.
-pub fn conditions_hold(snapshot: &[u32], image: &[u32], v: Volatile, rule: u32) -> Verdict
+pub fn conditions_hold(snapshot: &[u32], image: &[u32], v: &[u32], rule: u32) -> Verdict
     requires { ⌜ Accepted (now image) ⌝ }
-    requires { ⌜ Sound v ⌝ }
+    requires { ⌜ Sound (now v) ⌝ }
     requires { ⌜ rule < sizeOf (now image) rules ⌝ }
-    ensures { λ r. ⌜ RuleHolds (now (snapshot .entry)) (now (image .entry)) (meaning v .rest) rule r ⌝ }
+    ensures { λ r. ⌜ RuleHolds (now (snapshot .entry)) (now (image .entry)) (meaning (now (v .entry)) .rest) rule r ⌝ }
 {
     let n = image::rule::condition_count(image, rule);
     let mut k = 0;

@@ -7,8 +7,7 @@ use crate::compare::verdict;
 use crate::values::value_at;
 use image::rule::Found;
 use model::VarValue;
-use state::OptionU64;
-use state::Volatile;
+use rows::OptionU64;
 use state::variables::VarFound;
 ghost use mathlib.Core.Path.{_≡_};
 ghost use mathlib.Core.Option.{some};
@@ -16,15 +15,16 @@ ghost use Rattle.model.specs.World.{isOne};
 ghost use Rattle.model.specs.declared.Condition.the-variants as condition;
 ghost use Rattle.model.specs.declared.VarValue.the-variants.{Int, Text};
 ghost use Rattle.image.specs.Sized.{Sized};
-ghost use Rattle.state.specs.Meaning.{Sound, meaning, option64};
+ghost use Rattle.state.specs.Meaning.{Sound, meaning};
+ghost use Rattle.rows.specs.Options.{option64};
 ghost use Rattle.eval.specs.Answers.{textCompared};
 ghost use Rattle.eval.specs.Equals.{Evaluates, EvaluatesIn, EvaluatesKept, ComparesVar, IsOlder};
 
 // False for a rule that is not loaded.
-pub fn rule_enabled(image: &[u32], v: Volatile, rule: u32) -> Verdict
+pub fn rule_enabled(image: &[u32], v: &[u32], rule: u32) -> Verdict
     requires { ⌜ Sized (now image) ⌝ }
-    requires { ⌜ Sound v ⌝ }
-    ensures { λ r. ⌜ EvaluatesIn (now (image .entry)) (meaning v .rest) (condition.RuleEnabled rule) r ⌝ }
+    requires { ⌜ Sound (now v) ⌝ }
+    ensures { λ r. ⌜ EvaluatesIn (now (image .entry)) (meaning (now (v .entry)) .rest) (condition.RuleEnabled rule) r ⌝ }
 {
     match image::rule::rule_named(image, rule) {
         Found::At(i) => verdict(state::rules::is_enabled(v, i as usize)),
@@ -47,13 +47,13 @@ fn older_than(snapshot: &[u32], ms: u32, last: OptionU64) -> bool
 pub fn last_fired_older_than(
     snapshot: &[u32],
     image: &[u32],
-    v: Volatile,
+    v: &[u32],
     rule: u32,
     ms: u32,
 ) -> Verdict
     requires { ⌜ Sized (now image) ⌝ }
-    requires { ⌜ Sound v ⌝ }
-    ensures { λ r. ⌜ Evaluates (now (snapshot .entry)) (now (image .entry)) (meaning v .rest) (condition.LastFiredOlderThan rule ms) r ⌝ }
+    requires { ⌜ Sound (now v) ⌝ }
+    ensures { λ r. ⌜ Evaluates (now (snapshot .entry)) (now (image .entry)) (meaning (now (v .entry)) .rest) (condition.LastFiredOlderThan rule ms) r ⌝ }
 {
     match image::rule::rule_named(image, rule) {
         Found::At(i) => {
@@ -64,9 +64,9 @@ pub fn last_fired_older_than(
     }
 }
 
-pub fn timer_running(v: Volatile, timer: u32) -> Verdict
-    requires { ⌜ Sound v ⌝ }
-    ensures { λ r. ⌜ EvaluatesKept (meaning v .rest) (condition.TimerRunning timer) r ⌝ }
+pub fn timer_running(v: &[u32], timer: u32) -> Verdict
+    requires { ⌜ Sound (now v) ⌝ }
+    ensures { λ r. ⌜ EvaluatesKept (meaning (now (v .entry)) .rest) (condition.TimerRunning timer) r ⌝ }
 {
     verdict(state::timers::has_timer(v, timer))
 }
@@ -75,15 +75,15 @@ pub fn timer_running(v: Volatile, timer: u32) -> Verdict
 fn compare_int(
     snapshot: &[u32],
     image: &[u32],
-    v: Volatile,
+    v: &[u32],
     n: u64,
     cmp: u32,
     tag: u32,
     operand: u32,
 ) -> Verdict
     requires { ⌜ Sized (now image) ⌝ }
-    requires { ⌜ Sound v ⌝ }
-    ensures { λ r. ⌜ ComparesVar (now (snapshot .entry)) (now (image .entry)) (meaning v .rest) (some (Int n)) cmp tag operand r ⌝ }
+    requires { ⌜ Sound (now v) ⌝ }
+    ensures { λ r. ⌜ ComparesVar (now (snapshot .entry)) (now (image .entry)) (meaning (now (v .entry)) .rest) (some (Int n)) cmp tag operand r ⌝ }
 {
     if tag == 1 {
         return verdict(cmp == 1);
@@ -106,15 +106,15 @@ fn compare_texts(text: u32, cmp: u32, tag: u32, operand: u32) -> bool
 pub fn compare_var(
     snapshot: &[u32],
     image: &[u32],
-    v: Volatile,
+    v: &[u32],
     name: u32,
     cmp: u32,
     tag: u32,
     operand: u32,
 ) -> Verdict
     requires { ⌜ Sized (now image) ⌝ }
-    requires { ⌜ Sound v ⌝ }
-    ensures { λ r. ⌜ Evaluates (now (snapshot .entry)) (now (image .entry)) (meaning v .rest) (condition.VarCompare name cmp tag operand) r ⌝ }
+    requires { ⌜ Sound (now v) ⌝ }
+    ensures { λ r. ⌜ Evaluates (now (snapshot .entry)) (now (image .entry)) (meaning (now (v .entry)) .rest) (condition.VarCompare name cmp tag operand) r ⌝ }
 {
     match state::variables::variable(v, name) {
         VarFound::Found(x) => match x {

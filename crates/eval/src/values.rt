@@ -5,7 +5,6 @@ use crate::time;
 use model::Reading;
 use model::Value;
 use model::VarValue;
-use state::Volatile;
 use state::variables::VarFound;
 ghost use mathlib.Core.Path.{_≡_};
 ghost use Rattle.model.specs.Eval.{asInt};
@@ -16,9 +15,9 @@ ghost use Rattle.eval.specs.Answers.{numberOf, offsetBy};
 ghost use Rattle.eval.specs.Equals.{ReadsIn, ValueIn, ValueAt};
 
 // What an integer variable holds.
-fn variable(v: Volatile, name: u32) -> Number
-    requires { ⌜ Sound v ⌝ }
-    ensures { λ r. ⌜ numberOf r ≡ asInt (varNamed (meaning v .rest) name) ⌝ }
+fn variable(v: &[u32], name: u32) -> Number
+    requires { ⌜ Sound (now v) ⌝ }
+    ensures { λ r. ⌜ numberOf r ≡ asInt (varNamed (meaning (now (v .entry)) .rest) name) ⌝ }
 {
     match state::variables::variable(v, name) {
         VarFound::Found(x) => match x {
@@ -29,9 +28,9 @@ fn variable(v: Volatile, name: u32) -> Number
     }
 }
 
-pub fn eval_reading(snapshot: &[u32], v: Volatile, reading: Reading) -> Number
-    requires { ⌜ Sound v ⌝ }
-    ensures { λ r. ⌜ ReadsIn (now (snapshot .entry)) (meaning v .rest) reading r ⌝ }
+pub fn eval_reading(snapshot: &[u32], v: &[u32], reading: Reading) -> Number
+    requires { ⌜ Sound (now v) ⌝ }
+    ensures { λ r. ⌜ ReadsIn (now (snapshot .entry)) (meaning (now (v .entry)) .rest) reading r ⌝ }
 {
     match reading {
         Reading::LampLevel(a, i) => readings::lamp_level(snapshot, a, i),
@@ -70,9 +69,9 @@ fn offset(x: Number, delta: u32) -> Number
     }
 }
 
-pub fn eval_value(snapshot: &[u32], v: Volatile, value: Value) -> Number
-    requires { ⌜ Sound v ⌝ }
-    ensures { λ r. ⌜ ValueIn (now (snapshot .entry)) (meaning v .rest) value r ⌝ }
+pub fn eval_value(snapshot: &[u32], v: &[u32], value: Value) -> Number
+    requires { ⌜ Sound (now v) ⌝ }
+    ensures { λ r. ⌜ ValueIn (now (snapshot .entry)) (meaning (now (v .entry)) .rest) value r ⌝ }
 {
     match value {
         Value::Literal { low, high } => Number::Value(words::join_signed(low, high)),
@@ -83,10 +82,10 @@ pub fn eval_value(snapshot: &[u32], v: Volatile, value: Value) -> Number
 }
 
 // Value i of the image.
-pub fn value_at(snapshot: &[u32], image: &[u32], v: Volatile, i: u32) -> Number
+pub fn value_at(snapshot: &[u32], image: &[u32], v: &[u32], i: u32) -> Number
     requires { ⌜ Sized (now image) ⌝ }
-    requires { ⌜ Sound v ⌝ }
-    ensures { λ r. ⌜ ValueAt (now (snapshot .entry)) (now (image .entry)) (meaning v .rest) i r ⌝ }
+    requires { ⌜ Sound (now v) ⌝ }
+    ensures { λ r. ⌜ ValueAt (now (snapshot .entry)) (now (image .entry)) (meaning (now (v .entry)) .rest) i r ⌝ }
 {
     let value = image::record::value_of(image::record::record_at(image, 5, i));
     eval_value(snapshot, v, value)

@@ -14,7 +14,6 @@ use crate::time::bound_at;
 use crate::time::has_day;
 use crate::time::sun_is_up;
 use crate::values::value_at;
-use state::Volatile;
 use world::MaybeDevice;
 use world::MaybeGroup;
 use world::MaybeHclTarget;
@@ -75,14 +74,14 @@ pub fn lamp_is(snapshot: &[u32], adapter: u32, id: u32, on: u32) -> Verdict
 fn level_is(
     snapshot: &[u32],
     image: &[u32],
-    v: Volatile,
+    v: &[u32],
     cmp: u32,
     level: MaybeWord,
     value: u32,
 ) -> Verdict
     requires { ⌜ Sized (now image) ⌝ }
-    requires { ⌜ Sound v ⌝ }
-    ensures { λ r. ⌜ LevelIs (now (snapshot .entry)) (now (image .entry)) (meaning v .rest) cmp (wordOption level) value r ⌝ }
+    requires { ⌜ Sound (now v) ⌝ }
+    ensures { λ r. ⌜ LevelIs (now (snapshot .entry)) (now (image .entry)) (meaning (now (v .entry)) .rest) cmp (wordOption level) value r ⌝ }
 {
     match level {
         MaybeWord::Known(n) => compared(cmp, from_word(n), value_at(snapshot, image, v, value)),
@@ -93,15 +92,15 @@ fn level_is(
 pub fn lamp_level_is(
     snapshot: &[u32],
     image: &[u32],
-    v: Volatile,
+    v: &[u32],
     adapter: u32,
     id: u32,
     cmp: u32,
     value: u32,
 ) -> Verdict
     requires { ⌜ Sized (now image) ⌝ }
-    requires { ⌜ Sound v ⌝ }
-    ensures { λ r. ⌜ Evaluates (now (snapshot .entry)) (now (image .entry)) (meaning v .rest) (condition.LampLevel adapter id cmp value) r ⌝ }
+    requires { ⌜ Sound (now v) ⌝ }
+    ensures { λ r. ⌜ Evaluates (now (snapshot .entry)) (now (image .entry)) (meaning (now (v .entry)) .rest) (condition.LampLevel adapter id cmp value) r ⌝ }
 {
     match world::lamp(snapshot, adapter, id) {
         MaybeLamp::Known(l) => {
@@ -115,15 +114,15 @@ pub fn lamp_level_is(
 pub fn lamp_cct_is(
     snapshot: &[u32],
     image: &[u32],
-    v: Volatile,
+    v: &[u32],
     adapter: u32,
     id: u32,
     cmp: u32,
     value: u32,
 ) -> Verdict
     requires { ⌜ Sized (now image) ⌝ }
-    requires { ⌜ Sound v ⌝ }
-    ensures { λ r. ⌜ Evaluates (now (snapshot .entry)) (now (image .entry)) (meaning v .rest) (condition.LampCct adapter id cmp value) r ⌝ }
+    requires { ⌜ Sound (now v) ⌝ }
+    ensures { λ r. ⌜ Evaluates (now (snapshot .entry)) (now (image .entry)) (meaning (now (v .entry)) .rest) (condition.LampCct adapter id cmp value) r ⌝ }
 {
     let left = lamp_cct(snapshot, adapter, id);
     compared(cmp, left, value_at(snapshot, image, v, value))
@@ -171,7 +170,7 @@ fn light_is(above: u32, left: Number, right: Number) -> Verdict
 pub fn input_light_is(
     snapshot: &[u32],
     image: &[u32],
-    v: Volatile,
+    v: &[u32],
     adapter: u32,
     address: u32,
     instance: u32,
@@ -179,8 +178,8 @@ pub fn input_light_is(
     threshold: u32,
 ) -> Verdict
     requires { ⌜ Sized (now image) ⌝ }
-    requires { ⌜ Sound v ⌝ }
-    ensures { λ r. ⌜ Evaluates (now (snapshot .entry)) (now (image .entry)) (meaning v .rest) (condition.InputLight adapter address instance above threshold) r ⌝ }
+    requires { ⌜ Sound (now v) ⌝ }
+    ensures { λ r. ⌜ Evaluates (now (snapshot .entry)) (now (image .entry)) (meaning (now (v .entry)) .rest) (condition.InputLight adapter address instance above threshold) r ⌝ }
 {
     let left = input_light(snapshot, adapter, address, instance);
     light_is(above, left, value_at(snapshot, image, v, threshold))

@@ -3,6 +3,7 @@ use Prim.Native.Nat.{ℕ, suc, _+_, _≤_}
 use native.Mathlib.Omega.{arith}
 use mathlib.Core.Path.{_≡_, refl, ap, _∙_}
 use mathlib.Core.Bool.{Bool, true, false, cond}
+use mathlib.Core.List.{List}
 use mathlib.Core.Option.{Option, none, some}
 use lib.Dec.{eqb}
 use Rattle.model.specs.Actions as actions
@@ -16,10 +17,11 @@ use Rattle.model.specs.declared.Jump.the-variants.{NoJump, JumpFrom}
 use Rattle.model.specs.declared.Point.{Point}
 use Rattle.model.specs.declared.Step.{Step}
 use Rattle.model.specs.declared.Step.the-variants.{Primitive, Wait, Branch, After, Fail}
-use Rattle.state.specs.Meaning.{meaning}
-use Rattle.state.specs.declared.Volatile as state
+use Rattle.state.specs.Meaning as state
+use Rattle.state.specs.Meaning.{meaning, base}
+use Rattle.state.proofs.Follows.{next-is, accepted-by-next}
 use Rattle.exec.specs.Paid as paid
-use Rattle.exec.specs.declared.StepResult as code
+use Rattle.exec.specs.Done.{StepDone}
 
 -- ---- numbers
 after-next : (o : Option ℕ) (a : actions.PrimResult) (to : Point) (v : Volatile) → afterPrim o a to v .vol .next ≡ v .next
@@ -50,14 +52,9 @@ next-grows e j b sp (After ms) v = schedule-next e j b ms (point (suc (sp .place
 next-grows e j b sp Fail v = omega (arith, after-next none (actions.fails (v .rest)) (advance sp 0) v)
 
 pub accepts-one :
-    (e : Env) (j : actions.Job) (b : ℕ) (sp : Point) (x : Step) (v : state.Volatile) (d : code.StepResult) → paid.Steps v d (exec e j b sp x (meaning v))
-    → d .vol .accepted ≤ suc (v .accepted)
-unfolding meaning
-accepts-one e j b sp x v d s =
-    let g = next-grows e j b sp x (meaning v) in
-    let n = ap (λ (m : Volatile). m .next) (s .state .says) in
-    let f = s .state .based in
-    omega (arith, g, n, f)
+    (e : Env) (j : actions.Job) (b : ℕ) (sp : Point) (x : Step) (v : List ℕ) (d : StepDone) → paid.Steps v d (exec e j b sp x (meaning v))
+    → state.accepted (d .vol) ≤ suc (state.accepted v)
+accepts-one e j b sp x v d s = omega (arith, next-grows e j b sp x (meaning v), next-is v, accepted-by-next (d .vol) (base v) _ (s .state))
 
 -- ---- places
 arrive-list : (n p : ℕ) (j : Jump) → arrive n p j .list ≡ n
@@ -92,6 +89,6 @@ same-list e j b sp (After ms) v = advance-list sp 0
 same-list e j b sp Fail v = after-list none (actions.fails (v .rest)) (advance sp 0) sp v (advance-list sp 0)
 
 pub keeps-list :
-    (e : Env) (j : actions.Job) (b : ℕ) (sp : Point) (x : Step) (v : state.Volatile) (d : code.StepResult) → paid.Steps v d (exec e j b sp x (meaning v))
+    (e : Env) (j : actions.Job) (b : ℕ) (sp : Point) (x : Step) (v : List ℕ) (d : StepDone) → paid.Steps v d (exec e j b sp x (meaning v))
     → orElse sp (paid.nextOption (d .next)) .list ≡ sp .list
 keeps-list e j b sp x v d s = ap (λ (o : Option Point). orElse sp o .list) (s .next) ∙ same-list e j b sp x (meaning v)

@@ -20,8 +20,7 @@ use Rattle.model.specs.declared.Point.{Point}
 use Rattle.model.specs.declared.Step.{Step}
 use Rattle.model.specs.declared.Step.the-variants.{Primitive, Wait, Branch, After, Fail}
 use Rattle.flat.specs.Words.{Says}
-use Rattle.state.specs.Meaning.{Sound, meaning}
-use Rattle.state.specs.declared.Volatile.{Volatile}
+use Rattle.state.specs.Meaning.{Sound, meaning, base}
 use Rattle.eval.specs.Answers.{envOf}
 use Rattle.exec.specs.Results.{effectOption, jobOf}
 use Rattle.lent_words.specs.PutEffects.{putEffects}
@@ -29,12 +28,10 @@ use Rattle.exec.specs.Lists.{stepOption, stepIn}
 use Rattle.exec.specs.Runs.{Finished, finished}
 use Rattle.exec.specs.DryRuns.{bodiesOf, queuedBy, SameRun, Queues, Moved, DrySteps, DryTaken, DryMachine, dryMachine, finishDry, leftDry, DryTurned, DryFinishes, RunsDry}
 use Rattle.exec.specs.declared.Job.{Job}
-use Rattle.exec.specs.declared.RunResult.{RunResult}
-use Rattle.exec.specs.declared.StepResult.{StepResult}
+use Rattle.exec.specs.Done.{DryRunNow, RunDone, StepDone}
 use Rattle.lent_words.proofs.Written.{put-append}
 use Rattle.exec.proofs.Going.{few, reason-none, reason-assoc}
 use Rattle.exec.proofs.DryQueue.{is-step}
-use Rattle.exec.specs.declared.DryRun.{DryRun}
 use Rattle.exec.specs.declared.MaybeStep.{MaybeStep}
 use Rattle.exec.specs.declared.MaybeStep.the-variants.{Nothing, One}
 
@@ -81,13 +78,13 @@ unfolding leftDry finishDry
 ended-anywhere e j b m n v r c w = rw (v, r, c, w)
 
 -- ---- the code's turn
-take-moved : (e : Env) (j : actions.Job) (b : ℕ) (x : Step) (run r : DryRun) (words : List ℕ) → SameRun run r
+take-moved : (e : Env) (j : actions.Job) (b : ℕ) (x : Step) (run r : DryRunNow) (words : List ℕ) → SameRun run r
     → leftDry false b e j (takeDry (dryStep e j x (r .point) (bodiesOf r) (meaning (r .vol) .rest)) (dryMachine r words)) ≡ leftDry false b e j (takeDry (dryStep e j x (r .point) (bodiesOf r) (meaning (run .vol) .rest)) (dryMachine run words))
 unfolding takeDry
 take-moved e j b x run r words m = rw (m .vol, m .reason, m .count)
 
 taken-is :
-    (run q r : DryRun) (x : Step) (words exit : List ℕ) (d : StepResult) (y : DryStepResult) → Queues run x q → DryTaken q words d r exit → DrySteps (run .vol) d y → y .bodies ≡ queuedBy x (run .point) (bodiesOf run)
+    (run q r : DryRunNow) (x : Step) (words exit : List ℕ) (d : StepDone) (y : DryStepResult) → Queues run x q → DryTaken q words d r exit → DrySteps (run .vol) d y → y .bodies ≡ queuedBy x (run .point) (bodiesOf run)
     → dryMachine r exit ≡ takeDry y (dryMachine run words)
 unfolding takeDry
 taken-is run q r x words exit d y k t s z =
@@ -99,7 +96,7 @@ taken-is run q r x words exit d y k t s z =
     let w : exit ≡ putEffects words (run .count) (toList (y .effect)) = t .written ∙ ap (λ (i : ℕ). putEffects words i (toList (effectOption (d .effect)))) (k .same .count) ∙ ap (λ (o : Option Effect). putEffects words (run .count) (toList o)) (s .effect) in
     rw (v, s .state .says, n, b, a, c, w)
 
-module _ (snapshot image part : List ℕ) (own : ℕ) (job : Job) (run r : DryRun) (words : List ℕ) (m : MaybeStep) (moved : Moved part own run r) (at : stepOption m ≡ stepIn part own (r .point)) where
+module _ (snapshot image part : List ℕ) (own : ℕ) (job : Job) (run r : DryRunNow) (words : List ℕ) (m : MaybeStep) (moved : Moved part own run r) (at : stepOption m ≡ stepIn part own (r .point)) where
   here : (flat : List (List FlatStep)) → Says part own (getD flat (job .index) []) → stepOption m ≡ stepAt (envOf snapshot image flat .set) (job .index) (r .point)
   here flat e = at ∙ is-step part own (r .point) (envOf snapshot image flat) (jobOf job) e
 
@@ -115,14 +112,14 @@ module _ (snapshot image part : List ℕ) (own : ℕ) (job : Job) (run r : DryRu
             ended-anywhere E (jobOf job) b (dryMachine run words) _ (ap meaning (moved .same .vol)) (moved .same .reason) (moved .same .count) refl
             ∙ turn-none E (jobOf job) b (dryMachine run words) none-left;
         sound = subst Sound (sym (moved .same .vol)) s;
-        based = ap (λ (v : Volatile). v .«next_seq») (moved .same .vol);
+        based = ap (λ (v : List ℕ). base v) (moved .same .vol);
         count = omega (arith, moved .same .count);
         fits = moved .fits;
         most = omega (arith, moved .most);
       }
 
   pub turn-steps-dry :
-      (x : Step) (d : StepResult) (q f : DryRun) (exit : List ℕ) → m ≡ One x
+      (x : Step) (d : StepDone) (q f : DryRunNow) (exit : List ℕ) → m ≡ One x
       → ((flat : List (List FlatStep)) (qs : List Point) → DrySteps (r .vol) d (dryStep (envOf snapshot image flat) (jobOf job) x (r .point) qs (meaning (r .vol) .rest)))
       → Queues r x q → DryTaken q words d f exit → DryTurned snapshot image part own job run words f exit
   turn-steps-dry x d q f exit n s k t =
@@ -138,7 +135,7 @@ module _ (snapshot image part : List ℕ) (own : ℕ) (job : Job) (run r : DryRu
             ∙ moved-machine E b next
             ∙ turn-some E (jobOf job) b (dryMachine run words) x (r .point) (bodiesOf r) next;
         sound = subst Sound (sym (t .vol)) (s [] [] .state .sound);
-        based = ap (λ (v : Volatile). v .«next_seq») (t .vol) ∙ s [] [] .state .based ∙ ap (λ (v : Volatile). v .«next_seq») (moved .same .vol);
+        based = ap (λ (v : List ℕ). base v) (t .vol) ∙ s [] [] .state .based ∙ ap (λ (v : List ℕ). base v) (moved .same .vol);
         count = omega (arith, t .count, k .same .count, moved .same .count, few (effectOption (d .effect)));
         fits = omega (arith, t .first, t .queued, k .fits);
         most = omega (arith, t .queued, k .most, moved .most);
@@ -166,7 +163,7 @@ unpaid-some : (o : Option Step) (p : Point) (qs : List Point) → true ≡ prese
 unpaid-some none p qs h = cc
 unpaid-some (some x) p qs h = refl
 
-module _ (part : List ℕ) (own : ℕ) (run : DryRun) (r : RunResult) (same : r .vol ≡ run .vol) (counted : r .count ≡ run .count) where
+module _ (part : List ℕ) (own : ℕ) (run : DryRunNow) (r : RunDone) (same : r .vol ≡ run .vol) (counted : r .count ≡ run .count) where
   pub finish-ended-dry : run .ended ≡ true → r .reason ≡ run .reason → DryFinishes part own run r
   finish-ended-dry h q =
       record {
@@ -175,7 +172,7 @@ module _ (part : List ℕ) (own : ℕ) (run : DryRun) (r : RunResult) (same : r 
         counted = counted;
       }
 
-  module _ (q : DryRun) (moved : Moved part own run q) (goes : run .ended ≡ false) where
+  module _ (q : DryRunNow) (moved : Moved part own run q) (goes : run .ended ≡ false) where
     unpaid-is : ((e : Env) (j : actions.Job) → Says part own (getD (e .set .flat) (j .index) []) → r .reason ≡ firstReason (run .reason) (unpaidDry (nextStep e j (run .point) (bodiesOf run)))) → DryFinishes part own run r
     unpaid-is k =
         record {
@@ -204,22 +201,22 @@ module _ (part : List ℕ) (own : ℕ) (run : DryRun) (r : RunResult) (same : r 
         (sym (ap unpaidDry (moved .says e j l) ∙ unpaid-none (stepAt (e .set) (j .index) (q .point)) (q .point) (bodiesOf q) (h ∙ ap present (is-step part own (q .point) e j l)))))
 
 -- ---- the loop
-pub record GoingDry (snapshot image part : List ℕ) (own : ℕ) (job : Job) (budget : ℕ) (run₀ : DryRun) (w₀ : List ℕ) (run : DryRun) (w : List ℕ) (left : ℕ) : Type 0 where
+pub record GoingDry (snapshot image part : List ℕ) (own : ℕ) (job : Job) (budget : ℕ) (run₀ : DryRunNow) (w₀ : List ℕ) (run : DryRunNow) (w : List ℕ) (left : ℕ) : Type 0 where
   pub says :
       (flat : List (List FlatStep)) → Says part own (getD flat (job .index) [])
       → leftDry (run .ended) left (envOf snapshot image flat) (jobOf job) (dryMachine run w) ≡ leftDry false budget (envOf snapshot image flat) (jobOf job) (dryMachine run₀ w₀)
   pub sound : Sound (run .vol)
-  pub based : run .vol .«next_seq» ≡ run₀ .vol .«next_seq»
+  pub based : base (run .vol) ≡ base (run₀ .vol)
   pub counts : run .count + left ≤ run₀ .count + budget
   pub fits : run .first ≤ run .queued
   pub queue : run .queued + left ≤ 256
   pub long : length w ≡ length w₀
 
 module _
-    (snapshot image part : List ℕ) (own : ℕ) (job : Job) (budget : ℕ) (run₀ : DryRun) (w₀ : List ℕ) (run : DryRun) (w : List ℕ) (left : ℕ)
+    (snapshot image part : List ℕ) (own : ℕ) (job : Job) (budget : ℕ) (run₀ : DryRunNow) (w₀ : List ℕ) (run : DryRunNow) (w : List ℕ) (left : ℕ)
     (inv : GoingDry snapshot image part own job budget run₀ w₀ run w left)
   where
-    pub again-dry : (r : DryRun) (exit : List ℕ) → 0 < left → run .ended ≡ false → length exit ≡ length w → DryTurned snapshot image part own job run w r exit → GoingDry snapshot image part own job budget run₀ w₀ r exit (left - 1)
+    pub again-dry : (r : DryRunNow) (exit : List ℕ) → 0 < left → run .ended ≡ false → length exit ≡ length w → DryTurned snapshot image part own job run w r exit → GoingDry snapshot image part own job budget run₀ w₀ r exit (left - 1)
     again-dry r exit h n l t =
         record {
           says = λ flat e.
@@ -239,7 +236,7 @@ module _
         one = omega arith
 
     module _
-        (r : RunResult) (fresh : run₀ .reason ≡ 0) (f : DryFinishes part own run r)
+        (r : RunDone) (fresh : run₀ .reason ≡ 0) (f : DryFinishes part own run r)
         (spent : (e : Env) (m : DryMachine) → leftDry (run .ended) 0 e (jobOf job) m ≡ leftDry (run .ended) left e (jobOf job) m)
       where
         whole : (flat : List (List FlatStep)) → Says part own (getD flat (job .index) []) → finished r w ≡ leftDry false budget (envOf snapshot image flat) (jobOf job) (dryMachine run₀ w₀)
@@ -248,8 +245,8 @@ module _
         stays-sound : Sound (r .vol)
         stays-sound = subst Sound (sym (f .same)) (inv .sound)
 
-        counts-on : r .vol .«next_seq» ≡ run₀ .vol .«next_seq»
-        counts-on = ap (λ (u : Volatile). u .«next_seq») (f .same) ∙ inv .based
+        counts-on : base (r .vol) ≡ base (run₀ .vol)
+        counts-on = ap (λ (u : List ℕ). base u) (f .same) ∙ inv .based
 
         pub ends-dry : bodiesOf run₀ ≡ [] → RunsDry snapshot image part own job (run₀ .vol) (run₀ .point) budget (run₀ .count) w₀ r w
         unfolding leftDry finishDry

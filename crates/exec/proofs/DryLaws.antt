@@ -25,10 +25,9 @@ use Rattle.model.specs.State.{Env, Rest, varNamed, timerNamed}
 use Rattle.model.specs.declared.Point.{Point}
 use Rattle.model.specs.declared.Step.the-variants.{Primitive, Wait, Branch, After, Fail}
 use Rattle.state.specs.Meaning.{meaning}
-use Rattle.state.specs.declared.Volatile.{Volatile}
 use Rattle.exec.specs.Paid.{Steps, GoesOn}
 use Rattle.exec.specs.DryRuns.{DrySteps}
-use Rattle.exec.specs.declared.StepResult.{StepResult}
+use Rattle.exec.specs.Done.{StepDone}
 
 -- ---- a dry run disables no rule
 either : (t : Bool) (a b : PrimResult) → a .disables ≡ none → b .disables ≡ none → cond t a b .disables ≡ none
@@ -101,7 +100,7 @@ module _ (e : Env) (j : Job) (s : Rest) (dry : j .dry ≡ true) where
   dry-none NoAction = refl
 
 -- ---- the steps
-module _ (e : Env) (j : Job) (b : ℕ) (sp : Point) (v : Volatile) (r : StepResult) (qs : List Point) where
+module _ (e : Env) (j : Job) (b : ℕ) (sp : Point) (v : List ℕ) (r : StepDone) (qs : List Point) where
   pub primitive-dry : (i : ℕ) → j .dry ≡ true → Steps v r (exec e j b sp (Primitive i) (meaning v)) → DrySteps v r (dryStep e j (Primitive i) sp qs (meaning v .rest))
   unfolding exec dryStep afterPrim
   primitive-dry i d s =

@@ -23,7 +23,7 @@ use Rattle.flat.specs.Words.{stepsIn, listWords, Says}
 use Rattle.exec.specs.Lists.{stepOption, stepIn}
 use Rattle.exec.specs.DryRuns.{bodyPoint, bodiesOf, queuedBy, SameRun, Queues, Moved}
 use Rattle.exec.specs.declared.Job.{Job}
-use Rattle.exec.specs.declared.DryRun.{DryRun}
+use Rattle.exec.specs.Done.{DryRunNow}
 use Rattle.exec.specs.declared.MaybeStep.{MaybeStep}
 use Rattle.exec.specs.declared.MaybeStep.the-variants.{Nothing, One}
 use Rattle.exec.proofs.Decoded.{said}
@@ -60,7 +60,7 @@ not-after (Branch c t n) sp qs o = refl
 not-after (After ms) sp qs o = absurd (miss (0 ∷ 1 ∷ 2 ∷ 4 ∷ []) 3 tt o)
 not-after Fail sp qs o = refl
 
-module _ (run : DryRun) (x : Step) (fits : run .first ≤ run .queued) where
+module _ (run : DryRunNow) (x : Step) (fits : run .first ≤ run .queued) where
   pub queue-none : OneOf (0 ∷ 1 ∷ 2 ∷ 4 ∷ []) (tagOf the-type x) → Queues run x run
   queue-none o =
       record {
@@ -132,14 +132,14 @@ module _ (e : Env) (j : actions.Job) (p : Point) where
   unfolding nextStep
   next-last = refl
 
-pub record Moving (part : List ℕ) (own : ℕ) (run r : DryRun) : Type 0 where
+pub record Moving (part : List ℕ) (own : ℕ) (run r : DryRunNow) : Type 0 where
   pub says : (e : Env) (j : actions.Job) → Says part own (getD (e .set .flat) (j .index) []) → nextStep e j (run .point) (bodiesOf run) ≡ nextStep e j (r .point) (bodiesOf r)
   pub same : SameRun run r
   pub fits : r .first ≤ r .queued
   pub most : r .queued ≡ run .queued
   pub long : length (r .bodies) ≡ 256
 
-module _ (part : List ℕ) (own : ℕ) (run r : DryRun) (inv : Moving part own run r) where
+module _ (part : List ℕ) (own : ℕ) (run r : DryRunNow) (inv : Moving part own run r) where
   pub moves :
       r .first < r .queued → r .queued ≤ 256 → false ≡ present (stepIn part own (r .point))
       → Moving part own run

@@ -9,4 +9,4 @@ use Rattle.exec.specs.declared.DryRun.{DryRun}
 use Rattle.exec.proofs.DryRun.{the-type}
 
 pub long : (r : DryRun) {vs : List Val} → Is (row the-type) r vs → length (r .bodies) ≡ 256
-long r g = sym (length-map (r .bodies) _) ∙ g .1 .1 .1 .1 .0 .1 .0 .1
+long r g = sym (length-map (r .bodies) _) ∙ g .1 .1 .1 .0 .1 .0 .1

@@ -20,8 +20,7 @@ use Rattle.model.specs.Steps.{FlatStep}
 use Rattle.model.specs.declared.Point.{Point}
 use Rattle.model.specs.declared.Step.{Step}
 use Rattle.flat.specs.Words.{stepsIn, listWords, Says}
-use Rattle.state.specs.Meaning.{Sound, meaning}
-use Rattle.state.specs.declared.Volatile.{Volatile}
+use Rattle.state.specs.Meaning.{Sound, meaning, base, accepted}
 use Rattle.eval.specs.Answers.{envOf}
 use Rattle.exec.specs.Results.{effectOption, jobOf}
 use Rattle.exec.specs.Paid.{Steps, nextOption}
@@ -33,9 +32,7 @@ use Rattle.exec.specs.declared.MaybeStep.{MaybeStep}
 use Rattle.exec.specs.declared.MaybeStep.the-variants.{Nothing, One}
 use Rattle.exec.specs.declared.Next.{Next}
 use Rattle.exec.specs.declared.Next.the-variants.{Ends, At}
-use Rattle.exec.specs.declared.Run.{Run}
-use Rattle.exec.specs.declared.RunResult.{RunResult}
-use Rattle.exec.specs.declared.StepResult.{StepResult}
+use Rattle.exec.specs.Done.{RunDone, RunNow, StepDone}
 use Rattle.lent_words.proofs.Written.{put-append}
 use Rattle.exec.proofs.Bounds.{accepts-one, keeps-list}
 use Rattle.exec.proofs.Decoded.{said}
@@ -107,11 +104,11 @@ turn-at :
 unfolding turnWith stepAt
 turn-at e j b m x o = rw (← o)
 
-taken-is : (run r : Run) (w exit : List ℕ) (d : StepResult) (v : Volatile) (x : model.StepResult) → Taken run w d r exit → Steps v d x → machine r exit ≡ takeStep x (machine run w)
+taken-is : (run r : RunNow) (w exit : List ℕ) (d : StepDone) (v : List ℕ) (x : model.StepResult) → Taken run w d r exit → Steps v d x → machine r exit ≡ takeStep x (machine run w)
 unfolding takeStep
 taken-is run r w exit d v x t s = rw (t .vol, t .point, t .reason, t .count, t .written, t .ended, s .state .says, s .effect, s .reason, s .next)
 
-module _ (snapshot image list : List ℕ) (job : Job) (left : ℕ) (run : Run) (words : List ℕ) (found : MaybeStep) (at : stepOption found ≡ getElem? (stepsIn list) (run .point .place)) where
+module _ (snapshot image list : List ℕ) (job : Job) (left : ℕ) (run : RunNow) (words : List ℕ) (found : MaybeStep) (at : stepOption found ≡ getElem? (stepsIn list) (run .point .place)) where
   pub turn-ends : found ≡ Nothing → Sound (run .vol) → Turned snapshot image list job left run words (record { vol = run .vol; point = run .point; reason = run .reason; count = run .count; ended = true }) words
   unfolding turnWith stepAt
   turn-ends n s =
@@ -127,15 +124,15 @@ module _ (snapshot image list : List ℕ) (job : Job) (left : ℕ) (run : Run) (
       }
 
   pub turn-steps :
-      (x : Step) (d : StepResult) (r : Run) (exit : List ℕ) → found ≡ One x
+      (x : Step) (d : StepDone) (r : RunNow) (exit : List ℕ) → found ≡ One x
       → ((flat : List (List FlatStep)) → Steps (run .vol) d (exec (envOf snapshot image flat) (jobOf job) left (run .point) x (meaning (run .vol))))
       → Taken run words d r exit → Turned snapshot image list job left run words r exit
   turn-steps x d r exit n s t =
       record {
         says = λ flat l. steps flat l;
         sound = subst Sound (sym (t .vol)) (s [] .state .sound);
-        based = ap (λ (v : Volatile). v .«next_seq») (t .vol) ∙ s [] .state .based;
-        accepted = omega (arith, ap (λ (v : Volatile). v .accepted) (t .vol), accepts-one (envOf snapshot image []) (jobOf job) left (run .point) x (run .vol) d (s []));
+        based = ap (λ (v : List ℕ). base v) (t .vol) ∙ s [] .state .based;
+        accepted = omega (arith, ap (λ (v : List ℕ). accepted v) (t .vol), accepts-one (envOf snapshot image []) (jobOf job) left (run .point) x (run .vol) d (s []));
         count = omega (arith, t .count, few (effectOption (d .effect)));
         sameList = ap (λ (p : Point). p .list) (t .point) ∙ keeps-list (envOf snapshot image []) (jobOf job) left (run .point) x (run .vol) d (s []);
       }
@@ -146,25 +143,25 @@ module _ (snapshot image list : List ℕ) (job : Job) (left : ℕ) (run : Run) (
           taken-is run r words exit d (run .vol) _ t (s flat) ∙ turn-at (envOf snapshot image flat) (jobOf job) left (machine run words) x o
 
 -- ---- the loop
-pub record Going (snapshot image part : List ℕ) (own : ℕ) (job : Job) (budget : ℕ) (run₀ : Run) (w₀ : List ℕ) (run : Run) (w : List ℕ) (left : ℕ) : Type 0 where
+pub record Going (snapshot image part : List ℕ) (own : ℕ) (job : Job) (budget : ℕ) (run₀ : RunNow) (w₀ : List ℕ) (run : RunNow) (w : List ℕ) (left : ℕ) : Type 0 where
   pub says :
       (flat : List (List FlatStep)) → Says part own (getD flat (job .index) [])
       → leftOf (run .ended) left (envOf snapshot image flat) (jobOf job) (machine run w) ≡ leftOf false budget (envOf snapshot image flat) (jobOf job) (machine run₀ w₀)
   pub sound : Sound (run .vol)
-  pub based : run .vol .«next_seq» ≡ run₀ .vol .«next_seq»
-  pub accepts : run .vol .accepted + left ≤ run₀ .vol .accepted + budget
+  pub based : base (run .vol) ≡ base (run₀ .vol)
+  pub accepts : accepted (run .vol) + left ≤ accepted (run₀ .vol) + budget
   pub counts : run .count + left ≤ run₀ .count + budget
   pub sameList : run .point .list ≡ run₀ .point .list
   pub long : length w ≡ length w₀
 
 module _
-    (snapshot image part : List ℕ) (own : ℕ) (list : List ℕ) (job : Job) (budget : ℕ) (run₀ : Run) (w₀ : List ℕ) (run : Run) (w : List ℕ) (left : ℕ)
+    (snapshot image part : List ℕ) (own : ℕ) (list : List ℕ) (job : Job) (budget : ℕ) (run₀ : RunNow) (w₀ : List ℕ) (run : RunNow) (w : List ℕ) (left : ℕ)
     (inv : Going snapshot image part own job budget run₀ w₀ run w left) (of : list ≡ listWords part own (run₀ .point .list))
   where
     here : (flat : List (List FlatStep)) → Says part own (getD flat (job .index) []) → stepsIn list ≡ listIn (getD flat (job .index) []) (run .point .list)
     here flat e = ap stepsIn of ∙ said part own (getD flat (job .index) []) e (run₀ .point .list) ∙ ap (listIn (getD flat (job .index) [])) (sym (inv .sameList))
 
-    pub again : (r : Run) (exit : List ℕ) → 0 < left → run .ended ≡ false → length exit ≡ length w → Turned snapshot image list job (left - 1) run w r exit → Going snapshot image part own job budget run₀ w₀ r exit (left - 1)
+    pub again : (r : RunNow) (exit : List ℕ) → 0 < left → run .ended ≡ false → length exit ≡ length w → Turned snapshot image list job (left - 1) run w r exit → Going snapshot image part own job budget run₀ w₀ r exit (left - 1)
     again r exit h n l t =
         record {
           says = λ flat e.
@@ -186,7 +183,7 @@ module _
 
     -- the end: the run has ended, or the budget is spent
     module _
-        (r : RunResult) (fresh : run₀ .reason ≡ 0) (f : Finishes list run r)
+        (r : RunDone) (fresh : run₀ .reason ≡ 0) (f : Finishes list run r)
         (spent : (e : Env) (m : Machine) → leftOf (run .ended) 0 e (jobOf job) m ≡ leftOf (run .ended) left e (jobOf job) m)
       where
         whole : (flat : List (List FlatStep)) → Says part own (getD flat (job .index) []) → finished r w ≡ leftOf false budget (envOf snapshot image flat) (jobOf job) (machine run₀ w₀)
@@ -195,8 +192,8 @@ module _
         stands : Sound (r .vol)
         stands = subst Sound (sym (f .same)) (inv .sound)
 
-        counts-on : r .vol .«next_seq» ≡ run₀ .vol .«next_seq»
-        counts-on = ap (λ (u : Volatile). u .«next_seq») (f .same) ∙ inv .based
+        counts-on : base (r .vol) ≡ base (run₀ .vol)
+        counts-on = ap (λ (u : List ℕ). base u) (f .same) ∙ inv .based
 
         pub ends : Runs snapshot image part own job (run₀ .vol) (run₀ .point) budget (run₀ .count) w₀ r w
         unfolding leftOf finish
@@ -211,7 +208,7 @@ module _
                   );
               sound = stands;
               based = counts-on;
-              accepted = omega (arith, ap (λ (u : Volatile). u .accepted) (f .same), inv .accepts);
+              accepted = omega (arith, ap (λ (u : List ℕ). accepted u) (f .same), inv .accepts);
               counted = omega (arith, f .counted, inv .counts);
             }
 
@@ -223,7 +220,7 @@ pub spent-budget : (t : Bool) (left : ℕ) (e : Env) (j : actions.Job) (m : Mach
 spent-budget t left e j m h = let z : left ≡ 0 = omega arith in rw z
 
 -- ---- the end of the code's run
-module _ (list : List ℕ) (run : Run) (r : RunResult) (same : r .vol ≡ run .vol) (counted : r .count ≡ run .count) where
+module _ (list : List ℕ) (run : RunNow) (r : RunDone) (same : r .vol ≡ run .vol) (counted : r .count ≡ run .count) where
   pub finish-ended : run .ended ≡ true → r .reason ≡ run .reason → Finishes list run r
   finish-ended h q =
       record {

@@ -3,8 +3,8 @@ use Prim.Native.Nat.{ℕ, _+_, _%_, _≤_, _<_}
 use mathlib.Core.Bool.{true, false}
 use mathlib.Core.Option.{Option}
 use Rattle.model.specs.Lists.{orElse}
-use Rattle.state.specs.Meaning.{option32}
-use Rattle.state.specs.declared.OptionU32.{OptionU32}
+use Rattle.rows.specs.Options.{option32}
+use Rattle.rows.specs.declared.OptionU32.{OptionU32}
 use native.Mathlib.Omega.{arith}
 use native.Mathlib.Decide.{decLe}
 use native.Mathlib.Nat.{mod-lt, zero-mod}

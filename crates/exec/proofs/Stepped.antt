@@ -7,6 +7,7 @@ use Rattle.words.specs.Saturating.{max32}
 use native.Mathlib.Omega.{arith}
 use mathlib.Core.Path.{_≡_, refl, ap, subst, _∙_}
 use mathlib.Core.Bool.{true, false}
+use mathlib.Core.List.{List}
 use mathlib.Core.Option.{Option, none, some}
 use Rattle.model.specs.Actions as actions
 use Rattle.model.specs.Eval.{conditionAt}
@@ -20,21 +21,19 @@ use Rattle.model.specs.declared.Jump.the-variants.{NoJump, JumpFrom}
 use Rattle.model.specs.declared.Point.{Point}
 use Rattle.model.specs.declared.Step.{Step}
 use Rattle.model.specs.declared.Step.the-variants.{Primitive, Wait, Branch, After, Fail}
-use Rattle.state.specs.Meaning.{Means, meaning}
-use Rattle.state.specs.declared.Volatile.{Volatile}
+use Rattle.state.specs.Meaning.{Means, meaning, base}
 use Rattle.exec.specs.Results.{Does}
 use Rattle.exec.specs.Paid.{Steps, reach}
 use Rattle.exec.specs.declared.MaybeEffect.the-variants.{Nothing}
 use Rattle.exec.specs.declared.Next.the-variants.{Ends, At}
-use Rattle.exec.specs.declared.PrimResult.{PrimResult}
-use Rattle.exec.specs.declared.StepResult.{StepResult}
+use Rattle.exec.specs.Done.{ActionDone, StepDone}
 
-pub steps-as : {v : Volatile} {r : StepResult} {a b : model.StepResult} → Steps v r a → a ≡ b → Steps v r b
+pub steps-as : {v : List ℕ} {r : StepDone} {a b : model.StepResult} → Steps v r a → a ≡ b → Steps v r b
 steps-as {v} {r} d e = subst (λ (x : model.StepResult). Steps v r x) e d
 
 -- what an action did
 pub after-does :
-    (v : Volatile) (a : PrimResult) (x : actions.PrimResult) (to : Point) → Does v a x
+    (v : List ℕ) (a : ActionDone) (x : actions.PrimResult) (to : Point) → Does v a x
     → Steps v (record { vol = a .vol; effect = a .effect; reason = a .reason; next = At to }) (afterPrim (x .disables) x to (meaning v))
 unfolding afterPrim
 after-does v a x to d = go (x .disables) refl
@@ -43,7 +42,7 @@ after-does v a x to d = go (x .disables) refl
     go none e = record { state = rw e at (d .state); effect = d .effect; reason = d .reason; next = refl }
     go (some q) e = record { state = rw e at (d .state); effect = d .effect; reason = d .reason; next = refl }
 
-module _ (e : Env) (j : actions.Job) (b : ℕ) (sp to : Point) (v : Volatile) where
+module _ (e : Env) (j : actions.Job) (b : ℕ) (sp to : Point) (v : List ℕ) where
   pub primitive-is : (i : ℕ) → to ≡ advance sp 0 → (let a = actions.primAt e j (meaning v .rest) i in afterPrim (a .disables) a to (meaning v)) ≡ exec e j b sp (Primitive i) (meaning v)
   unfolding exec
   primitive-is i t = rw t
@@ -52,15 +51,15 @@ module _ (e : Env) (j : actions.Job) (b : ℕ) (sp to : Point) (v : Volatile) wh
   unfolding exec actions.fails
   fail-is t = rw t
 
-  module _ (w : Volatile) (ms reason : ℕ) where
+  module _ (w : List ℕ) (ms reason : ℕ) where
     pub wait-is :
-        to ≡ advance sp 0 → (let x = schedule e j b ms to (meaning v) in Means w (v .«next_seq») (x .vol) × (reason ≡ x .reason))
+        to ≡ advance sp 0 → (let x = schedule e j b ms to (meaning v) in Means w (base v) (x .vol) × (reason ≡ x .reason))
         → Steps v (record { vol = w; effect = Nothing; reason = reason; next = Ends }) (exec e j b sp (Wait ms) (meaning v))
     unfolding exec
     wait-is t s = let u = rw t at s in record { state = u .0; effect = refl; reason = u .1; next = refl }
 
     pub after-is :
-        (body : Point) → body ≡ bodyStart sp → to ≡ advance sp 0 → (let x = schedule e j b ms body (meaning v) in Means w (v .«next_seq») (x .vol) × (reason ≡ x .reason))
+        (body : Point) → body ≡ bodyStart sp → to ≡ advance sp 0 → (let x = schedule e j b ms body (meaning v) in Means w (base v) (x .vol) × (reason ≡ x .reason))
         → Steps v (record { vol = w; effect = Nothing; reason = reason; next = At to }) (exec e j b sp (After ms) (meaning v))
     unfolding exec
     after-is body q t s = let u = rw q at s in record { state = u .0; effect = refl; reason = u .1; next = ap some t }

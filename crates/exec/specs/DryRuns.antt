@@ -19,26 +19,23 @@ use Rattle.model.specs.declared.Point.{Point}
 use Rattle.model.specs.declared.Step.{Step}
 use Rattle.model.specs.declared.Step.the-variants.{Primitive, Wait, Branch, After, Fail}
 use Rattle.flat.specs.Words.{Says}
-use Rattle.state.specs.Meaning.{Sound, Means, meaning}
-use Rattle.state.specs.declared.Volatile.{Volatile}
+use Rattle.state.specs.Meaning.{Sound, Means, meaning, base}
 use Rattle.eval.specs.Answers.{envOf}
 use Rattle.exec.specs.Results.{effectOption, jobOf}
 use Rattle.exec.specs.Paid.{nextOption}
 use Rattle.lent_words.specs.PutEffects.{putEffects}
 use Rattle.exec.specs.Runs.{Finished, finished}
-use Rattle.exec.specs.declared.DryRun.{DryRun}
+use Rattle.exec.specs.Done.{DryRunNow, RunDone, StepDone}
 use Rattle.exec.specs.declared.Job.{Job}
-use Rattle.exec.specs.declared.RunResult.{RunResult}
-use Rattle.exec.specs.declared.StepResult.{StepResult}
 
 -- from v the step came to r, and the specification to d
-pub record DrySteps (v : Volatile) (r : StepResult) (d : model.DryStepResult) : Type 0 where
-  pub state : Means (r .vol) (v .«next_seq») (withRest (d .rest) (meaning v))
+pub record DrySteps (v : List ℕ) (r : StepDone) (d : model.DryStepResult) : Type 0 where
+  pub state : Means (r .vol) (base v) (withRest (d .rest) (meaning v))
   pub effect : effectOption (r .effect) ≡ d .effect
   pub reason : r .reason ≡ d .reason
   pub next : nextOption (r .next) ≡ some (d .next)
 
-abbrev pub DryStepsIn : List ℕ → List ℕ → Job → Volatile → Point → Step → StepResult → Type 0
+abbrev pub DryStepsIn : List ℕ → List ℕ → Job → List ℕ → Point → Step → StepDone → Type 0
 DryStepsIn snapshot image j v sp x r =
     (flat : List (List FlatStep)) (qs : List Point) → DrySteps v r (model.dryStep (envOf snapshot image flat) (jobOf j) x sp qs (meaning v .rest))
 
@@ -46,7 +43,7 @@ DryStepsIn snapshot image j v sp x r =
 abbrev pub bodyPoint : ℕ → Point
 bodyPoint n = point n 0 NoJump
 
-abbrev pub bodiesOf : DryRun → List Point
+abbrev pub bodiesOf : DryRunNow → List Point
 bodiesOf r = map bodyPoint (drop (r .first) (take (r .queued) (r .bodies)))
 
 -- the queue behind a step
@@ -58,13 +55,13 @@ queuedBy (After ms) sp qs = qs ++ (bodyStart sp ∷ [])
 queuedBy Fail sp qs = qs
 
 -- all but the point and the queue are as they were
-pub record SameRun (run r : DryRun) : Type 0 where
+pub record SameRun (run r : DryRunNow) : Type 0 where
   pub vol : r .vol ≡ run .vol
   pub reason : r .reason ≡ run .reason
   pub count : r .count ≡ run .count
   pub ended : r .ended ≡ run .ended
 
-pub record Queues (run : DryRun) (x : Step) (r : DryRun) : Type 0 where
+pub record Queues (run : DryRunNow) (x : Step) (r : DryRunNow) : Type 0 where
   pub says : bodiesOf r ≡ queuedBy x (run .point) (bodiesOf run)
   pub point : r .point ≡ run .point
   pub same : SameRun run r
@@ -72,7 +69,7 @@ pub record Queues (run : DryRun) (x : Step) (r : DryRun) : Type 0 where
   pub most : r .queued ≤ suc (run .queued)
 
 -- the next step is the one at the point, or there is none
-pub record Moved (part : List ℕ) (own : ℕ) (run r : DryRun) : Type 0 where
+pub record Moved (part : List ℕ) (own : ℕ) (run r : DryRunNow) : Type 0 where
   pub says :
       (e : Env) (j : actions.Job) → Says part own (getD (e .set .flat) (j .index) [])
       → model.nextStep e j (run .point) (bodiesOf run) ≡ model.found (stepAt (e .set) (j .index) (r .point)) (r .point) (bodiesOf r) none
@@ -80,7 +77,7 @@ pub record Moved (part : List ℕ) (own : ℕ) (run r : DryRun) : Type 0 where
   pub fits : r .first ≤ r .queued
   pub most : r .queued ≡ run .queued
 
-pub record DryTaken (run : DryRun) (words : List ℕ) (d : StepResult) (r : DryRun) (exit : List ℕ) : Type 0 where
+pub record DryTaken (run : DryRunNow) (words : List ℕ) (d : StepDone) (r : DryRunNow) (exit : List ℕ) : Type 0 where
   pub vol : r .vol ≡ d .vol
   pub point : r .point ≡ orElse (run .point) (nextOption (d .next))
   pub bodies : bodiesOf r ≡ bodiesOf run
@@ -100,7 +97,7 @@ pub record DryMachine : Type 0 where
   pub count : ℕ
   pub words : List ℕ
 
-abbrev pub dryMachine : DryRun → List ℕ → DryMachine
+abbrev pub dryMachine : DryRunNow → List ℕ → DryMachine
 dryMachine r w = record { vol = meaning (r .vol); point = r .point; bodies = bodiesOf r; reason = r .reason; count = r .count; words = w }
 
 -- a dry run goes on to this output
@@ -121,17 +118,17 @@ unfoldable pub leftDry : Bool → ℕ → Env → actions.Job → DryMachine →
 leftDry true b e j m = finishDry m (noMore (m .vol .rest))
 leftDry false b e j m = finishDry m (model.runStepsDry b e j (m .point) (m .bodies) (m .vol .rest))
 
-pub record DryTurned (snapshot image part : List ℕ) (own : ℕ) (job : Job) (run : DryRun) (words : List ℕ) (r : DryRun) (exit : List ℕ) : Type 0 where
+pub record DryTurned (snapshot image part : List ℕ) (own : ℕ) (job : Job) (run : DryRunNow) (words : List ℕ) (r : DryRunNow) (exit : List ℕ) : Type 0 where
   pub says :
       (flat : List (List FlatStep)) (b : ℕ) → Says part own (getD flat (job .index) []) → run .ended ≡ false
       → leftDry (r .ended) b (envOf snapshot image flat) (jobOf job) (dryMachine r exit) ≡ leftDry false (suc b) (envOf snapshot image flat) (jobOf job) (dryMachine run words)
   pub sound : Sound (r .vol)
-  pub based : r .vol .«next_seq» ≡ run .vol .«next_seq»
+  pub based : base (r .vol) ≡ base (run .vol)
   pub count : r .count ≤ suc (run .count)
   pub fits : r .first ≤ r .queued
   pub most : r .queued ≤ suc (run .queued)
 
-pub record DryFinishes (part : List ℕ) (own : ℕ) (run : DryRun) (r : RunResult) : Type 0 where
+pub record DryFinishes (part : List ℕ) (own : ℕ) (run : DryRunNow) (r : RunDone) : Type 0 where
   pub says :
       (w : List ℕ) (e : Env) (j : actions.Job) → Says part own (getD (e .set .flat) (j .index) [])
       → finished r w ≡ leftDry (run .ended) 0 e j (dryMachine run w)
@@ -139,16 +136,16 @@ pub record DryFinishes (part : List ℕ) (own : ℕ) (run : DryRun) (r : RunResu
   pub counted : r .count ≡ run .count
 
 -- a sound state, a budget that the queue has room for, and room to count
-pub record DryReady (v : Volatile) (budget count : ℕ) : Type 0 where
+pub record DryReady (v : List ℕ) (budget count : ℕ) : Type 0 where
   pub sound : Sound v
   pub most : budget ≤ 256
   pub counts : count + budget ≤ max32
 
-pub record RunsDry (snapshot image part : List ℕ) (own : ℕ) (job : Job) (v : Volatile) (from : Point) (budget count : ℕ) (words : List ℕ) (r : RunResult) (exit : List ℕ) : Type 0 where
+pub record RunsDry (snapshot image part : List ℕ) (own : ℕ) (job : Job) (v : List ℕ) (from : Point) (budget count : ℕ) (words : List ℕ) (r : RunDone) (exit : List ℕ) : Type 0 where
   pub says :
       (flat : List (List FlatStep)) → Says part own (getD flat (job .index) [])
       → let o = model.runStepsDry budget (envOf snapshot image flat) (jobOf job) from [] (meaning v .rest) in
-      Means (r .vol) (v .«next_seq») (withRest (o .rest) (meaning v)) × (r .reason ≡ o .reason) × (r .count ≡ count + length (o .effects)) × (exit ≡ putEffects words count (o .effects))
+      Means (r .vol) (base v) (withRest (o .rest) (meaning v)) × (r .reason ≡ o .reason) × (r .count ≡ count + length (o .effects)) × (exit ≡ putEffects words count (o .effects))
   pub sound : Sound (r .vol)
-  pub based : r .vol .«next_seq» ≡ v .«next_seq»
+  pub based : base (r .vol) ≡ base v
   pub counted : r .count ≤ count + budget

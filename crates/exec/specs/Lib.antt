@@ -1,4 +1,5 @@
 -- What the contracts of `exec` cite.
+pub mod Done
 pub mod Results
 pub mod Paid
 pub mod Lists

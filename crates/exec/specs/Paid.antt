@@ -11,15 +11,13 @@ use Rattle.model.specs.Steps.{FlatStep}
 use Rattle.model.specs.declared.Point.{Point}
 use Rattle.model.specs.declared.Step.{Step}
 use Rattle.model.specs.declared.Step.the-variants.{Primitive, Wait, Branch, After, Fail}
-use Rattle.state.specs.Meaning.{Means, meaning}
-use Rattle.state.specs.declared.Volatile.{Volatile}
+use Rattle.state.specs.Meaning.{Means, meaning, base}
 use Rattle.eval.specs.Answers.{envOf}
 use Rattle.exec.specs.Results.{Does, effectOption, jobOf}
 use Rattle.exec.specs.declared.Job.{Job}
 use Rattle.exec.specs.declared.Next.{Next}
 use Rattle.exec.specs.declared.Next.the-variants.{Ends, At}
-use Rattle.exec.specs.declared.PrimResult.{PrimResult}
-use Rattle.exec.specs.declared.StepResult.{StepResult}
+use Rattle.exec.specs.Done.{ActionDone, StepDone}
 
 abbrev pub nextOption : Next → Option Point
 nextOption Ends = none
@@ -34,25 +32,25 @@ reach (After ms) = 0
 reach Fail = 0
 
 -- from v the step came to r, and the specification to d
-pub record Steps (v : Volatile) (r : StepResult) (d : model.StepResult) : Type 0 where
-  pub state : Means (r .vol) (v .«next_seq») (d .vol)
+pub record Steps (v : List ℕ) (r : StepDone) (d : model.StepResult) : Type 0 where
+  pub state : Means (r .vol) (base v) (d .vol)
   pub effect : effectOption (r .effect) ≡ d .effect
   pub reason : r .reason ≡ d .reason
   pub next : nextOption (r .next) ≡ d .next
 
-abbrev pub Follows : PrimResult → Point → StepResult → Type 0
-Follows a to r = (v : Volatile) (x : actions.PrimResult) → Does v a x → Steps v r (model.afterPrim (x .disables) x to (meaning v))
+abbrev pub Follows : ActionDone → Point → StepDone → Type 0
+Follows a to r = (v : List ℕ) (x : actions.PrimResult) → Does v a x → Steps v r (model.afterPrim (x .disables) x to (meaning v))
 
-abbrev pub GoesOn : Volatile → Point → StepResult → Type 0
+abbrev pub GoesOn : List ℕ → Point → StepDone → Type 0
 GoesOn v to r = Steps v r (record { vol = meaning v; report = plain; effect = none; reason = 0; next = some to })
 
 -- a step, in every environment; in every environment of a snapshot; in every one of a snapshot and an image
-abbrev pub StepsAlways : Job → Volatile → Point → Step → StepResult → Type 0
+abbrev pub StepsAlways : Job → List ℕ → Point → Step → StepDone → Type 0
 StepsAlways j v sp x r = (e : Env) (b : ℕ) → Steps v r (model.exec e (jobOf j) b sp x (meaning v))
 
 module _ (snapshot image : List ℕ) where
-  abbrev pub StepsIn : Job → Volatile → ℕ → Point → Step → StepResult → Type 0
+  abbrev pub StepsIn : Job → List ℕ → ℕ → Point → Step → StepDone → Type 0
   StepsIn j v b sp x r = (flat : List (List FlatStep)) → Steps v r (model.exec (envOf snapshot image flat) (jobOf j) b sp x (meaning v))
 
-abbrev pub StepsAt : List ℕ → Job → Volatile → ℕ → Point → Step → StepResult → Type 0
+abbrev pub StepsAt : List ℕ → Job → List ℕ → ℕ → Point → Step → StepDone → Type 0
 StepsAt snapshot j v b sp x r = (image : List ℕ) → StepsIn snapshot image j v b sp x r

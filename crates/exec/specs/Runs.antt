@@ -16,16 +16,13 @@ use Rattle.model.specs.Steps.{FlatStep}
 use Rattle.model.specs.declared.Point.{Point}
 use Rattle.model.specs.declared.Step.{Step}
 use Rattle.flat.specs.Words.{stepsIn, Says}
-use Rattle.state.specs.Meaning.{Sound, Means, meaning}
-use Rattle.state.specs.declared.Volatile.{Volatile}
+use Rattle.state.specs.Meaning.{Sound, Means, meaning, base, accepted}
 use Rattle.eval.specs.Answers.{envOf}
 use Rattle.exec.specs.Results.{effectOption, jobOf}
 use Rattle.exec.specs.Paid.{nextOption}
 use Rattle.lent_words.specs.PutEffects.{putEffects}
 use Rattle.exec.specs.declared.Job.{Job}
-use Rattle.exec.specs.declared.Run.{Run}
-use Rattle.exec.specs.declared.RunResult.{RunResult}
-use Rattle.exec.specs.declared.StepResult.{StepResult}
+use Rattle.exec.specs.Done.{RunDone, RunNow, StepDone}
 
 -- a run under way, over the words of its effects
 pub record Machine : Type 0 where
@@ -36,7 +33,7 @@ pub record Machine : Type 0 where
   pub words : List ℕ
   pub ended : Bool
 
-abbrev pub machine : Run → List ℕ → Machine
+abbrev pub machine : RunNow → List ℕ → Machine
 machine r w = record { vol = meaning (r .vol); point = r .point; reason = r .reason; count = r .count; words = w; ended = r .ended }
 
 -- what came of a run
@@ -46,7 +43,7 @@ pub record Finished : Type 0 where
   pub count : ℕ
   pub words : List ℕ
 
-abbrev pub finished : RunResult → List ℕ → Finished
+abbrev pub finished : RunDone → List ℕ → Finished
 finished r w = record { vol = meaning (r .vol); reason = r .reason; count = r .count; words = w }
 
 -- a run under way goes on to this output
@@ -84,7 +81,7 @@ unfoldable pub leftOf : Bool → ℕ → Env → actions.Job → Machine → Fin
 leftOf true b e j m = finish m (model.ended 0 (m .vol))
 leftOf false b e j m = finish m (model.runSteps b e j (m .point) (m .vol))
 
-pub record Taken (run : Run) (words : List ℕ) (d : StepResult) (r : Run) (exit : List ℕ) : Type 0 where
+pub record Taken (run : RunNow) (words : List ℕ) (d : StepDone) (r : RunNow) (exit : List ℕ) : Type 0 where
   pub vol : r .vol ≡ d .vol
   pub point : r .point ≡ orElse (run .point) (nextOption (d .next))
   pub reason : r .reason ≡ model.firstReason (run .reason) (d .reason)
@@ -93,17 +90,17 @@ pub record Taken (run : Run) (words : List ℕ) (d : StepResult) (r : Run) (exit
   pub ended : r .ended ≡ not (present (nextOption (d .next)))
 
 -- the run has moved on, in every environment whose list for the run these words say
-pub record Turned (snapshot image list : List ℕ) (job : Job) (left : ℕ) (run : Run) (words : List ℕ) (r : Run) (exit : List ℕ) : Type 0 where
+pub record Turned (snapshot image list : List ℕ) (job : Job) (left : ℕ) (run : RunNow) (words : List ℕ) (r : RunNow) (exit : List ℕ) : Type 0 where
   pub says :
       (flat : List (List FlatStep)) → stepsIn list ≡ listIn (getD flat (job .index) []) (run .point .list)
       → machine r exit ≡ turnOf (envOf snapshot image flat) (jobOf job) left (machine run words)
   pub sound : Sound (r .vol)
-  pub based : r .vol .«next_seq» ≡ run .vol .«next_seq»
-  pub accepted : r .vol .accepted ≤ suc (run .vol .accepted)
+  pub based : base (r .vol) ≡ base (run .vol)
+  pub accepted : accepted (r .vol) ≤ suc (accepted (run .vol))
   pub count : r .count ≤ suc (run .count)
   pub sameList : r .point .list ≡ run .point .list
 
-pub record Finishes (list : List ℕ) (run : Run) (r : RunResult) : Type 0 where
+pub record Finishes (list : List ℕ) (run : RunNow) (r : RunDone) : Type 0 where
   pub says :
       (w : List ℕ) (e : Env) (j : actions.Job) → stepsIn list ≡ listIn (getD (e .set .flat) (j .index) []) (run .point .list)
       → finished r w ≡ leftOf (run .ended) 0 e j (machine run w)
@@ -111,17 +108,17 @@ pub record Finishes (list : List ℕ) (run : Run) (r : RunResult) : Type 0 where
   pub counted : r .count ≡ run .count
 
 -- a sound state, and numbers that have room for what a budget can bring
-pub record Ready (v : Volatile) (budget count : ℕ) : Type 0 where
+pub record Ready (v : List ℕ) (budget count : ℕ) : Type 0 where
   pub sound : Sound v
-  pub accepts : v .accepted + budget ≤ max64
+  pub accepts : accepted v + budget ≤ max64
   pub counts : count + budget ≤ max32
 
-pub record Runs (snapshot image part : List ℕ) (own : ℕ) (job : Job) (v : Volatile) (from : Point) (budget count : ℕ) (words : List ℕ) (r : RunResult) (exit : List ℕ) : Type 0 where
+pub record Runs (snapshot image part : List ℕ) (own : ℕ) (job : Job) (v : List ℕ) (from : Point) (budget count : ℕ) (words : List ℕ) (r : RunDone) (exit : List ℕ) : Type 0 where
   pub says :
       (flat : List (List FlatStep)) → Says part own (getD flat (job .index) [])
       → let o = model.runSteps budget (envOf snapshot image flat) (jobOf job) from (meaning v) in
-      Means (r .vol) (v .«next_seq») (o .vol) × (r .reason ≡ o .reason) × (r .count ≡ count + length (o .effects)) × (exit ≡ putEffects words count (o .effects))
+      Means (r .vol) (base v) (o .vol) × (r .reason ≡ o .reason) × (r .count ≡ count + length (o .effects)) × (exit ≡ putEffects words count (o .effects))
   pub sound : Sound (r .vol)
-  pub based : r .vol .«next_seq» ≡ v .«next_seq»
-  pub accepted : r .vol .accepted ≤ v .accepted + budget
+  pub based : base (r .vol) ≡ base v
+  pub accepted : accepted (r .vol) ≤ accepted v + budget
   pub counted : r .count ≤ count + budget

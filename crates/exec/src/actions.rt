@@ -9,10 +9,10 @@ use crate::rules;
 use crate::timers;
 use crate::variables;
 use model::Action;
-use state::Volatile;
 ghost use Prim.Native.Nat.{_≤_};
 ghost use Rattle.image.specs.Sized.{Sized};
 ghost use Rattle.state.specs.Meaning.{Sound};
+ghost use Rattle.exec.specs.Done.{actionDone};
 ghost use Rattle.exec.specs.Results.{PerformsIn, PerformsAt, variantOf};
 
 const HCL_RESUME: u32 = 3;
@@ -38,13 +38,13 @@ const ACTIONS: u32 = 4;
 fn run_variable(
     snapshot: &[u32],
     image: &[u32],
-    v: Volatile,
+    v: &mut [u32],
     job: Job,
     action: Action,
 ) -> PrimResult
-    requires { ⌜ Sized (now image) × Sound v ⌝ }
+    requires { ⌜ Sized (now image) × Sound (now v) ⌝ }
     requires { ⌜ 17 ≤ variantOf action ⌝ }
-    ensures { λ r. ⌜ PerformsIn (now (snapshot .entry)) (now (image .entry)) job v action r ⌝ }
+    ensures { λ r. ⌜ PerformsIn (now (snapshot .entry)) (now (image .entry)) job (now (v .entry)) action (actionDone (now (v .exit)) r) ⌝ }
 {
     match action {
         Action::VarSet {
@@ -60,9 +60,9 @@ fn run_variable(
             topic,
             payload,
             retain,
-        } => emits(v, MQTT_PUBLISH, topic, payload, retain, 0),
-        Action::Log { text } => emits(v, LOG, text, 0, 0, 0),
-        Action::StatCount { name } => no_effect(v),
+        } => emits(MQTT_PUBLISH, topic, payload, retain, 0),
+        Action::Log { text } => emits(LOG, text, 0, 0, 0),
+        Action::StatCount { name } => no_effect(),
         Action::NoAction => fails(v),
         // No other kind comes here.
         _ => fails(v),
@@ -70,10 +70,10 @@ fn run_variable(
 }
 
 // First timers, then what `run_variable` runs.
-fn run_timer(snapshot: &[u32], image: &[u32], v: Volatile, job: Job, action: Action) -> PrimResult
-    requires { ⌜ Sized (now image) × Sound v ⌝ }
+fn run_timer(snapshot: &[u32], image: &[u32], v: &mut [u32], job: Job, action: Action) -> PrimResult
+    requires { ⌜ Sized (now image) × Sound (now v) ⌝ }
     requires { ⌜ 14 ≤ variantOf action ⌝ }
-    ensures { λ r. ⌜ PerformsIn (now (snapshot .entry)) (now (image .entry)) job v action r ⌝ }
+    ensures { λ r. ⌜ PerformsIn (now (snapshot .entry)) (now (image .entry)) job (now (v .entry)) action (actionDone (now (v .exit)) r) ⌝ }
 {
     match action {
         Action::TimerStart { timer, duration_ms } => timers::timer_start(
@@ -96,22 +96,22 @@ fn run_timer(snapshot: &[u32], image: &[u32], v: Volatile, job: Job, action: Act
 }
 
 // First inputs and panels, then what `run_timer` runs.
-fn run_input(snapshot: &[u32], image: &[u32], v: Volatile, job: Job, action: Action) -> PrimResult
-    requires { ⌜ Sized (now image) × Sound v ⌝ }
+fn run_input(snapshot: &[u32], image: &[u32], v: &mut [u32], job: Job, action: Action) -> PrimResult
+    requires { ⌜ Sized (now image) × Sound (now v) ⌝ }
     requires { ⌜ 9 ≤ variantOf action ⌝ }
-    ensures { λ r. ⌜ PerformsIn (now (snapshot .entry)) (now (image .entry)) job v action r ⌝ }
+    ensures { λ r. ⌜ PerformsIn (now (snapshot .entry)) (now (image .entry)) job (now (v .entry)) action (actionDone (now (v .exit)) r) ⌝ }
 {
     match action {
         Action::FeedbackOn {
             adapter,
             address,
             instance,
-        } => emits(v, INPUT_FEEDBACK, adapter, address, instance, 1),
+        } => emits(INPUT_FEEDBACK, adapter, address, instance, 1),
         Action::FeedbackOff {
             adapter,
             address,
             instance,
-        } => emits(v, INPUT_FEEDBACK, adapter, address, instance, 0),
+        } => emits(INPUT_FEEDBACK, adapter, address, instance, 0),
         Action::PanelSelect {
             adapter,
             group,
@@ -121,12 +121,12 @@ fn run_input(snapshot: &[u32], image: &[u32], v: Volatile, job: Job, action: Act
             adapter,
             address,
             instance,
-        } => emits(v, CANCEL_HOLD, adapter, address, instance, 0),
+        } => emits(CANCEL_HOLD, adapter, address, instance, 0),
         Action::CatchMovement {
             adapter,
             address,
             instance,
-        } => emits(v, CATCH_MOVEMENT, adapter, address, instance, 0),
+        } => emits(CATCH_MOVEMENT, adapter, address, instance, 0),
         _ => run_timer(snapshot, image, v, job, action),
     }
 }
@@ -135,12 +135,12 @@ fn run_input(snapshot: &[u32], image: &[u32], v: Volatile, job: Job, action: Act
 pub fn run_prim(
     snapshot: &[u32],
     image: &[u32],
-    v: Volatile,
+    v: &mut [u32],
     job: Job,
     action: Action,
 ) -> PrimResult
-    requires { ⌜ Sized (now image) × Sound v ⌝ }
-    ensures { λ r. ⌜ PerformsIn (now (snapshot .entry)) (now (image .entry)) job v action r ⌝ }
+    requires { ⌜ Sized (now image) × Sound (now v) ⌝ }
+    ensures { λ r. ⌜ PerformsIn (now (snapshot .entry)) (now (image .entry)) job (now (v .entry)) action (actionDone (now (v .exit)) r) ⌝ }
 {
     match action {
         Action::Light {
@@ -162,18 +162,18 @@ pub fn run_prim(
             hold,
             value,
         } => lights::percent(snapshot, image, v, job, target, hold, value),
-        Action::HclResume { target } => emits(v, HCL_RESUME, target, 0, 0, 0),
-        Action::HclHold { target } => emits(v, HCL_HOLD, target, 0, 0, 0),
-        Action::HclEnable { schedule } => emits(v, HCL_SCHEDULE, schedule, 1, 0, 0),
-        Action::HclDisable { schedule } => emits(v, HCL_SCHEDULE, schedule, 0, 0, 0),
+        Action::HclResume { target } => emits(HCL_RESUME, target, 0, 0, 0),
+        Action::HclHold { target } => emits(HCL_HOLD, target, 0, 0, 0),
+        Action::HclEnable { schedule } => emits(HCL_SCHEDULE, schedule, 1, 0, 0),
+        Action::HclDisable { schedule } => emits(HCL_SCHEDULE, schedule, 0, 0, 0),
         _ => run_input(snapshot, image, v, job, action),
     }
 }
 
 // Action i of the image.
-pub fn prim_at(snapshot: &[u32], image: &[u32], v: Volatile, job: Job, i: u32) -> PrimResult
-    requires { ⌜ Sized (now image) × Sound v ⌝ }
-    ensures { λ r. ⌜ PerformsAt (now (snapshot .entry)) (now (image .entry)) job v i r ⌝ }
+pub fn prim_at(snapshot: &[u32], image: &[u32], v: &mut [u32], job: Job, i: u32) -> PrimResult
+    requires { ⌜ Sized (now image) × Sound (now v) ⌝ }
+    ensures { λ r. ⌜ PerformsAt (now (snapshot .entry)) (now (image .entry)) job (now (v .entry)) i (actionDone (now (v .exit)) r) ⌝ }
 {
     let action = image::action::action_of(image::record::record_at(image, ACTIONS, i));
     run_prim(snapshot, image, v, job, action)

@@ -2,41 +2,36 @@
 use crate::MaybeEffect;
 use crate::PrimResult;
 use model::Effect;
-use state::Volatile;
 ghost use Rattle.model.specs.Actions as model_actions;
 ghost use Rattle.state.specs.Meaning.{Sound, meaning};
-ghost use Rattle.exec.specs.Results.{Does};
+ghost use Rattle.exec.specs.Done.{actionDone};
+ghost use Rattle.exec.specs.Results.{AnswersOnly, Does};
 
-pub fn emits(v: Volatile, kind: u32, a: u32, b: u32, c: u32, d: u32) -> PrimResult
-    requires { ⌜ Sound v ⌝ }
-    ensures { λ r. ⌜ Does v r (model_actions.emits (meaning v .rest) kind a b c d) ⌝ }
+pub fn emits(kind: u32, a: u32, b: u32, c: u32, d: u32) -> PrimResult
+    ensures { λ r. ⌜ AnswersOnly (λ s. model_actions.emits s kind a b c d) r ⌝ }
 {
     let x = Effect { kind, a, b, c, d };
     PrimResult {
-        vol: v,
         effect: MaybeEffect::One(x),
         reason: 0,
     }
 }
 
-pub fn no_effect(v: Volatile) -> PrimResult
-    requires { ⌜ Sound v ⌝ }
-    ensures { λ r. ⌜ Does v r (model_actions.noEffect (meaning v .rest)) ⌝ }
+pub fn no_effect() -> PrimResult
+    ensures { λ r. ⌜ AnswersOnly model_actions.noEffect r ⌝ }
 {
     PrimResult {
-        vol: v,
         effect: MaybeEffect::Nothing,
         reason: 0,
     }
 }
 
-pub fn fails(v: Volatile) -> PrimResult
-    requires { ⌜ Sound v ⌝ }
-    ensures { λ r. ⌜ Does v r (model_actions.fails (meaning v .rest)) ⌝ }
+pub fn fails(v: &mut [u32]) -> PrimResult
+    requires { ⌜ Sound (now v) ⌝ }
+    ensures { λ r. ⌜ Does (now (v .entry)) (actionDone (now (v .exit)) r) (model_actions.fails (meaning (now (v .entry)) .rest)) ⌝ }
 {
-    let w = state::bump(v, counters::ACTIONS_FAILED, 1);
+    state::bump(v, counters::ACTIONS_FAILED, 1);
     PrimResult {
-        vol: w,
         effect: MaybeEffect::Nothing,
         reason: state::reasons::CONDITION_UNEVALUABLE,
     }

@@ -14,34 +14,35 @@ use flat::body::list_of;
 use model::Jump;
 use model::Point;
 use model::Step;
-use state::Volatile;
 ghost use mathlib.Core.Path.{_≡_};
 ghost use mathlib.Core.Bool.{true};
-ghost use Prim.Native.Nat.{suc, _+_, _≤_, _<_};
+ghost use mathlib.Core.List.{List};
+ghost use Prim.Native.Nat.{ℕ, suc, _+_, _≤_, _<_};
 ghost use Rattle.words.specs.Saturating.{max32};
 ghost use Rattle.model.specs.Lists.{present};
 ghost use Rattle.image.specs.Sized.{Sized};
 ghost use Rattle.state.specs.Meaning.{Sound};
 ghost use Rattle.exec.specs.Lists.{FlatWords, stepIn};
 ghost use Rattle.exec.specs.Paid.{reach};
+ghost use Rattle.exec.specs.Done.{stepDone, dryRunNow, runDone};
 ghost use Rattle.exec.specs.DryRuns.{DryStepsIn, Queues, Moved, DryTaken, DryTurned, DryFinishes, DryReady, RunsDry};
 
 fn exec_dry(
     snapshot: &[u32],
     image: &[u32],
-    v: Volatile,
+    v: &mut [u32],
     job: Job,
     sp: Point,
     step: Step,
 ) -> StepResult
-    requires { ⌜ Sized (now image) × Sound v × (job .dry ≡ true) × (suc (sp .place) + reach step ≤ max32) ⌝ }
-    ensures { λ r. ⌜ DryStepsIn (now (snapshot .entry)) (now (image .entry)) job v sp step r ⌝ }
+    requires { ⌜ Sized (now image) × Sound (now v) × (job .dry ≡ true) × (suc (sp .place) + reach step ≤ max32) ⌝ }
+    ensures { λ r. ⌜ DryStepsIn (now (snapshot .entry)) (now (image .entry)) job (now (v .entry)) sp step (stepDone (now (v .exit)) r) ⌝ }
 {
     match step {
         Step::Primitive(i) => steps::primitive(snapshot, image, v, job, sp, i),
-        Step::Wait(_) => steps::goes_on(v, advance(sp, 0)),
+        Step::Wait(_) => steps::goes_on(advance(sp, 0)),
         Step::Branch(c, t, n) => steps::branch(snapshot, image, v, job, sp, c, t, n),
-        Step::After(_) => steps::goes_on(v, advance(sp, 0)),
+        Step::After(_) => steps::goes_on(advance(sp, 0)),
         Step::Fail => steps::fail(v, job, sp),
     }
 }
@@ -49,7 +50,7 @@ fn exec_dry(
 // The body of an after goes behind all that is queued.
 fn queue_body(run: DryRun, step: Step) -> DryRun
     requires { ⌜ (run .first ≤ run .queued) × (run .queued < 256) × (suc (run .point .place) ≤ max32) ⌝ }
-    ensures { λ r. ⌜ Queues run step r ⌝ }
+    ensures { λ r. ⌜ ((w : List ℕ) → Queues (dryRunNow w run) step (dryRunNow w r)) ⌝ }
 {
     match step {
         Step::After(_) => {
@@ -77,7 +78,7 @@ fn has_step(part: &[u32], own: usize, point: Point) -> bool
 // Where a list is at its end, the next body that has a step is begun.
 fn next_list(part: &[u32], own: usize, run: DryRun) -> DryRun
     requires { ⌜ (run .first ≤ run .queued) × (run .queued ≤ 256) ⌝ }
-    ensures { λ r. ⌜ Moved (now (part .entry)) own run r ⌝ }
+    ensures { λ r. ⌜ ((w : List ℕ) → Moved (now (part .entry)) own (dryRunNow w run) (dryRunNow w r)) ⌝ }
 {
     let mut r = run;
     while r.first < r.queued {
@@ -100,15 +101,13 @@ fn next_list(part: &[u32], own: usize, run: DryRun) -> DryRun
 
 fn take_dry(run: DryRun, effects: &mut [u32], d: StepResult) -> DryRun
     requires { ⌜ run .count < max32 ⌝ }
-    ensures { λ r. ⌜ DryTaken run (now (effects .entry)) d r (now (effects .exit)) ⌝ }
+    ensures { λ r. ⌜ ((v w : List ℕ) → DryTaken (dryRunNow v run) (now (effects .entry)) (stepDone w d) (dryRunNow w r) (now (effects .exit))) ⌝ }
 {
     let effect = d.effect;
     let count = put_effect(effects, run.count, effect);
     let reason = first_reason(run.reason, d.reason);
-    let vol = d.vol;
     let next = d.next;
     let mut r = run;
-    r.vol = vol;
     r.count = count;
     r.reason = reason;
     match next {
@@ -127,16 +126,16 @@ fn turn_dry(
     part: &[u32],
     own: usize,
     effects: &mut [u32],
+    v: &mut [u32],
     run: DryRun,
     job: Job,
 ) -> DryRun
     requires { ⌜ Sized (now image) × FlatWords (now part) own × (job .dry ≡ true) ⌝ }
-    requires { ⌜ Sound (run .vol) × (run .count < max32) × (run .first ≤ run .queued) × (run .queued < 256) ⌝ }
-    ensures { λ r. ⌜ DryTurned (now (snapshot .entry)) (now (image .entry)) (now (part .entry)) own job run (now (effects .entry)) r (now (effects .exit)) ⌝ }
+    requires { ⌜ Sound (now v) × (run .count < max32) × (run .first ≤ run .queued) × (run .queued < 256) ⌝ }
+    ensures { λ r. ⌜ DryTurned (now (snapshot .entry)) (now (image .entry)) (now (part .entry)) own job (dryRunNow (now (v .entry)) run) (now (effects .entry)) (dryRunNow (now (v .exit)) r) (now (effects .exit)) ⌝ }
 {
     let r = next_list(part, own, run);
     let point = r.point;
-    let vol = r.vol;
     let list = list_of(part, own, point.list);
     match step_at(list, point.place) {
         MaybeStep::Nothing => {
@@ -145,7 +144,7 @@ fn turn_dry(
             q
         }
         MaybeStep::One(step) => {
-            let d = exec_dry(snapshot, image, vol, job, point, step);
+            let d = exec_dry(snapshot, image, v, job, point, step);
             let q = queue_body(r, step);
             take_dry(q, effects, d)
         }
@@ -155,12 +154,10 @@ fn turn_dry(
 // The end of a run: where a step is left and no budget for it, the reason is `EffectBudget`.
 fn finish_dry(part: &[u32], own: usize, run: DryRun) -> RunResult
     requires { ⌜ (run .first ≤ run .queued) × (run .queued ≤ 256) ⌝ }
-    ensures { λ r. ⌜ DryFinishes (now (part .entry)) own run r ⌝ }
+    ensures { λ r. ⌜ ((w : List ℕ) → DryFinishes (now (part .entry)) own (dryRunNow w run) (runDone w r)) ⌝ }
 {
-    let vol = run.vol;
     if run.ended {
         return RunResult {
-            vol,
             reason: run.reason,
             count: run.count,
         };
@@ -169,13 +166,11 @@ fn finish_dry(part: &[u32], own: usize, run: DryRun) -> RunResult
     let point = r.point;
     if has_step(part, own, point) {
         return RunResult {
-            vol,
             reason: first_reason(run.reason, state::reasons::EFFECT_BUDGET),
             count: run.count,
         };
     }
     RunResult {
-        vol,
         reason: run.reason,
         count: run.count,
     }
@@ -188,18 +183,17 @@ pub fn run_steps_dry(
     part: &[u32],
     own: usize,
     effects: &mut [u32],
-    v: Volatile,
+    v: &mut [u32],
     job: Job,
     from: Point,
     budget: u32,
     count: u32,
 ) -> RunResult
     requires { ⌜ Sized (now image) × FlatWords (now part) own × (job .dry ≡ true) ⌝ }
-    requires { ⌜ DryReady v budget count ⌝ }
-    ensures { λ r. ⌜ RunsDry (now (snapshot .entry)) (now (image .entry)) (now (part .entry)) own job v from budget count (now (effects .entry)) r (now (effects .exit)) ⌝ }
+    requires { ⌜ DryReady (now v) budget count ⌝ }
+    ensures { λ r. ⌜ RunsDry (now (snapshot .entry)) (now (image .entry)) (now (part .entry)) own job (now (v .entry)) from budget count (now (effects .entry)) (runDone (now (v .exit)) r) (now (effects .exit)) ⌝ }
 {
     let mut run = DryRun {
-        vol: v,
         point: from,
         bodies: [0; 256],
         first: 0,
@@ -214,7 +208,7 @@ pub fn run_steps_dry(
             return finish_dry(part, own, run);
         }
         left -= 1;
-        run = turn_dry(snapshot, image, part, own, effects, run, job);
+        run = turn_dry(snapshot, image, part, own, effects, v, run, job);
     }
     finish_dry(part, own, run)
 }

@@ -1,5 +1,5 @@
-// The step runner: exec.rs. A function takes the state by value and returns it; a contract is one equation with a definition of
-// the specification, on what the state means.
+// The step runner: exec.rs. A function changes the words of the state in place, and returns what else came of it; a contract is one
+// equation with a definition of the specification, on what the words mean before it and after it.
 pub mod actions;
 mod answers;
 pub mod dry;
@@ -16,7 +16,6 @@ mod variables;
 use model::Effect;
 use model::Point;
 use model::Step;
-use state::Volatile;
 
 // What a run knows of its rule: name, place in the image, hold_hcl; and the trigger for the outcome.
 pub struct Job {
@@ -33,9 +32,8 @@ pub enum MaybeEffect {
     One(Effect),
 }
 
-// What an action did: the state after it, without the continuations of a rule that it disabled, its effect, the reason that it notes.
+// What came of an action: its effect, the reason that it notes.
 pub struct PrimResult {
-    pub vol: Volatile,
     pub effect: MaybeEffect,
     pub reason: u32,
 }
@@ -46,9 +44,8 @@ pub enum Next {
     At(Point),
 }
 
-// What one paid step did.
+// What came of one paid step.
 pub struct StepResult {
-    pub vol: Volatile,
     pub effect: MaybeEffect,
     pub reason: u32,
     pub next: Next,
@@ -62,7 +59,6 @@ pub enum MaybeStep {
 
 // A run under way: `count` effects are written, or would be.
 pub struct Run {
-    pub vol: Volatile,
     pub point: Point,
     pub reason: u32,
     pub count: u32,
@@ -71,14 +67,12 @@ pub struct Run {
 
 // What came of a run.
 pub struct RunResult {
-    pub vol: Volatile,
     pub reason: u32,
     pub count: u32,
 }
 
 // A dry run under way. `bodies` has, from `first` up to `queued`, the lists of the bodies that are still to come.
 pub struct DryRun {
-    pub vol: Volatile,
     pub point: Point,
     pub bodies: [u32; 256],
     pub first: usize,

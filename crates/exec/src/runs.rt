@@ -10,14 +10,15 @@ use crate::lists::step_at;
 use crate::steps::exec;
 use flat::body::list_of;
 use model::Point;
-use state::Volatile;
 ghost use mathlib.Core.Path.{_≡_};
-ghost use Prim.Native.Nat.{_<_};
+ghost use mathlib.Core.List.{List};
+ghost use Prim.Native.Nat.{ℕ, _<_};
 ghost use Rattle.words.specs.Saturating.{max32, max64};
 ghost use Rattle.model.specs.Exec.{firstReason};
 ghost use Rattle.image.specs.Sized.{Sized};
-ghost use Rattle.state.specs.Meaning.{Sound};
+ghost use Rattle.state.specs.Meaning.{Sound, accepted};
 ghost use Rattle.exec.specs.Lists.{FlatWords, NearWords};
+ghost use Rattle.exec.specs.Done.{stepDone, runNow, runDone};
 ghost use Rattle.exec.specs.Runs.{Taken, Turned, Finishes, Ready, Runs};
 
 // `note_partial`: the first reason stays.
@@ -30,24 +31,21 @@ pub fn first_reason(a: u32, b: u32) -> u32
 // What a paid step did is taken over, and its effect written.
 fn take_step(run: Run, effects: &mut [u32], d: StepResult) -> Run
     requires { ⌜ run .count < max32 ⌝ }
-    ensures { λ r. ⌜ Taken run (now (effects .entry)) d r (now (effects .exit)) ⌝ }
+    ensures { λ r. ⌜ ((v w : List ℕ) → Taken (runNow v run) (now (effects .entry)) (stepDone w d) (runNow w r) (now (effects .exit))) ⌝ }
 {
     let effect = d.effect;
     let count = put_effect(effects, run.count, effect);
     let reason = first_reason(run.reason, d.reason);
-    let vol = d.vol;
     let next = d.next;
     let point = run.point;
     match next {
         Next::Ends => Run {
-            vol,
             point,
             reason,
             count,
             ended: true,
         },
         Next::At(p) => Run {
-            vol,
             point: p,
             reason,
             count,
@@ -62,16 +60,16 @@ fn turn(
     image: &[u32],
     list: &[u32],
     effects: &mut [u32],
+    v: &mut [u32],
     run: Run,
     job: Job,
     left: u32,
 ) -> Run
     requires { ⌜ Sized (now image) × NearWords (now list) ⌝ }
-    requires { ⌜ Sound (run .vol) × (run .vol .accepted < max64) × (run .count < max32) ⌝ }
-    ensures { λ r. ⌜ Turned (now (snapshot .entry)) (now (image .entry)) (now (list .entry)) job left run (now (effects .entry)) r (now (effects .exit)) ⌝ }
+    requires { ⌜ Sound (now v) × (accepted (now v) < max64) × (run .count < max32) ⌝ }
+    ensures { λ r. ⌜ Turned (now (snapshot .entry)) (now (image .entry)) (now (list .entry)) job left (runNow (now (v .entry)) run) (now (effects .entry)) (runNow (now (v .exit)) r) (now (effects .exit)) ⌝ }
 {
     let point = run.point;
-    let vol = run.vol;
     match step_at(list, point.place) {
         MaybeStep::Nothing => {
             let mut r = run;
@@ -79,7 +77,7 @@ fn turn(
             r
         }
         MaybeStep::One(step) => {
-            let d = exec(snapshot, image, vol, job, left, point, step);
+            let d = exec(snapshot, image, v, job, left, point, step);
             take_step(run, effects, d)
         }
     }
@@ -87,26 +85,21 @@ fn turn(
 
 // The end of a run: where a step is left and no budget for it, the reason is `EffectBudget`.
 fn finish(list: &[u32], run: Run) -> RunResult
-    requires { ⌜ Sound (run .vol) ⌝ }
-    ensures { λ r. ⌜ Finishes (now (list .entry)) run r ⌝ }
+    ensures { λ r. ⌜ ((w : List ℕ) → Finishes (now (list .entry)) (runNow w run) (runDone w r)) ⌝ }
 {
-    let vol = run.vol;
     let point = run.point;
     if run.ended {
         return RunResult {
-            vol,
             reason: run.reason,
             count: run.count,
         };
     }
     match step_at(list, point.place) {
         MaybeStep::Nothing => RunResult {
-            vol,
             reason: run.reason,
             count: run.count,
         },
         MaybeStep::One(_) => RunResult {
-            vol,
             reason: first_reason(run.reason, state::reasons::EFFECT_BUDGET),
             count: run.count,
         },
@@ -119,19 +112,18 @@ pub fn run_steps(
     part: &[u32],
     own: usize,
     effects: &mut [u32],
-    v: Volatile,
+    v: &mut [u32],
     job: Job,
     from: Point,
     budget: u32,
     count: u32,
 ) -> RunResult
     requires { ⌜ Sized (now image) × FlatWords (now part) own ⌝ }
-    requires { ⌜ Ready v budget count ⌝ }
-    ensures { λ r. ⌜ Runs (now (snapshot .entry)) (now (image .entry)) (now (part .entry)) own job v from budget count (now (effects .entry)) r (now (effects .exit)) ⌝ }
+    requires { ⌜ Ready (now v) budget count ⌝ }
+    ensures { λ r. ⌜ Runs (now (snapshot .entry)) (now (image .entry)) (now (part .entry)) own job (now (v .entry)) from budget count (now (effects .entry)) (runDone (now (v .exit)) r) (now (effects .exit)) ⌝ }
 {
     let list = list_of(part, own, from.list);
     let mut run = Run {
-        vol: v,
         point: from,
         reason: 0,
         count,
@@ -143,7 +135,7 @@ pub fn run_steps(
             return finish(list, run);
         }
         left -= 1;
-        run = turn(snapshot, image, list, effects, run, job, left);
+        run = turn(snapshot, image, list, effects, v, run, job, left);
     }
     finish(list, run)
 }

@@ -7,7 +7,6 @@ use crate::answers::no_effect;
 use eval::Number;
 use eval::values::value_at;
 use model::VarValue;
-use state::Volatile;
 use state::variables::VarFound;
 ghost use mathlib.Core.List.{List};
 ghost use mathlib.Core.Option.{some};
@@ -16,36 +15,37 @@ ghost use Rattle.model.specs.declared.Action.the-variants.{VarSet, VarAdd, Pane
 ghost use Rattle.image.specs.Sized.{Sized};
 ghost use Rattle.state.specs.Meaning.{Sound};
 ghost use Rattle.state.specs.Named.{foundValue};
+ghost use Rattle.exec.specs.Done.{actionDone};
 ghost use Rattle.exec.specs.Results.{PerformsIn, Assigns, Adds, Selects};
 
 const PANEL_SELECT: u32 = 7;
 
-fn assign(v: Volatile, job: Job, name: u32, value: VarValue) -> PrimResult
-    requires { ⌜ Sound v ⌝ }
-    ensures { λ r. ⌜ Assigns job v name value r ⌝ }
+fn assign(v: &mut [u32], job: Job, name: u32, value: VarValue) -> PrimResult
+    requires { ⌜ Sound (now v) ⌝ }
+    ensures { λ r. ⌜ Assigns job (now (v .entry)) name value (actionDone (now (v .exit)) r) ⌝ }
 {
     if job.dry {
-        return no_effect(v);
+        return no_effect();
     }
     if state::variables::lacks_room(v, name) {
         return fails(v);
     }
-    let w = state::variables::set_variable(v, name, value);
-    no_effect(w)
+    state::variables::set_variable(v, name, value);
+    no_effect()
 }
 
 // A text of more bytes than the limit is refused, in a dry run too.
 pub fn var_set(
     image: &[u32],
-    v: Volatile,
+    v: &mut [u32],
     job: Job,
     name: u32,
     tag: u32,
     low: u32,
     high: u32,
 ) -> PrimResult
-    requires { ⌜ Sized (now image) × Sound v ⌝ }
-    ensures { λ r. ⌜ ((snapshot : List ℕ) → PerformsIn snapshot (now (image .entry)) job v (VarSet name tag low high) r) ⌝ }
+    requires { ⌜ Sized (now image) × Sound (now v) ⌝ }
+    ensures { λ r. ⌜ ((snapshot : List ℕ) → PerformsIn snapshot (now (image .entry)) job (now (v .entry)) (VarSet name tag low high) (actionDone (now (v .exit)) r)) ⌝ }
 {
     if tag == 1 {
         if image::layout::text_limit(image) < high {
@@ -57,9 +57,9 @@ pub fn var_set(
 }
 
 // A number is added to what a variable holds: to 0 where there is none, to no text.
-fn add_to(v: Volatile, job: Job, name: u32, step: i64, held: VarFound) -> PrimResult
-    requires { ⌜ Sound v ⌝ }
-    ensures { λ r. ⌜ Adds job v name (some step) (foundValue held) r ⌝ }
+fn add_to(v: &mut [u32], job: Job, name: u32, step: i64, held: VarFound) -> PrimResult
+    requires { ⌜ Sound (now v) ⌝ }
+    ensures { λ r. ⌜ Adds job (now (v .entry)) name (some step) (foundValue held) (actionDone (now (v .exit)) r) ⌝ }
 {
     match held {
         VarFound::Absent => assign(v, job, name, VarValue::Int(words::bits_of(step))),
@@ -76,16 +76,19 @@ fn add_to(v: Volatile, job: Job, name: u32, step: i64, held: VarFound) -> PrimRe
 pub fn var_add(
     snapshot: &[u32],
     image: &[u32],
-    v: Volatile,
+    v: &mut [u32],
     job: Job,
     name: u32,
     delta: u32,
 ) -> PrimResult
-    requires { ⌜ Sized (now image) × Sound v ⌝ }
-    ensures { λ r. ⌜ PerformsIn (now (snapshot .entry)) (now (image .entry)) job v (VarAdd name delta) r ⌝ }
+    requires { ⌜ Sized (now image) × Sound (now v) ⌝ }
+    ensures { λ r. ⌜ PerformsIn (now (snapshot .entry)) (now (image .entry)) job (now (v .entry)) (VarAdd name delta) (actionDone (now (v .exit)) r) ⌝ }
 {
     match value_at(snapshot, image, v, delta) {
-        Number::Value(step) => add_to(v, job, name, step, state::variables::variable(v, name)),
+        Number::Value(step) => {
+            let held = state::variables::variable(v, name);
+            add_to(v, job, name, step, held)
+        }
         Number::Unevaluable => fails(v),
     }
 }
@@ -93,18 +96,18 @@ pub fn var_add(
 // From 0 to the group limit.
 fn select(
     image: &[u32],
-    v: Volatile,
+    v: &mut [u32],
     job: Job,
     adapter: u32,
     group: u32,
     selected: i64,
 ) -> PrimResult
-    requires { ⌜ Sized (now image) × Sound v ⌝ }
-    ensures { λ r. ⌜ Selects (now (image .entry)) job v adapter group (some selected) r ⌝ }
+    requires { ⌜ Sized (now image) × Sound (now v) ⌝ }
+    ensures { λ r. ⌜ Selects (now (image .entry)) job (now (v .entry)) adapter group (some selected) (actionDone (now (v .exit)) r) ⌝ }
 {
     let bits = words::bits_of(selected);
     if bits <= image::layout::group_limit(image) as u64 {
-        return emits(v, PANEL_SELECT, adapter, group, bits as u32, 0);
+        return emits(PANEL_SELECT, adapter, group, bits as u32, 0);
     }
     fails(v)
 }
@@ -112,14 +115,14 @@ fn select(
 pub fn panel_select(
     snapshot: &[u32],
     image: &[u32],
-    v: Volatile,
+    v: &mut [u32],
     job: Job,
     adapter: u32,
     group: u32,
     selected: u32,
 ) -> PrimResult
-    requires { ⌜ Sized (now image) × Sound v ⌝ }
-    ensures { λ r. ⌜ PerformsIn (now (snapshot .entry)) (now (image .entry)) job v (PanelSelect adapter group selected) r ⌝ }
+    requires { ⌜ Sized (now image) × Sound (now v) ⌝ }
+    ensures { λ r. ⌜ PerformsIn (now (snapshot .entry)) (now (image .entry)) job (now (v .entry)) (PanelSelect adapter group selected) (actionDone (now (v .exit)) r) ⌝ }
 {
     match value_at(snapshot, image, v, selected) {
         Number::Value(n) => select(image, v, job, adapter, group, n),

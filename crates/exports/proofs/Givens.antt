@@ -2,7 +2,7 @@
 use mathlib.Core.Path.{_≡_, refl, sym, ap, _∙_}
 use mathlib.Core.Bool.{Bool, true, false, _&&_}
 use mathlib.Core.List.{List}
-use Prim.Native.Nat.{ℕ, _≤_}
+use Prim.Native.Nat.{ℕ, _+_, _≤_}
 use native.Mathlib.Omega.{arith}
 use lib.Dec.{leb, eqb}
 use lib.ListN.{length, getD}
@@ -21,10 +21,11 @@ use Rattle.model.proofs.Bools.{both}
 use Rattle.model.proofs.PartsLaws.{variable-laws}
 use Rattle.image.specs.Sized.{Sized}
 use Rattle.image.proofs.Accepted.{sized, tables-accepted, few-accepted, rules-few}
-use Rattle.store.specs.Places.{rowAt, tableAt}
+use Rattle.rows.specs.Places.{rowAt, tableAt}
+use Rattle.store.specs.Places.{variablesPlace}
 use Rattle.store.specs.Volatile.{changingIn, Readable}
 use Rattle.store.proofs.Parts.{variables-at, good-changing, table-long}
-use Rattle.store.proofs.Reading.{word-is}
+use Rattle.rows.proofs.Reading.{word-is}
 use Rattle.exports.specs.Answers.{readable, given}
 
 -- THE STORE -----------------------------------------------------------------------------------------------------------------------
@@ -45,16 +46,16 @@ module _ (w : List ℕ) (a : Bool) (e : a ≡ eqb (length w) 16384 && partsFit (
     fit : partsFit (layout .parts) w ≡ true
     fit = both (eqb (length w) 16384) (partsFit (layout .parts) w) (sym e ∙ t) .1
 
-    pub few-variables : (n : ℕ) → n ≡ getD w 12805 0 → n ≤ 16
+    pub few-variables : (n : ℕ) → n ≡ getD w variablesPlace 0 → n ≤ 16
     few-variables n h =
-        let l = ap length (variables-at w) ∙ table-long variableRow variable-laws (rowAt any w 12805) w 12806 in
-        omega (arith, l, word-is w 12805 n h, few-good (changingIn w) (good-changing w fit))
+        let l = ap length (variables-at w) ∙ table-long variableRow variable-laws (rowAt any w variablesPlace) w (variablesPlace + 1) in
+        omega (arith, l, word-is w variablesPlace n h, few-good (changingIn w) (good-changing w fit))
 
-    pub texts-decide : (n : ℕ) (b : Bool) → n ≡ getD w 12805 0 → b ≡ all textShort (tableAt variableRow n w 12806) → b ≡ readable w
+    pub texts-decide : (n : ℕ) (b : Bool) → n ≡ getD w variablesPlace 0 → b ≡ all textShort (tableAt variableRow n w (variablesPlace + 1)) → b ≡ readable w
     unfolding readable
     texts-decide n b h x =
         rw (sym e ∙ t)
-        (x ∙ ap (λ (m : ℕ). all textShort (tableAt variableRow m w 12806)) (word-is w 12805 n h) ∙ ap (all textShort) (sym (variables-at w)))
+        (x ∙ ap (λ (m : ℕ). all textShort (tableAt variableRow m w (variablesPlace + 1))) (word-is w variablesPlace n h) ∙ ap (all textShort) (sym (variables-at w)))
 
   pub not-shaped : a ≡ false → false ≡ readable w
   unfolding readable

@@ -17,7 +17,6 @@ use Rattle.model.specs.Eval.{conditionAt, valueAt}
 use Rattle.model.specs.State as model
 use Rattle.model.specs.Steps.{FlatStep}
 use Rattle.state.specs.Meaning.{AllNumbered, meaning}
-use Rattle.state.specs.declared.Volatile.{Volatile}
 use Rattle.store.specs.Volatile.{changingIn}
 use Rattle.eval.specs.Answers.{numberOf, verdictOf, envOf}
 use Rattle.eval.specs.Equals.{ConditionAt, ValueAt}
@@ -45,7 +44,7 @@ module _ (snapshot image store : List ℕ) (i : ℕ) where
   unfolding valueAnswer
   no-value g = rw g refl
 
-  module _ (g : given snapshot image store ≡ true) (v : Volatile) (m : AllNumbered v (volatileIn (sizeOf image rules) (changingIn store))) where
+  module _ (g : given snapshot image store ≡ true) (v : List ℕ) (m : AllNumbered v (volatileIn (sizeOf image rules) (changingIn store))) where
     pub condition-told : (r : Verdict) (n : ℕ) → ConditionAt snapshot image (meaning v .rest) i r → n ≡ verdictCode (verdictOf r) → n ≡ conditionAnswer snapshot image store i
     unfolding conditionAnswer envIn restIn setOf
     condition-told r n h e =

@@ -1,18 +1,18 @@
 // Conditions and values of an image, by their place in its tables. What is given is checked first: nothing is asked of the caller.
 use eval::Number;
 use eval::Verdict;
-use state::Volatile;
+use state::place::WORDS;
+use store::table::VARIABLES;
 ghost use mathlib.Core.Path.{_≡_};
 ghost use mathlib.Core.Bool.{true};
+ghost use lib.ListN.{length};
 ghost use Rattle.eval.specs.Answers.{verdictOf};
 ghost use Rattle.exports.specs.Answers as answers;
 ghost use Rattle.model.specs.Image.{sizeOf};
 ghost use Rattle.model.specs.Rows.{rules};
 ghost use Rattle.model.specs.Store.{volatileIn};
-ghost use Rattle.state.specs.Meaning.{AllNumbered};
+ghost use Rattle.state.specs.Meaning.{AllNumbered, stateWords};
 ghost use Rattle.store.specs.Volatile.{changingIn};
-
-const VARIABLES: usize = 12805;
 
 // Whether the words of a store fit its layout, and its texts are numbers of one word.
 fn readable(store: &[u32]) -> bool
@@ -39,12 +39,12 @@ fn given(snapshot: &[u32], image: &[u32], store: &[u32]) -> bool
 }
 
 // What the store keeps, for the rules of the image.
-fn state_in(snapshot: &[u32], image: &[u32], store: &[u32]) -> Volatile
-    requires { ⌜ answers.given (now snapshot) (now image) (now store) ≡ true ⌝ }
-    ensures { λ r. ⌜ AllNumbered r (volatileIn (sizeOf (now (image .entry)) rules) (changingIn (now (store .entry)))) ⌝ }
+fn begin(snapshot: &[u32], image: &[u32], store: &[u32], v: &mut [u32])
+    requires { ⌜ (answers.given (now snapshot) (now image) (now store) ≡ true) × (length (now v) ≡ stateWords) ⌝ }
+    ensures { λ _. ⌜ AllNumbered (now (v .exit)) (volatileIn (sizeOf (now (image .entry)) rules) (changingIn (now (store .entry)))) ⌝ }
 {
     let count = image::layout::size_of(image, 0) as usize;
-    store::volatile::volatile_at(store, count)
+    store::volatile::begin(store, count, v);
 }
 
 fn verdict_code(v: Verdict) -> u32
@@ -71,8 +71,9 @@ pub extern "C" fn cerambiu_condition(snapshot: &[u32], image: &[u32], store: &[u
     if !given(snapshot, image, store) {
         return 3;
     }
-    let v = state_in(snapshot, image, store);
-    verdict_code(eval::conditions::condition_at(snapshot, image, v, i))
+    let mut v = [0u32; WORDS];
+    begin(snapshot, image, store, &mut v);
+    verdict_code(eval::conditions::condition_at(snapshot, image, &v, i))
 }
 
 // What value i of the image is.
@@ -90,8 +91,9 @@ pub extern "C" fn cerambiu_value(
         put_number(answer, 3, 0);
         return;
     }
-    let v = state_in(snapshot, image, store);
-    match eval::values::value_at(snapshot, image, v, i) {
+    let mut v = [0u32; WORDS];
+    begin(snapshot, image, store, &mut v);
+    match eval::values::value_at(snapshot, image, &v, i) {
         Number::Value(z) => put_number(answer, 1, words::bits_of(z)),
         Number::Unevaluable => put_number(answer, 2, 0),
     }

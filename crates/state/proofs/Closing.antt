@@ -1,6 +1,6 @@
 -- A list that is closed up in place over the elements that do not pass a test: what stands after i were looked at and j kept.
 -- Assumes nothing.
-use Prim.Native.Nat.{ℕ, zero, suc, _+_, _≤_, _<_}
+use Prim.Native.Nat.{ℕ, _+_, _≤_, _<_}
 use native.Mathlib.Numerals.{add-one}
 use native.Mathlib.Nat.{add-zero}
 use native.Mathlib.Omega.{arith}
@@ -77,7 +77,3 @@ module _ {A : Type 0} where
         counted = sym (length-take-le j a room) ∙ rw all at (ap length (inv .kept));
         fewer = simp length-take-le (omega arith);
       }
-
-  -- no more are kept than there were
-  pub kept-within : {p : A → Bool} (n : ℕ) (a : List A) {b : List A} {m : ℕ} → Keeps p (take n a) b m → n ≤ length a → m ≤ n
-  kept-within n a k h = let e = length-take-le n a h in omega (arith, k .fewer)

@@ -1,32 +1,35 @@
 -- One operation behind another: what the second means of what the first means. Assumes nothing.
 use Prim.Native.Nat.{ℕ, _+_}
-use mathlib.Core.Bool.{Bool, true, false}
-use mathlib.Core.Path.{_≡_, sym, ap, _∙_}
+use mathlib.Core.Bool.{Bool, true, false, not}
+use mathlib.Core.List.{List}
+use mathlib.Core.Path.{_≡_, refl, sym, ap, _∙_}
 use native.Mathlib.Omega.{arith}
 use lib.ListN.{set}
 use Rattle.model.specs.Calls.{flipped}
 use Rattle.model.specs.State as model
 use Rattle.model.specs.State.{withRest, withEnabled, strike}
-use Rattle.state.specs.declared.Volatile.{Volatile}
-use Rattle.state.specs.Meaning.{Means, meaning}
+use Rattle.state.specs.Meaning.{Means, meaning, base, accepted}
 
-pub follows : (f : model.Volatile → model.Volatile) (w r : Volatile) (base : ℕ) (s : model.Volatile) → Means w base s → Means r (w .«next_seq») (f (meaning w)) → Means r base (f s)
-follows f w r base s first second = record { says = second .says ∙ ap f (first .says); sound = second .sound; based = second .based ∙ first .based }
+pub follows : (f : model.Volatile → model.Volatile) (w r : List ℕ) (b : ℕ) (s : model.Volatile) → Means w b s → Means r (base w) (f (meaning w)) → Means r b (f s)
+follows f w r b s first second = record { says = second .says ∙ ap f (first .says); sound = second .sound; based = second .based ∙ first .based }
+
+pub next-is : (w : List ℕ) → base w + accepted w ≡ meaning w .next
+unfolding meaning base accepted
+next-is w = refl
 
 -- how many records are accepted, by the next number
-pub accepted-by-next : (r : Volatile) (base : ℕ) (s : model.Volatile) → Means r base s → base + r .accepted ≡ s .next
-unfolding meaning
-accepted-by-next r base s m = ap (λ (n : ℕ). n + r .accepted) (sym (m .based)) ∙ ap (λ (x : model.Volatile). x .next) (m .says)
+pub accepted-by-next : (w : List ℕ) (b : ℕ) (s : model.Volatile) → Means w b s → b + accepted w ≡ s .next
+accepted-by-next w b s m = ap (λ (n : ℕ). n + accepted w) (sym (m .based)) ∙ next-is w ∙ ap (λ (x : model.Volatile). x .next) (m .says)
 
 -- ---- a rule's bit
 abbrev bitSet : ℕ → Bool → model.Volatile → model.Volatile
 bitSet i on s = withRest (withEnabled (set (s .rest .enabled) i on) (s .rest)) s
 
-module _ (rule i base : ℕ) (s : model.Volatile) (w : Volatile) where
-  pub flips-on : (on : Bool) → on ≡ true → Means w base (bitSet i on s) → Means w base (flipped rule i on s)
+module _ (rule i b : ℕ) (s : model.Volatile) (w : List ℕ) where
+  pub flips-on : (on : Bool) → not on ≡ false → Means w b (bitSet i on s) → Means w b (flipped rule i on s)
   flips-on true e m = m
   flips-on false e m = let z : _≡_ {A = ℕ} 0 1 = cc in absurd (omega arith)
 
-  pub flips-off : (r : Volatile) (on : Bool) → on ≡ false → Means w base (bitSet i on s) → Means r (w .«next_seq») (strike rule (meaning w)) → Means r base (flipped rule i on s)
-  flips-off r false e m k = follows (strike rule) w r base (bitSet i false s) m k
+  pub flips-off : (r : List ℕ) (on : Bool) → not on ≡ true → Means w b (bitSet i on s) → Means r (base w) (strike rule (meaning w)) → Means r b (flipped rule i on s)
+  flips-off r false e m k = follows (strike rule) w r b (bitSet i false s) m k
   flips-off r true e m k = let z : _≡_ {A = ℕ} 0 1 = cc in absurd (omega arith)

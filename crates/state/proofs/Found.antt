@@ -3,18 +3,14 @@ use Prim.Native.Nat.{ℕ, zero, suc, _+_, _≤_, _<_}
 use native.Mathlib.Numerals.{add-one}
 use native.Mathlib.Omega.{arith}
 use mathlib.Core.Bool.{Bool, true, false, cond}
-use mathlib.Core.Path.{_≡_, refl, sym, ap, _∙_}
+use mathlib.Core.Path.{_≡_, refl, _∙_}
 use mathlib.Core.List.{List, [], _∷_, _++_}
 use mathlib.Core.Option.{Option, none, some}
-use lib.Dec.{eqb, ltb}
-use lib.ListN.{length, take, drop, getD, set, drop-of-length-le}
-use lib.Seq.{drop-cons, take-all, take-take, take-suc, getD-take, length-take-le, set-split}
+use lib.Dec.{ltb}
+use lib.ListN.{length, take, drop, getD}
+use lib.Seq.{drop-cons, take-all, take-take, take-suc, getD-take, length-take-le}
 use borrow.Author.Tests.{ltb-true, ltb-false}
 use Rattle.model.specs.Lists.{find, present}
-use Rattle.model.specs.State.{putVar}
-use Rattle.model.specs.declared.VarValue.{VarValue}
-use Rattle.model.specs.declared.Variable.{Variable}
-use Rattle.state.specs.Named.{variableHasName}
 use Rattle.state.specs.Tables.{First}
 
 module _ {A : Type 0} where
@@ -78,23 +74,3 @@ module _ {A : Type 0} where
           before = rw (take-take n n l (omega arith), ← all) none-yet;
           passes = λ f b. absurd (omega arith);
         }
-
--- a variable that is set again stays in its place, and a new one goes behind the others
-module _ (name : ℕ) (x : VarValue) where
-  put-past : (i : ℕ) (l : List Variable) → find (variableHasName name) (take i l) ≡ none → putVar name x l ≡ take i l ++ putVar name x (drop i l)
-  put-past zero l e = refl
-  put-past (suc i) [] e = refl
-  put-past (suc i) (y ∷ l) e =
-      passed-over (eqb (y .name) name) y (find (variableHasName name) (take i l)) _ (y ∷ putVar name x l) (y ∷ (take i l ++ putVar name x (drop i l))) e
-      (λ f. ap (λ (r : List Variable). y ∷ r) (put-past i l f))
-
-  module _ (l : List Variable) (i : ℕ) (first : First (variableHasName name) l i) where
-    pub put-again : i < length l → putVar name x l ≡ set l i (record { name = name; value = x })
-    put-again h =
-        let d : Variable = record { name = name; value = x } in
-        put-past i l (first .before) ∙ rw (drop-cons l i d h, first .passes d h, set-split l i d h) refl
-
-    pub put-new : length l ≤ i → putVar name x l ≡ l ++ (record { name = name; value = x } ∷ [])
-    put-new h =
-        let end : drop i l ≡ [] = drop-of-length-le l {i = i} h in
-        put-past i l (first .before) ∙ rw (take-all i l h, end) refl

@@ -2,16 +2,12 @@
 use Prim.Native.Nat.{ℕ, zero, suc, _+_, _≤_, _<_}
 use native.Mathlib.Omega.{arith}
 use mathlib.Core.Bool.{Bool, true, false, cond}
-use mathlib.Core.Path.{_≡_, refl, sym, ap, _∙_}
+use mathlib.Core.Path.{_≡_, refl, ap}
 use mathlib.Core.List.{List, [], _∷_, _++_, map}
-use lib.ListN.{length, take, drop, set, length-map, length-append, take-append-drop}
-use lib.Seq.{take-take, length-take-le, drop-append-le, drop-append-seam}
+use lib.ListN.{length, take, length-map}
 use Rattle.model.specs.Lists.{keep}
 use Rattle.model.specs.declared.Pending.{Pending}
 use Rattle.state.specs.Meaning.{numbered, offsetFrom, Below}
-use Rattle.state.specs.Tables.{Keeps}
-use Rattle.state.proofs.Closing.{keep-append}
-use Rattle.state.proofs.Lists.{joins}
 
 module _ (base : ℕ) where
   pub numbered-length : (k : ℕ) (ps : List Pending) → length (numbered base k ps) ≡ length ps
@@ -60,30 +56,6 @@ module _ (base : ℕ) where
     keep-numbered (suc k) [] = refl
     keep-numbered (suc k) (x ∷ ps) = cond-numbered (p x) x _ (keep p (take k ps)) (keep p ps) (keep-numbered k ps)
 
-    -- the two passes of the code: over the stored records for their count, and over all
-    pub kept-numbered :
-        (stored n : ℕ) (a a₁ a₂ : List Pending) (k m : ℕ) → stored ≤ n → Keeps p (take stored a) a₁ k → Keeps p (take n a) a₂ m →
-        numbered base k (take m a₂) ≡ keep p (numbered base stored (take n a))
-    kept-numbered stored n a a₁ a₂ k m h front all =
-        sym (keep-numbered stored (take n a) ∙ rw (take-take stored n a h, ← front .counted, ← all .holds) refl)
-
-    pub kept-length :
-        (stored n : ℕ) (a a₂ : List Pending) (m : ℕ) → Keeps p (take n a) a₂ m → length (keep p (numbered base stored (take n a))) ≡ m
-    kept-length stored n a a₂ m all =
-        ap length (keep-numbered stored (take n a)) ∙ numbered-length _ (keep p (take n a)) ∙ sym (all .counted)
-
--- of those that pass, the ones among the first records stand in front
-kept-in-front : (p : Pending → Bool) (stored n : ℕ) (a : List Pending) → stored ≤ n → keep p (take n a) ≡ keep p (take stored a) ++ keep p (drop stored (take n a))
-kept-in-front p stored n a h =
-    rw take-take at (sym (ap (keep p) (take-append-drop stored (take n a))) ∙ keep-append p (take stored (take n a)) (drop stored (take n a)))
-
-pub fewer-kept :
-    (p : Pending → Bool) (stored n : ℕ) (a a₁ a₂ : List Pending) (k m : ℕ) → stored ≤ n → Keeps p (take stored a) a₁ k → Keeps p (take n a) a₂ m → k ≤ m
-fewer-kept p stored n a a₁ a₂ k m h front all =
-    let sizes : length (keep p (take n a)) ≡ length (keep p (take stored a)) + length (keep p (drop stored (take n a))) =
-    ap length (kept-in-front p stored n a h) ∙ length-append (keep p (take stored a)) (keep p (drop stored (take n a))) in
-    omega (arith, front .counted, all .counted)
-
 -- ---- offsets below a bound
 pub below-more : (n : ℕ) (ps : List Pending) → Below n ps → Below (n + 1) ps
 below-more n [] b = tt
@@ -100,19 +72,3 @@ below-cond n false p ps h b = b
 pub below-keep : (n : ℕ) (q : Pending → Bool) (ps : List Pending) → Below n ps → Below n (keep q ps)
 below-keep n q [] b = tt
 below-keep n q (p ∷ ps) b = below-cond n (q p) p (keep q ps) (b .0) (below-keep n q ps (b .1))
-
--- one more record is accepted
-pub below-joined :
-    (k n m : ℕ) (ps : List Pending) (p : Pending) → k ≤ n → n < length ps → p .seq ≡ m → Below m (drop k (take n ps)) →
-    Below (m + 1) (drop k (take (n + 1) (set ps n p)))
-below-joined k n m ps p f h e b =
-    let size : length (take n ps) ≡ n = length-take-le n ps (omega arith) in
-    let more : drop k (take (n + 1) (set ps n p)) ≡ drop k (take n ps) ++ (p ∷ []) = ap (drop k) (joins ps n p h) ∙ drop-append-le k (take n ps) (p ∷ []) (omega arith) in
-    rw more (below-append (m + 1) (drop k (take n ps)) (p ∷ []) (below-more m (drop k (take n ps)) b) (omega arith, tt))
-
--- those that pass a test
-pub below-kept :
-    (q : Pending → Bool) (stored n : ℕ) (a a₁ a₂ : List Pending) (k m bound : ℕ) → stored ≤ n → Keeps q (take stored a) a₁ k → Keeps q (take n a) a₂ m →
-    Below bound (drop stored (take n a)) → Below bound (drop k (take m a₂))
-below-kept q stored n a a₁ a₂ k m bound h front all b =
-    rw (all .holds, front .counted, kept-in-front q stored n a h, drop-append-seam) (below-keep bound q (drop stored (take n a)) b)

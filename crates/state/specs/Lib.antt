@@ -1,4 +1,5 @@
 -- What the contracts of `state` cite.
+pub mod Cuts
 pub mod Meaning
 pub mod Tables
 pub mod Pending

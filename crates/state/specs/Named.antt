@@ -1,11 +1,12 @@
 -- Timers, variables and Every slots: what the contracts on them cite.
 use Prim.Native.Nat.{ℕ}
-use mathlib.Core.Bool.{Bool, cond, not, _&&_}
+use mathlib.Core.Bool.{Bool, false, cond, not, _&&_}
+use mathlib.Core.List.{List, [], _∷_}
 use mathlib.Core.Option.{Option, none, some}
 use lib.Dec.{eqb, leb}
-use lib.ListN.{length}
-use Rattle.model.specs.Lists.{present}
-use Rattle.model.specs.State.{Volatile, withRest, addTimer, withVars, varNamed, putVar}
+use lib.ListN.{length, replicate}
+use Rattle.model.specs.Lists.{present, find}
+use Rattle.model.specs.State.{Rest, Volatile, withRest, withEnabled, withLastActivation, withCyclePos, addTimer, withVars, varNamed, putVar}
 use Rattle.model.specs.declared.EverySlot.{EverySlot}
 use Rattle.model.specs.declared.NamedTimer.{NamedTimer}
 use Rattle.model.specs.declared.VarValue.{VarValue}
@@ -45,3 +46,18 @@ assigned name x v = cond (lacksRoom name v) v (withRest (withVars (putVar name x
 abbrev pub foundValue : VarFound → Option VarValue
 foundValue Absent = none
 foundValue (Found x) = some x
+
+-- rows of variables: name, tag, value. A row set again stays in its place
+abbrev pub hasName : ℕ → ℕ × (ℕ × ℕ) → Bool
+hasName name r = eqb (r .0) name
+
+abbrev pub putRow : ℕ → ℕ × (ℕ × ℕ) → List (ℕ × (ℕ × ℕ)) → List (ℕ × (ℕ × ℕ))
+putRow name x [] = x ∷ []
+putRow name x (y ∷ ys) = cond (hasName name y) (x ∷ ys) (y ∷ putRow name x ys)
+
+unfoldable pub assignRow : ℕ → ℕ × (ℕ × ℕ) → List (ℕ × (ℕ × ℕ)) → List (ℕ × (ℕ × ℕ))
+assignRow name x l = cond (not (present (find (hasName name) l)) && leb 16 (length l)) l (putRow name x l)
+
+-- n rules, and nothing is kept of any
+abbrev pub unsetRules : ℕ → Rest → Rest
+unsetRules n s = withEnabled (replicate n false) (withLastActivation (replicate n none) (withCyclePos (replicate n none) s))

@@ -1,65 +1,52 @@
 // The sequence numbers at the end of a call.
-use crate::Volatile;
-use model::Pending;
+use crate::place;
+use rows::PENDING_WORDS;
 ghost use mathlib.Core.Bool.{true};
 ghost use mathlib.Core.Path.{_≡_};
 ghost use Prim.Native.Nat.{_+_, _≤_};
 ghost use lib.Dec.{leb};
-ghost use lib.ListN.{take, drop};
+ghost use lib.ListN.{getD, drop};
 ghost use Rattle.words.specs.Saturating.{max64};
-ghost use Rattle.state.specs.Meaning.{Sound, AllNumbered, Below, meaning, numbered};
+ghost use Rattle.model.specs.Codec.{most};
+ghost use Rattle.state.specs.Meaning.{Sound, AllNumbered, Holds, Counted, Below, meaning, numbered, pendingRow};
 
 const MAX_U64: u64 = 0xFFFF_FFFF_FFFF_FFFF;
 
 // Whether the next number is at most 2^64 - 1: where it is not, the call is refused with 31.
-pub fn next_fits(v: Volatile) -> bool
-    ensures { λ r. ⌜ r ≡ leb (meaning v .next) max64 ⌝ }
+pub fn next_fits(v: &[u32]) -> bool
+    requires { ⌜ Sound (now v) ⌝ }
+    ensures { λ r. ⌜ r ≡ leb (meaning (now (v .entry)) .next) max64 ⌝ }
 {
-    v.accepted <= MAX_U64 - v.next_seq
+    let next = rows::read::wide_at(v, place::NEXT);
+    rows::read::wide_at(v, place::ACCEPTED) <= MAX_U64 - next
 }
 
 // Each record behind the stored ones gets the number at its offset.
-fn number_all(
-    records: [Pending; 32],
-    stored: usize,
-    n: usize,
-    base: u64,
-    accepted: u64,
-) -> [Pending; 32]
-    requires { ⌜ (stored ≤ n) × (n ≤ 32) × (base + accepted ≤ max64) × Below accepted (drop stored (take n records)) ⌝ }
-    ensures { λ r. ⌜ take n r ≡ numbered base stored (take n records) ⌝ }
+fn number_all(t: &mut [u32], stored: usize, next: u64, accepted: u64)
+    requires { ⌜ Counted 32 pendingRow (now t) × (stored ≤ getD (now t) 0 0) × (next + accepted ≤ max64) × Below accepted (drop stored (most 32 pendingRow .get (now t))) ⌝ }
+    ensures { λ _. ⌜ Holds 32 pendingRow (now (t .exit)) (numbered next stored (most 32 pendingRow .get (now (t .entry)))) ⌝ }
 {
-    let mut a = records;
+    let n = t[0] as usize;
     let mut i = stored;
     while i < n {
-        let p = a[i];
-        let point = p.point;
-        let q = Pending {
-            rule: p.rule,
-            point,
-            due: p.due,
-            budget: p.budget,
-            trigger: p.trigger,
-            seq: base + p.seq,
-        };
-        a[i] = q;
+        let k = 1 + i * PENDING_WORDS;
+        let offset = rows::read::wide_at(t, k);
+        rows::put::put_wide(t, k, next + offset);
         i += 1;
     }
-    a
 }
 
 // The records of the call get their numbers, and the store its next one: the same meaning, with no offset left.
-pub fn assign_numbers(v: Volatile) -> Volatile
-    requires { ⌜ Sound v × (leb (meaning v .next) max64 ≡ true) ⌝ }
-    ensures { λ r. ⌜ AllNumbered r (meaning v) ⌝ }
+pub fn assign_numbers(v: &mut [u32])
+    requires { ⌜ Sound (now v) × (leb (meaning (now v) .next) max64 ≡ true) ⌝ }
+    ensures { λ _. ⌜ AllNumbered (now (v .exit)) (meaning (now (v .entry))) ⌝ }
 {
-    let mut w = v;
-    let n = w.pending_count;
-    let a = w.pending;
-    let b = number_all(a, w.stored_count, n, w.next_seq, w.accepted);
-    w.pending = b;
-    w.stored_count = n;
-    w.next_seq = w.next_seq + w.accepted;
-    w.accepted = 0;
-    w
+    let next = rows::read::wide_at(v, place::NEXT);
+    let accepted = rows::read::wide_at(v, place::ACCEPTED);
+    let stored = v[place::STORED] as usize;
+    number_all(&mut v[place::PENDING..place::WEEK], stored, next, accepted);
+    let count = v[place::PENDING];
+    rows::put::put_word(v, place::STORED, count);
+    rows::put::put_wide(v, place::NEXT, next + accepted);
+    rows::put::put_wide(v, place::ACCEPTED, 0);
 }

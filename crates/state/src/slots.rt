@@ -1,24 +1,29 @@
-// The Every slots, at most 64.
+// The Every slots, at most 64: rows of rule, place, period and due time.
 use crate::SlotList;
-use crate::Volatile;
+use crate::place;
 use model::EverySlot;
+use rows::SLOT_WORDS;
 ghost use mathlib.Core.Path.{_≡_};
 ghost use mathlib.Core.List.{map};
 ghost use Prim.Native.Nat.{_≤_};
 ghost use lib.ListN.{take};
-ghost use Rattle.model.specs.Lists.{keep};
+ghost use Rattle.model.specs.Codec.{most};
+ghost use Rattle.model.specs.Parts.{slotRow};
 ghost use Rattle.model.specs.State.{withRest, withEvery};
 ghost use Rattle.model.specs.Wheel.{moved};
-ghost use Rattle.state.specs.Meaning.{Sound, Means, meaning};
+ghost use Rattle.state.specs.Meaning.{Sound, Means, Holds, Counted, meaning, base};
 ghost use Rattle.state.specs.Named.{slotDue};
 ghost use Rattle.state.specs.Tables.{Keeps};
 
+// The word of a row where its due time begins.
+pub const DUE: usize = 3;
+
 // A due slot is due again a period from now.
-fn move_on(x: EverySlot, now: u64) -> EverySlot
-    ensures { λ r. ⌜ r ≡ moved now x ⌝ }
+fn move_on(x: EverySlot, time: u64) -> EverySlot
+    ensures { λ r. ⌜ r ≡ moved time x ⌝ }
 {
-    if x.due <= now {
-        let due = words::saturating_add_u64(now, x.period as u64);
+    if x.due <= time {
+        let due = words::saturating_add_u64(time, x.period as u64);
         EverySlot {
             rule: x.rule,
             place: x.place,
@@ -30,36 +35,31 @@ fn move_on(x: EverySlot, now: u64) -> EverySlot
     }
 }
 
-fn move_all(slots: [EverySlot; 64], n: usize, now: u64) -> [EverySlot; 64]
-    requires { ⌜ n ≤ 64 ⌝ }
-    ensures { λ r. ⌜ take n r ≡ map (moved now) (take n slots) ⌝ }
+fn move_all(t: &mut [u32], time: u64)
+    requires { ⌜ Counted 64 slotRow (now t) ⌝ }
+    ensures { λ _. ⌜ Holds 64 slotRow (now (t .exit)) (map (moved time) (most 64 slotRow .get (now (t .entry)))) ⌝ }
 {
-    let mut a = slots;
+    let n = t[0] as usize;
     let mut i = 0;
     while i < n {
-        let x = a[i];
-        let y = move_on(x, now);
-        a[i] = y;
+        let k = 1 + i * SLOT_WORDS;
+        let x = rows::read::slot_at(t, k);
+        rows::put::put_slot(t, k, move_on(x, time));
         i += 1;
     }
-    a
 }
 
 // Each due slot is due again a period from now.
-pub fn move_slots(v: Volatile, now: u64) -> Volatile
-    requires { ⌜ Sound v ⌝ }
-    ensures { λ r. ⌜ Means r (v .«next_seq») (withRest (withEvery (map (moved now) (meaning v .rest .every)) (meaning v .rest)) (meaning v)) ⌝ }
+pub fn move_slots(v: &mut [u32], time: u64)
+    requires { ⌜ Sound (now v) ⌝ }
+    ensures { λ _. ⌜ Means (now (v .exit)) (base (now (v .entry))) (withRest (withEvery (map (moved time) (meaning (now (v .entry)) .rest .every)) (meaning (now (v .entry)) .rest)) (meaning (now (v .entry)))) ⌝ }
 {
-    let mut w = v;
-    let xs = w.every;
-    let ys = move_all(xs, w.every_count, now);
-    w.every = ys;
-    w
+    move_all(&mut v[place::SLOTS..place::PENDING], time);
 }
 
-fn keep_due(slots: [EverySlot; 64], n: usize, now: u64) -> SlotList
+fn keep_due(slots: [EverySlot; 64], n: usize, time: u64) -> SlotList
     requires { ⌜ n ≤ 64 ⌝ }
-    ensures { λ r. ⌜ Keeps (slotDue now) (take n slots) (r .slots) (r .count) ⌝ }
+    ensures { λ r. ⌜ Keeps (slotDue time) (take n slots) (r .slots) (r .count) ⌝ }
 {
     let mut a = slots;
     let mut i = 0;
@@ -67,7 +67,7 @@ fn keep_due(slots: [EverySlot; 64], n: usize, now: u64) -> SlotList
     while i < n {
         let x = a[i];
         i += 1;
-        if x.due <= now {
+        if x.due <= time {
             a[j] = x;
             j += 1;
         }
@@ -76,10 +76,30 @@ fn keep_due(slots: [EverySlot; 64], n: usize, now: u64) -> SlotList
 }
 
 // The due slots, in their order.
-pub fn due_slots(v: Volatile, now: u64) -> SlotList
-    requires { ⌜ Sound v ⌝ }
-    ensures { λ r. ⌜ Keeps (slotDue now) (meaning v .rest .every) (r .slots) (r .count) ⌝ }
+pub fn due_slots(v: &[u32], time: u64) -> SlotList
+    requires { ⌜ Sound (now v) ⌝ }
+    ensures { λ r. ⌜ Keeps (slotDue time) (meaning (now (v .entry)) .rest .every) (r .slots) (r .count) ⌝ }
 {
-    let xs = v.every;
-    keep_due(xs, v.every_count, now)
+    let n = v[place::SLOTS] as usize;
+    let slots = rows::tables::slots_at(v, place::SLOTS + 1, n);
+    keep_due(slots, n, time)
+}
+
+// All slots, in their order.
+pub fn all_slots(v: &[u32]) -> SlotList
+    requires { ⌜ Sound (now v) ⌝ }
+    ensures { λ r. ⌜ (take (r .count) (r .slots) ≡ meaning (now (v .entry)) .rest .every) × (r .count ≤ 64) ⌝ }
+{
+    let count = v[place::SLOTS] as usize;
+    let slots = rows::tables::slots_at(v, place::SLOTS + 1, count);
+    SlotList { slots, count }
+}
+
+// The first n of these slots are all that there are.
+pub fn put_every(v: &mut [u32], slots: [EverySlot; 64], n: usize)
+    requires { ⌜ Sound (now v) × (n ≤ 64) ⌝ }
+    ensures { λ _. ⌜ Means (now (v .exit)) (base (now (v .entry))) (withRest (withEvery (take n slots) (meaning (now (v .entry)) .rest)) (meaning (now (v .entry)))) ⌝ }
+{
+    rows::put::put_word(v, place::SLOTS, n as u32);
+    rows::put_tables::put_slots(v, place::SLOTS + 1, slots, n);
 }

@@ -1,81 +1,84 @@
-// The variables, at most 16. One that is set again stays in its place.
-use crate::Volatile;
+// The variables, at most 16: rows of name, tag and value. One that is set again stays in its place.
+use crate::place;
+use crate::place::MAX_VARIABLES;
+use crate::table;
 use model::VarValue;
 use model::Variable;
+use rows::VARIABLE_WORDS;
 ghost use mathlib.Core.Path.{_≡_};
-ghost use Prim.Native.Nat.{_≤_};
-ghost use lib.ListN.{take};
+ghost use Rattle.model.specs.Codec.{most};
+ghost use Rattle.model.specs.Parts.{variableRow};
 ghost use Rattle.model.specs.State.{varNamed};
-ghost use Rattle.state.specs.Meaning.{Sound, Means, meaning};
-ghost use Rattle.state.specs.Named.{variableHasName, lacksRoom, assigned, foundValue};
+ghost use Rattle.model.specs.Store.{variableRowOf};
+ghost use Rattle.state.specs.Meaning.{Sound, Means, Holds, Counted, meaning, base};
+ghost use Rattle.state.specs.Named.{variableHasName, lacksRoom, assigned, assignRow, foundValue};
 ghost use Rattle.state.specs.Tables.{First};
 
-const MAX_VARIABLES: usize = 16;
+// The word of a row that is its name.
+const NAME: usize = 0;
 
 pub enum VarFound {
     Absent,
     Found(VarValue),
 }
 
-// The place of the first variable of a name, and n where there is none.
-fn first_named(vars: [Variable; 16], n: usize, name: u32) -> usize
-    requires { ⌜ n ≤ 16 ⌝ }
-    ensures { λ r. ⌜ First (variableHasName name) (take n vars) r ⌝ }
+// The place of the variable of a name, and their number where there is none.
+fn place_of(v: &[u32], name: u32) -> usize
+    requires { ⌜ Sound (now v) ⌝ }
+    ensures { λ r. ⌜ First (variableHasName name) (meaning (now (v .entry)) .rest .vars) r ⌝ }
 {
-    let mut i = 0;
-    while i < n {
-        if vars[i].name == name {
-            return i;
-        }
-        i += 1;
-    }
-    n
+    table::first_with(
+        &v[place::VARIABLES..place::TIMERS],
+        VARIABLE_WORDS,
+        NAME,
+        name,
+    )
 }
 
 // What the variable of the name holds.
-pub fn variable(v: Volatile, name: u32) -> VarFound
-    requires { ⌜ Sound v ⌝ }
-    ensures { λ r. ⌜ foundValue r ≡ varNamed (meaning v .rest) name ⌝ }
+pub fn variable(v: &[u32], name: u32) -> VarFound
+    requires { ⌜ Sound (now v) ⌝ }
+    ensures { λ r. ⌜ foundValue r ≡ varNamed (meaning (now (v .entry)) .rest) name ⌝ }
 {
-    let xs = v.vars;
-    let i = first_named(xs, v.var_count, name);
-    if i < v.var_count {
-        let x = xs[i];
+    let i = place_of(v, name);
+    if i < v[place::VARIABLES] as usize {
+        let x = rows::read::variable_at(v, place::VARIABLES + 1 + i * VARIABLE_WORDS);
         let value = x.value;
-        VarFound::Found(value)
-    } else {
-        VarFound::Absent
+        return VarFound::Found(value);
     }
+    VarFound::Absent
 }
 
 // Whether the name is new and 16 variables stand.
-pub fn lacks_room(v: Volatile, name: u32) -> bool
-    requires { ⌜ Sound v ⌝ }
-    ensures { λ r. ⌜ r ≡ lacksRoom name (meaning v) ⌝ }
+pub fn lacks_room(v: &[u32], name: u32) -> bool
+    requires { ⌜ Sound (now v) ⌝ }
+    ensures { λ r. ⌜ r ≡ lacksRoom name (meaning (now (v .entry))) ⌝ }
 {
-    let xs = v.vars;
-    let i = first_named(xs, v.var_count, name);
-    v.var_count <= i && MAX_VARIABLES <= v.var_count
+    let n = v[place::VARIABLES] as usize;
+    n <= place_of(v, name) && MAX_VARIABLES <= n
 }
 
 // The variable of the name holds the value; a new one goes behind the others, where there is room.
-pub fn set_variable(v: Volatile, name: u32, value: VarValue) -> Volatile
-    requires { ⌜ Sound v ⌝ }
-    ensures { λ r. ⌜ Means r (v .«next_seq») (assigned name value (meaning v)) ⌝ }
+fn assign(t: &mut [u32], x: Variable)
+    requires { ⌜ Counted 16 variableRow (now t) ⌝ }
+    ensures { λ _. ⌜ Holds 16 variableRow (now (t .exit)) (assignRow (x .name) (variableRowOf x) (most 16 variableRow .get (now (t .entry)))) ⌝ }
 {
-    let mut w = v;
-    let n = w.var_count;
-    let xs = w.vars;
-    let i = first_named(xs, n, name);
-    let x = Variable { name, value };
+    let i = table::first_with(t, VARIABLE_WORDS, NAME, x.name);
+    let n = t[0] as usize;
     if i < n {
-        w.vars[i] = x;
-        w
-    } else if n < MAX_VARIABLES {
-        w.vars[n] = x;
-        w.var_count = n + 1;
-        w
-    } else {
-        w
+        rows::put::put_variable(t, 1 + i * VARIABLE_WORDS, x);
+        return;
     }
+    if n < MAX_VARIABLES {
+        rows::put::put_variable(t, 1 + n * VARIABLE_WORDS, x);
+        t[0] = n as u32 + 1;
+    }
+}
+
+pub fn set_variable(v: &mut [u32], name: u32, value: VarValue)
+    requires { ⌜ Sound (now v) ⌝ }
+    ensures { λ _. ⌜ Means (now (v .exit)) (base (now (v .entry))) (assigned name value (meaning (now (v .entry)))) ⌝ }
+{
+    let x = Variable { name, value };
+    assign(&mut v[place::VARIABLES..place::TIMERS], x);
 }

@@ -15,7 +15,7 @@ use Rattle.model.specs.World as model-world
 use Rattle.model.specs.declared.Trigger.{Trigger}
 use Rattle.model.specs.declared.Trigger.the-variants.{TimerFires, Every, AtTime, AtSolar, Other}
 use Rattle.model.proofs.Bools.{or-true, or-false}
-use Rattle.state.specs.Meaning.{option32}
+use Rattle.rows.specs.Options.{option32}
 use Rattle.world.specs.Values.{sunOption, sunRecord}
 use Rattle.world.specs.declared.MaybeSun.{MaybeSun}
 use Rattle.world.specs.declared.MaybeSun.the-variants as sun

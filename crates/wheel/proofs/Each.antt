@@ -16,7 +16,7 @@ use Rattle.model.specs.Rules.{triggersOf, nameOrder, ruleNamed}
 use Rattle.model.specs.Wheel.{byTimer, byEvery, firesOn, rulesOnTimer, activateIfEnabled, activateEach, resumeAll}
 use Rattle.model.specs.declared.EverySlot.{EverySlot}
 use Rattle.model.specs.declared.Pending.{Pending}
-use Rattle.activate.specs.declared.Handled as activate
+use Rattle.activate.specs.Carried.{Carried}
 use Rattle.wheel.specs.Tick.{Fires, onTimer, rulesOfSlot}
 
 -- ---- one behind another
@@ -106,7 +106,7 @@ module _ (e : Env) (img : List ℕ) (timer i : ℕ) (v : Volatile) {on : Bool} (
   unfolding onTimer
   fires-on h = rw (← is, not-false on h) (one-rule e byTimer i v)
 
-pub timer-rules : (e : Env) (img : List ℕ) (timer : ℕ) {n : ℕ} {x : activate.Handled} {ow ew : List ℕ} {r : activate.Handled} {ow′ ew′ : List ℕ}
+pub timer-rules : (e : Env) (img : List ℕ) (timer : ℕ) {n : ℕ} {x : Carried} {ow ew : List ℕ} {r : Carried} {ow′ ew′ : List ℕ}
     → Fires n (activateEach e byTimer (flatten (map (λ i. keep (onTimer img timer) (i ∷ [])) (nameOrder img)))) x ow ew r ow′ ew′
     → Fires n (activateEach e byTimer (rulesOnTimer img timer)) x ow ew r ow′ ew′
 unfolding rulesOnTimer onTimer

@@ -21,11 +21,10 @@ use Rattle.model.specs.World.{worldOf}
 use Rattle.model.specs.declared.EverySlot.{EverySlot}
 use Rattle.model.specs.declared.NamedTimer.{NamedTimer}
 use Rattle.model.specs.declared.Pending.{Pending}
-use Rattle.state.specs.Meaning.{Means, AllNumbered, meaning}
-use Rattle.state.specs.declared.Volatile.{Volatile}
+use Rattle.state.specs.Meaning.{AllNumbered, meaning}
 use Rattle.store.specs.FlatPart.{Kept}
 use Rattle.activate.specs.Handled.{Continues, Within}
-use Rattle.activate.specs.declared.Handled.{Handled}
+use Rattle.activate.specs.Carried.{Carried}
 
 -- the environment of a tick: what the snapshot says, and the set of the image
 unfoldable pub tickEnv : List ℕ → List ℕ → Env
@@ -45,24 +44,18 @@ abbrev pub Ordered : List ℕ → List ℕ → Type 0
 Ordered image order = take (sizeOf image rules) order ≡ nameOrder image
 
 -- a part of a tick came from x to r as the specification says, by n activations or resumptions at most
-pub record Fires (n : ℕ) (h : model-state.Volatile → model.Handled) (x : Handled) (ow ew : List ℕ) (r : Handled) (ow′ ew′ : List ℕ) : Type 0 where
+pub record Fires (n : ℕ) (h : model-state.Volatile → model.Handled) (x : Carried) (ow ew : List ℕ) (r : Carried) (ow′ ew′ : List ℕ) : Type 0 where
   pub says : Continues x ow ew (h (meaning (x .vol))) r ow′ ew′
   pub within : Within n x r
 
--- the state alone changes
-pub record Changes (f : model-state.Volatile → model-state.Volatile) (x r : Handled) : Type 0 where
-  pub state : Means (r .vol) (x .vol .«next_seq») (f (meaning (x .vol)))
-  pub outcomes : r .outcomes ≡ x .outcomes
-  pub effects : r .effects ≡ x .effects
-
 -- what a tick asks for: an accepted snapshot, a loaded image with its flat steps, and a state as a store is read
-pub record Ready (snapshot image store : List ℕ) (v : Volatile) : Type 0 where
+pub record Ready (snapshot image store : List ℕ) (v : List ℕ) : Type 0 where
   pub world : snapshotRefusal snapshot ≡ 0
   pub holds : Holds store image
   pub state : AllNumbered v (meaning v)
   pub pending : all (fitsSet image) (meaning v .pending) ≡ true
 
-abbrev pub start : Volatile → Handled
+abbrev pub start : List ℕ → Carried
 start v = record { vol = v; outcomes = 0; effects = 0 }
 
 -- a timer is a trigger of rule i

@@ -11,7 +11,7 @@ use Rattle.model.specs.Steps.{FlatStep}
 use Rattle.model.specs.Wheel as model
 use Rattle.model.specs.Wheel.{inWindow, isWallTrigger, dueWallKind}
 use Rattle.model.specs.declared.Trigger.{Trigger}
-use Rattle.state.specs.Meaning.{option32}
+use Rattle.rows.specs.Options.{option32}
 use Rattle.eval.specs.Answers.{envOf}
 use Rattle.wheel.specs.declared.wall.WallKind.{WallKind}
 

@@ -15,7 +15,8 @@ ghost use lib.ListN.{take};
 ghost use Rattle.model.specs.Activate as model;
 ghost use Rattle.model.specs.Lists.{all};
 ghost use Rattle.model.specs.Wheel.{resumeAll, fireContinuations};
-ghost use Rattle.state.specs.Meaning.{meaning};
+ghost use Rattle.state.specs.Meaning.{meaning, storedCount, pendingCount};
+ghost use Rattle.activate.specs.Carried.{carried};
 ghost use Rattle.activate.specs.Handled.{Room};
 ghost use Rattle.wheel.specs.Tick.{Holds, Fires, fitsSet, tickEnv};
 
@@ -26,18 +27,19 @@ fn resume_one(
     store: &[u32],
     outcomes: &mut [u32],
     effects: &mut [u32],
+    v: &mut [u32],
     x: Handled,
     c: Pending,
 ) -> Handled
     requires { ⌜ Holds (now store) (now image) × (fitsSet (now image) c ≡ true) ⌝ }
-    requires { ⌜ Room 1 x ⌝ }
-    ensures { λ r. ⌜ Fires 1 (model.resume (tickEnv (now (snapshot .entry)) (now (image .entry))) c) x (now (outcomes .entry)) (now (effects .entry)) r (now (outcomes .exit)) (now (effects .exit)) ⌝ }
+    requires { ⌜ Room 1 (carried (now v) x) ⌝ }
+    ensures { λ r. ⌜ Fires 1 (model.resume (tickEnv (now (snapshot .entry)) (now (image .entry))) c) (carried (now (v .entry)) x) (now (outcomes .entry)) (now (effects .entry)) (carried (now (v .exit)) r) (now (outcomes .exit)) (now (effects .exit)) ⌝ }
 {
     match rule_named(image, c.rule) {
         Found::At(i) => {
             let part = rule_steps(store, i);
             let own = rule_own(store, i);
-            resume(snapshot, image, part, own, outcomes, effects, x, i, c)
+            resume(snapshot, image, part, own, outcomes, effects, v, x, i, c)
         }
         Found::Nothing => x,
     }
@@ -49,19 +51,20 @@ fn resume_all(
     store: &[u32],
     outcomes: &mut [u32],
     effects: &mut [u32],
+    v: &mut [u32],
     x: Handled,
     due: [Pending; 32],
     n: usize,
 ) -> Handled
     requires { ⌜ Holds (now store) (now image) × (n ≤ 32) × (all (fitsSet (now image)) (take n due) ≡ true) ⌝ }
-    requires { ⌜ Room 32 x ⌝ }
-    ensures { λ r. ⌜ Fires 32 (resumeAll (tickEnv (now (snapshot .entry)) (now (image .entry))) (take n due)) x (now (outcomes .entry)) (now (effects .entry)) r (now (outcomes .exit)) (now (effects .exit)) ⌝ }
+    requires { ⌜ Room 32 (carried (now v) x) ⌝ }
+    ensures { λ r. ⌜ Fires 32 (resumeAll (tickEnv (now (snapshot .entry)) (now (image .entry))) (take n due)) (carried (now (v .entry)) x) (now (outcomes .entry)) (now (effects .entry)) (carried (now (v .exit)) r) (now (outcomes .exit)) (now (effects .exit)) ⌝ }
 {
     let mut h = x;
     let mut j = 0;
     while j < n {
         let c = due[j];
-        h = resume_one(snapshot, image, store, outcomes, effects, h, c);
+        h = resume_one(snapshot, image, store, outcomes, effects, v, h, c);
         j += 1;
     }
     h
@@ -73,21 +76,16 @@ pub fn fire_continuations(
     store: &[u32],
     outcomes: &mut [u32],
     effects: &mut [u32],
+    v: &mut [u32],
     x: Handled,
 ) -> Handled
-    requires { ⌜ Holds (now store) (now image) × (all (fitsSet (now image)) (meaning (x .vol) .pending) ≡ true) ⌝ }
-    requires { ⌜ (x .vol .«stored_count» ≡ x .vol .«pending_count») × Room 32 x ⌝ }
-    ensures { λ r. ⌜ Fires 32 (fireContinuations (tickEnv (now (snapshot .entry)) (now (image .entry)))) x (now (outcomes .entry)) (now (effects .entry)) r (now (outcomes .exit)) (now (effects .exit)) ⌝ }
+    requires { ⌜ Holds (now store) (now image) × (all (fitsSet (now image)) (meaning (now v) .pending) ≡ true) ⌝ }
+    requires { ⌜ (storedCount (now v) ≡ pendingCount (now v)) × Room 32 (carried (now v) x) ⌝ }
+    ensures { λ r. ⌜ Fires 32 (fireContinuations (tickEnv (now (snapshot .entry)) (now (image .entry)))) (carried (now (v .entry)) x) (now (outcomes .entry)) (now (effects .entry)) (carried (now (v .exit)) r) (now (outcomes .exit)) (now (effects .exit)) ⌝ }
 {
-    let now = world::now_ms(snapshot);
-    let v = x.vol;
-    let list = due_now(v, now);
-    let vol = without_due(v, now);
-    let h = Handled {
-        vol,
-        outcomes: x.outcomes,
-        effects: x.effects,
-    };
+    let time = world::now_ms(snapshot);
+    let list = due_now(v, time);
+    without_due(v, time);
     let due = list.records;
     resume_all(
         snapshot,
@@ -95,7 +93,8 @@ pub fn fire_continuations(
         store,
         outcomes,
         effects,
-        h,
+        v,
+        x,
         due,
         list.count,
     )

@@ -10,6 +10,7 @@ ghost use Rattle.model.specs.Activate as model;
 ghost use Rattle.model.specs.Image.{sizeOf};
 ghost use Rattle.model.specs.Rows.{rules};
 ghost use Rattle.model.specs.Wheel.{activateIfEnabled};
+ghost use Rattle.activate.specs.Carried.{carried};
 ghost use Rattle.activate.specs.Handled.{Room};
 ghost use Rattle.wheel.specs.Tick.{Holds, Fires, tickEnv};
 
@@ -19,13 +20,14 @@ pub fn activate_rule(
     store: &[u32],
     outcomes: &mut [u32],
     effects: &mut [u32],
+    v: &mut [u32],
     x: Handled,
     i: u32,
     kind: u32,
 ) -> Handled
     requires { ⌜ Holds (now store) (now image) × (i < sizeOf (now image) rules) ⌝ }
-    requires { ⌜ Room 1 x ⌝ }
-    ensures { λ r. ⌜ Fires 1 (model.activate (tickEnv (now (snapshot .entry)) (now (image .entry))) i kind 0 model.Auto) x (now (outcomes .entry)) (now (effects .entry)) r (now (outcomes .exit)) (now (effects .exit)) ⌝ }
+    requires { ⌜ Room 1 (carried (now v) x) ⌝ }
+    ensures { λ r. ⌜ Fires 1 (model.activate (tickEnv (now (snapshot .entry)) (now (image .entry))) i kind 0 model.Auto) (carried (now (v .entry)) x) (now (outcomes .entry)) (now (effects .entry)) (carried (now (v .exit)) r) (now (outcomes .exit)) (now (effects .exit)) ⌝ }
 {
     let part = rule_steps(store, i);
     let own = rule_own(store, i);
@@ -36,6 +38,7 @@ pub fn activate_rule(
         own,
         outcomes,
         effects,
+        v,
         x,
         i,
         kind,
@@ -51,17 +54,17 @@ pub fn activate_if_enabled(
     store: &[u32],
     outcomes: &mut [u32],
     effects: &mut [u32],
+    v: &mut [u32],
     x: Handled,
     i: u32,
     kind: u32,
 ) -> Handled
     requires { ⌜ Holds (now store) (now image) × (i < sizeOf (now image) rules) ⌝ }
-    requires { ⌜ Room 1 x ⌝ }
-    ensures { λ r. ⌜ Fires 1 (activateIfEnabled (tickEnv (now (snapshot .entry)) (now (image .entry))) kind i) x (now (outcomes .entry)) (now (effects .entry)) r (now (outcomes .exit)) (now (effects .exit)) ⌝ }
+    requires { ⌜ Room 1 (carried (now v) x) ⌝ }
+    ensures { λ r. ⌜ Fires 1 (activateIfEnabled (tickEnv (now (snapshot .entry)) (now (image .entry))) kind i) (carried (now (v .entry)) x) (now (outcomes .entry)) (now (effects .entry)) (carried (now (v .exit)) r) (now (outcomes .exit)) (now (effects .exit)) ⌝ }
 {
-    let v = x.vol;
     if !is_enabled(v, i as usize) {
         return x;
     }
-    activate_rule(snapshot, image, store, outcomes, effects, x, i, kind)
+    activate_rule(snapshot, image, store, outcomes, effects, v, x, i, kind)
 }

@@ -9,8 +9,7 @@ use crate::wall::due_wall_kind;
 use crate::wall::has_wall_triggers;
 use activate::Handled;
 use image::layout::size_of;
-use state::OptionU32;
-use state::Volatile;
+use rows::OptionU32;
 use state::rules::is_enabled;
 use world::MaybeWall;
 use world::WallTime;
@@ -24,11 +23,13 @@ ghost use Rattle.model.specs.Rules.{nameOrder};
 ghost use Rattle.model.specs.Snapshot.{snapshotRefusal};
 ghost use Rattle.model.specs.Wheel.{startWall, fireDueWallRules, windowOf, fireWindow, isSetBack, fireWallAt, fireWallSchedules};
 ghost use Rattle.image.specs.Accepted.{Accepted};
-ghost use Rattle.state.specs.Meaning.{Sound, Means, meaning, option32};
+ghost use Rattle.state.specs.Meaning.{Sound, Means, meaning, base};
+ghost use Rattle.rows.specs.Options.{option32};
 ghost use Rattle.world.specs.Ranges.{WallInRange};
 ghost use Rattle.world.specs.Values.{wallRecord};
+ghost use Rattle.activate.specs.Carried.{carried};
 ghost use Rattle.activate.specs.Handled.{Room};
-ghost use Rattle.wheel.specs.Tick.{Holds, Ordered, Fires, Changes, tickEnv, countMissed, remembering, withoutWall};
+ghost use Rattle.wheel.specs.Tick.{Holds, Ordered, Fires, tickEnv, countMissed, remembering, withoutWall};
 ghost use Rattle.wheel.specs.Turns.{Turns};
 
 // At most so many minutes are made up for.
@@ -37,7 +38,7 @@ const CATCH_UP_MINUTES: u64 = 60;
 // A clock set back by so many minutes at most starts nothing.
 const SET_BACK_MINUTES: u64 = 120;
 
-// A rule's turn: the state after it, and whether a sun was missed so far.
+// A rule's turn: what was done so far, and whether a sun was missed so far.
 pub struct WallTurn {
     pub handled: Handled,
     pub missed: bool,
@@ -50,18 +51,29 @@ fn start_wall(
     store: &[u32],
     outcomes: &mut [u32],
     effects: &mut [u32],
+    v: &mut [u32],
     x: Handled,
     i: u32,
     kind: OptionU32,
 ) -> Handled
     requires { ⌜ Holds (now store) (now image) × (i < sizeOf (now image) rules) ⌝ }
-    requires { ⌜ Room 1 x ⌝ }
-    ensures { λ r. ⌜ Fires 1 (startWall (option32 kind) (tickEnv (now (snapshot .entry)) (now (image .entry))) i) x (now (outcomes .entry)) (now (effects .entry)) r (now (outcomes .exit)) (now (effects .exit)) ⌝ }
+    requires { ⌜ Room 1 (carried (now v) x) ⌝ }
+    ensures { λ r. ⌜ Fires 1 (startWall (option32 kind) (tickEnv (now (snapshot .entry)) (now (image .entry))) i) (carried (now (v .entry)) x) (now (outcomes .entry)) (now (effects .entry)) (carried (now (v .exit)) r) (now (outcomes .exit)) (now (effects .exit)) ⌝ }
 {
     if !kind.present {
         return x;
     }
-    activate_rule(snapshot, image, store, outcomes, effects, x, i, kind.value)
+    activate_rule(
+        snapshot,
+        image,
+        store,
+        outcomes,
+        effects,
+        v,
+        x,
+        i,
+        kind.value,
+    )
 }
 
 fn wall_turn(
@@ -70,6 +82,7 @@ fn wall_turn(
     store: &[u32],
     outcomes: &mut [u32],
     effects: &mut [u32],
+    v: &mut [u32],
     x: Handled,
     i: u32,
     base: u64,
@@ -77,16 +90,15 @@ fn wall_turn(
     missed: bool,
 ) -> WallTurn
     requires { ⌜ Holds (now store) (now image) × (i < sizeOf (now image) rules) ⌝ }
-    requires { ⌜ Room 1 x ⌝ }
-    ensures { λ r. ⌜ Turns (tickEnv (now (snapshot .entry)) (now (image .entry))) base window i missed x (now (outcomes .entry)) (now (effects .entry)) r (now (outcomes .exit)) (now (effects .exit)) ⌝ }
+    requires { ⌜ Room 1 (carried (now v) x) ⌝ }
+    ensures { λ r. ⌜ Turns (tickEnv (now (snapshot .entry)) (now (image .entry))) base window i missed (carried (now (v .entry)) x) (now (outcomes .entry)) (now (effects .entry)) (now (v .exit)) r (now (outcomes .exit)) (now (effects .exit)) ⌝ }
 {
-    let v = x.vol;
     if !is_enabled(v, i as usize) {
         return WallTurn { handled: x, missed };
     }
     let w = due_wall_kind(snapshot, image, base, window, i, missed);
     let kind = w.kind;
-    let handled = start_wall(snapshot, image, store, outcomes, effects, x, i, kind);
+    let handled = start_wall(snapshot, image, store, outcomes, effects, v, x, i, kind);
     WallTurn {
         handled,
         missed: w.unsynced,
@@ -94,28 +106,12 @@ fn wall_turn(
 }
 
 // A tick without the time that it was asked for is counted.
-fn count_unsynced(v: Volatile, missed: bool) -> Volatile
-    requires { ⌜ Sound v ⌝ }
-    ensures { λ r. ⌜ Means r (v .«next_seq») (countMissed missed (meaning v)) ⌝ }
+fn count_missed(v: &mut [u32], missed: bool)
+    requires { ⌜ Sound (now v) ⌝ }
+    ensures { λ _. ⌜ Means (now (v .exit)) (base (now (v .entry))) (countMissed missed (meaning (now (v .entry)))) ⌝ }
 {
     if missed {
-        state::bump(v, counters::TICKS_TIME_UNSYNCED, 1)
-    } else {
-        v
-    }
-}
-
-// A missing sun counts once.
-fn count_missed(x: Handled, missed: bool) -> Handled
-    requires { ⌜ Sound (x .vol) ⌝ }
-    ensures { λ r. ⌜ Changes (countMissed missed) x r ⌝ }
-{
-    let v = x.vol;
-    let vol = count_unsynced(v, missed);
-    Handled {
-        vol,
-        outcomes: x.outcomes,
-        effects: x.effects,
+        state::bump(v, counters::TICKS_TIME_UNSYNCED, 1);
     }
 }
 
@@ -125,14 +121,15 @@ fn fire_due_wall_rules(
     store: &[u32],
     outcomes: &mut [u32],
     effects: &mut [u32],
+    v: &mut [u32],
     x: Handled,
     order: [u32; 64],
     base: u64,
     window: u64,
 ) -> Handled
     requires { ⌜ Holds (now store) (now image) × Ordered (now image) order ⌝ }
-    requires { ⌜ Room 64 x ⌝ }
-    ensures { λ r. ⌜ Fires 64 (fireDueWallRules (tickEnv (now (snapshot .entry)) (now (image .entry))) base window false (nameOrder (now (image .entry)))) x (now (outcomes .entry)) (now (effects .entry)) r (now (outcomes .exit)) (now (effects .exit)) ⌝ }
+    requires { ⌜ Room 64 (carried (now v) x) ⌝ }
+    ensures { λ r. ⌜ Fires 64 (fireDueWallRules (tickEnv (now (snapshot .entry)) (now (image .entry))) base window false (nameOrder (now (image .entry)))) (carried (now (v .entry)) x) (now (outcomes .entry)) (now (effects .entry)) (carried (now (v .exit)) r) (now (outcomes .exit)) (now (effects .exit)) ⌝ }
 {
     let n = size_of(image, 0) as usize;
     let mut h = x;
@@ -145,6 +142,7 @@ fn fire_due_wall_rules(
             store,
             outcomes,
             effects,
+            v,
             h,
             order[j],
             base,
@@ -156,7 +154,8 @@ fn fire_due_wall_rules(
         missed = turn.missed;
         j += 1;
     }
-    count_missed(h, missed)
+    count_missed(v, missed);
+    h
 }
 
 fn window_of(prev: u64, minute: u64) -> u64
@@ -184,16 +183,16 @@ fn fire_window(
     store: &[u32],
     outcomes: &mut [u32],
     effects: &mut [u32],
+    v: &mut [u32],
     x: Handled,
     order: [u32; 64],
     minute: u64,
     window: u64,
 ) -> Handled
     requires { ⌜ Holds (now store) (now image) × Ordered (now image) order ⌝ }
-    requires { ⌜ Room 64 x × (minute < 10080) × (window ≤ 60) ⌝ }
-    ensures { λ r. ⌜ Fires 64 (fireWindow (tickEnv (now (snapshot .entry)) (now (image .entry))) minute window) x (now (outcomes .entry)) (now (effects .entry)) r (now (outcomes .exit)) (now (effects .exit)) ⌝ }
+    requires { ⌜ Room 64 (carried (now v) x) × (minute < 10080) × (window ≤ 60) ⌝ }
+    ensures { λ r. ⌜ Fires 64 (fireWindow (tickEnv (now (snapshot .entry)) (now (image .entry))) minute window) (carried (now (v .entry)) x) (now (outcomes .entry)) (now (effects .entry)) (carried (now (v .exit)) r) (now (outcomes .exit)) (now (effects .exit)) ⌝ }
 {
-    let v = x.vol;
     if !has_wall_triggers(image, v) {
         return x;
     }
@@ -207,6 +206,7 @@ fn fire_window(
         store,
         outcomes,
         effects,
+        v,
         x,
         order,
         base,
@@ -214,21 +214,15 @@ fn fire_window(
     )
 }
 
-fn remember(x: Handled, minute: u32) -> Handled
-    requires { ⌜ Sound (x .vol) ⌝ }
-    ensures { λ r. ⌜ Changes (remembering minute) x r ⌝ }
+fn remember(v: &mut [u32], minute: u32)
+    requires { ⌜ Sound (now v) ⌝ }
+    ensures { λ _. ⌜ Means (now (v .exit)) (base (now (v .entry))) (remembering minute (meaning (now (v .entry)))) ⌝ }
 {
-    let v = x.vol;
     let known = OptionU32 {
         present: true,
         value: minute,
     };
-    let vol = state::set_prev_week_min(v, known);
-    Handled {
-        vol,
-        outcomes: x.outcomes,
-        effects: x.effects,
-    }
+    state::set_prev_week_min(v, known);
 }
 
 // The minute of this tick is remembered, and what has become due since the one before starts, unless the clock was set back.
@@ -238,24 +232,24 @@ fn fire_wall_at(
     store: &[u32],
     outcomes: &mut [u32],
     effects: &mut [u32],
+    v: &mut [u32],
     x: Handled,
     order: [u32; 64],
     w: WallTime,
 ) -> Handled
     requires { ⌜ Holds (now store) (now image) × Ordered (now image) order ⌝ }
-    requires { ⌜ Room 64 x × WallInRange (wallRecord w) ⌝ }
-    ensures { λ r. ⌜ Fires 64 (fireWallAt (some (wallRecord w)) (tickEnv (now (snapshot .entry)) (now (image .entry)))) x (now (outcomes .entry)) (now (effects .entry)) r (now (outcomes .exit)) (now (effects .exit)) ⌝ }
+    requires { ⌜ Room 64 (carried (now v) x) × WallInRange (wallRecord w) ⌝ }
+    ensures { λ r. ⌜ Fires 64 (fireWallAt (some (wallRecord w)) (tickEnv (now (snapshot .entry)) (now (image .entry)))) (carried (now (v .entry)) x) (now (outcomes .entry)) (now (effects .entry)) (carried (now (v .exit)) r) (now (outcomes .exit)) (now (effects .exit)) ⌝ }
 {
-    let v = x.vol;
     let prev = state::prev_week_min(v);
     let minute = week_minute(w);
-    let h = remember(x, minute);
+    remember(v, minute);
     if !prev.present {
-        return h;
+        return x;
     }
     let to = minute as u64;
     if is_set_back(prev.value, to) {
-        return h;
+        return x;
     }
     let window = window_of(prev.value as u64, to);
     fire_window(
@@ -264,7 +258,8 @@ fn fire_wall_at(
         store,
         outcomes,
         effects,
-        h,
+        v,
+        x,
         order,
         to,
         window,
@@ -272,22 +267,17 @@ fn fire_wall_at(
 }
 
 // Without a wall clock the minute before is forgotten.
-fn without_clock(image: &[u32], x: Handled) -> Handled
-    requires { ⌜ Accepted (now image) × Sound (x .vol) ⌝ }
-    ensures { λ r. ⌜ Changes (withoutWall (now (image .entry))) x r ⌝ }
+fn without_clock(image: &[u32], v: &mut [u32])
+    requires { ⌜ Accepted (now image) × Sound (now v) ⌝ }
+    ensures { λ _. ⌜ Means (now (v .exit)) (base (now (v .entry))) (withoutWall (now (image .entry)) (meaning (now (v .entry)))) ⌝ }
 {
-    let v = x.vol;
-    let counted = count_unsynced(v, has_wall_triggers(image, v));
+    let missed = has_wall_triggers(image, v);
+    count_missed(v, missed);
     let minute = OptionU32 {
         present: false,
         value: 0,
     };
-    let vol = state::set_prev_week_min(counted, minute);
-    Handled {
-        vol,
-        outcomes: x.outcomes,
-        effects: x.effects,
-    }
+    state::set_prev_week_min(v, minute);
 }
 
 pub fn fire_wall_schedules(
@@ -296,15 +286,29 @@ pub fn fire_wall_schedules(
     store: &[u32],
     outcomes: &mut [u32],
     effects: &mut [u32],
+    v: &mut [u32],
     x: Handled,
     order: [u32; 64],
 ) -> Handled
     requires { ⌜ Holds (now store) (now image) × Ordered (now image) order ⌝ }
-    requires { ⌜ Room 64 x × (snapshotRefusal (now snapshot) ≡ 0) ⌝ }
-    ensures { λ r. ⌜ Fires 64 (fireWallSchedules (tickEnv (now (snapshot .entry)) (now (image .entry)))) x (now (outcomes .entry)) (now (effects .entry)) r (now (outcomes .exit)) (now (effects .exit)) ⌝ }
+    requires { ⌜ Room 64 (carried (now v) x) × (snapshotRefusal (now snapshot) ≡ 0) ⌝ }
+    ensures { λ r. ⌜ Fires 64 (fireWallSchedules (tickEnv (now (snapshot .entry)) (now (image .entry)))) (carried (now (v .entry)) x) (now (outcomes .entry)) (now (effects .entry)) (carried (now (v .exit)) r) (now (outcomes .exit)) (now (effects .exit)) ⌝ }
 {
     match world::wall(snapshot) {
-        MaybeWall::Known(w) => fire_wall_at(snapshot, image, store, outcomes, effects, x, order, w),
-        MaybeWall::Absent => without_clock(image, x),
+        MaybeWall::Known(w) => fire_wall_at(
+            snapshot,
+            image,
+            store,
+            outcomes,
+            effects,
+            v,
+            x,
+            order,
+            w,
+        ),
+        MaybeWall::Absent => {
+            without_clock(image, v);
+            x
+        }
     }
 }

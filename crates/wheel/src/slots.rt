@@ -9,6 +9,7 @@ use state::slots::move_slots;
 ghost use Prim.Native.Nat.{_≤_};
 ghost use lib.ListN.{take};
 ghost use Rattle.model.specs.Wheel.{byEvery, activateEach, fireEvery};
+ghost use Rattle.activate.specs.Carried.{carried};
 ghost use Rattle.activate.specs.Handled.{Room};
 ghost use Rattle.wheel.specs.Tick.{Holds, Fires, tickEnv, rulesOfSlot, rulesOfSlots};
 
@@ -21,12 +22,13 @@ fn fire_slot(
     store: &[u32],
     outcomes: &mut [u32],
     effects: &mut [u32],
+    v: &mut [u32],
     x: Handled,
     slot: EverySlot,
 ) -> Handled
     requires { ⌜ Holds (now store) (now image) ⌝ }
-    requires { ⌜ Room 1 x ⌝ }
-    ensures { λ r. ⌜ Fires 1 (activateEach (tickEnv (now (snapshot .entry)) (now (image .entry))) byEvery (rulesOfSlot (now (image .entry)) slot)) x (now (outcomes .entry)) (now (effects .entry)) r (now (outcomes .exit)) (now (effects .exit)) ⌝ }
+    requires { ⌜ Room 1 (carried (now v) x) ⌝ }
+    ensures { λ r. ⌜ Fires 1 (activateEach (tickEnv (now (snapshot .entry)) (now (image .entry))) byEvery (rulesOfSlot (now (image .entry)) slot)) (carried (now (v .entry)) x) (now (outcomes .entry)) (now (effects .entry)) (carried (now (v .exit)) r) (now (outcomes .exit)) (now (effects .exit)) ⌝ }
 {
     match rule_named(image, slot.rule) {
         Found::At(i) => activate_if_enabled(
@@ -35,6 +37,7 @@ fn fire_slot(
             store,
             outcomes,
             effects,
+            v,
             x,
             i,
             BY_EVERY,
@@ -49,19 +52,20 @@ fn fire_slots(
     store: &[u32],
     outcomes: &mut [u32],
     effects: &mut [u32],
+    v: &mut [u32],
     x: Handled,
     due: [EverySlot; 64],
     n: usize,
 ) -> Handled
     requires { ⌜ Holds (now store) (now image) × (n ≤ 64) ⌝ }
-    requires { ⌜ Room 64 x ⌝ }
-    ensures { λ r. ⌜ Fires 64 (activateEach (tickEnv (now (snapshot .entry)) (now (image .entry))) byEvery (rulesOfSlots (now (image .entry)) (take n due))) x (now (outcomes .entry)) (now (effects .entry)) r (now (outcomes .exit)) (now (effects .exit)) ⌝ }
+    requires { ⌜ Room 64 (carried (now v) x) ⌝ }
+    ensures { λ r. ⌜ Fires 64 (activateEach (tickEnv (now (snapshot .entry)) (now (image .entry))) byEvery (rulesOfSlots (now (image .entry)) (take n due))) (carried (now (v .entry)) x) (now (outcomes .entry)) (now (effects .entry)) (carried (now (v .exit)) r) (now (outcomes .exit)) (now (effects .exit)) ⌝ }
 {
     let mut h = x;
     let mut j = 0;
     while j < n {
         let slot = due[j];
-        h = fire_slot(snapshot, image, store, outcomes, effects, h, slot);
+        h = fire_slot(snapshot, image, store, outcomes, effects, v, h, slot);
         j += 1;
     }
     h
@@ -73,21 +77,16 @@ pub fn fire_every(
     store: &[u32],
     outcomes: &mut [u32],
     effects: &mut [u32],
+    v: &mut [u32],
     x: Handled,
 ) -> Handled
     requires { ⌜ Holds (now store) (now image) ⌝ }
-    requires { ⌜ Room 64 x ⌝ }
-    ensures { λ r. ⌜ Fires 64 (fireEvery (tickEnv (now (snapshot .entry)) (now (image .entry)))) x (now (outcomes .entry)) (now (effects .entry)) r (now (outcomes .exit)) (now (effects .exit)) ⌝ }
+    requires { ⌜ Room 64 (carried (now v) x) ⌝ }
+    ensures { λ r. ⌜ Fires 64 (fireEvery (tickEnv (now (snapshot .entry)) (now (image .entry)))) (carried (now (v .entry)) x) (now (outcomes .entry)) (now (effects .entry)) (carried (now (v .exit)) r) (now (outcomes .exit)) (now (effects .exit)) ⌝ }
 {
-    let now = world::now_ms(snapshot);
-    let v = x.vol;
-    let list = due_slots(v, now);
-    let vol = move_slots(v, now);
-    let h = Handled {
-        vol,
-        outcomes: x.outcomes,
-        effects: x.effects,
-    };
+    let time = world::now_ms(snapshot);
+    let list = due_slots(v, time);
+    move_slots(v, time);
     let due = list.slots;
     fire_slots(
         snapshot,
@@ -95,7 +94,8 @@ pub fn fire_every(
         store,
         outcomes,
         effects,
-        h,
+        v,
+        x,
         due,
         list.count,
     )

@@ -5,8 +5,8 @@ use crate::slots::fire_every;
 use crate::timers::fire_timers;
 use activate::Handled;
 use image::order::name_order;
-use state::Volatile;
 ghost use Rattle.model.specs.Wheel.{serviceTick};
+ghost use Rattle.activate.specs.Carried.{carried};
 ghost use Rattle.wheel.specs.Tick.{Ready, Fires, start, tickEnv};
 
 // `store` has the flat steps of the image; nothing else of it is read. The rules are put in the order of their names once.
@@ -16,19 +16,27 @@ pub fn service_tick(
     store: &[u32],
     outcomes: &mut [u32],
     effects: &mut [u32],
-    v: Volatile,
+    v: &mut [u32],
 ) -> Handled
-    requires { ⌜ Ready (now snapshot) (now image) (now store) v ⌝ }
-    ensures { λ r. ⌜ Fires 1184 (serviceTick (tickEnv (now (snapshot .entry)) (now (image .entry)))) (start v) (now (outcomes .entry)) (now (effects .entry)) r (now (outcomes .exit)) (now (effects .exit)) ⌝ }
+    requires { ⌜ Ready (now snapshot) (now image) (now store) (now v) ⌝ }
+    ensures { λ r. ⌜ Fires 1184 (serviceTick (tickEnv (now (snapshot .entry)) (now (image .entry)))) (start (now (v .entry))) (now (outcomes .entry)) (now (effects .entry)) (carried (now (v .exit)) r) (now (outcomes .exit)) (now (effects .exit)) ⌝ }
 {
     let order = name_order(image);
     let x = Handled {
-        vol: v,
         outcomes: 0,
         effects: 0,
     };
-    let resumed = fire_continuations(snapshot, image, store, outcomes, effects, x);
-    let timed = fire_timers(snapshot, image, store, outcomes, effects, resumed, order);
-    let repeated = fire_every(snapshot, image, store, outcomes, effects, timed);
-    fire_wall_schedules(snapshot, image, store, outcomes, effects, repeated, order)
+    let resumed = fire_continuations(snapshot, image, store, outcomes, effects, v, x);
+    let timed = fire_timers(snapshot, image, store, outcomes, effects, v, resumed, order);
+    let repeated = fire_every(snapshot, image, store, outcomes, effects, v, timed);
+    fire_wall_schedules(
+        snapshot,
+        image,
+        store,
+        outcomes,
+        effects,
+        v,
+        repeated,
+        order,
+    )
 }

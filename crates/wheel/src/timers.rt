@@ -18,6 +18,7 @@ ghost use Rattle.model.specs.Rows.{rules};
 ghost use Rattle.model.specs.Rules.{triggersOf};
 ghost use Rattle.model.specs.Wheel.{byTimer, firesOn, activateEach, rulesOnTimer, fireTimers};
 ghost use Rattle.image.specs.Accepted.{Accepted};
+ghost use Rattle.activate.specs.Carried.{carried};
 ghost use Rattle.activate.specs.Handled.{Room};
 ghost use Rattle.wheel.specs.Tick.{Holds, Ordered, Fires, tickEnv, onTimer, rulesOfTimers};
 
@@ -59,18 +60,19 @@ fn fire_rule(
     store: &[u32],
     outcomes: &mut [u32],
     effects: &mut [u32],
+    v: &mut [u32],
     x: Handled,
     i: u32,
     timer: u32,
 ) -> Handled
     requires { ⌜ Holds (now store) (now image) × (i < sizeOf (now image) rules) ⌝ }
-    requires { ⌜ Room 1 x ⌝ }
-    ensures { λ r. ⌜ Fires 1 (activateEach (tickEnv (now (snapshot .entry)) (now (image .entry))) byTimer (keep (onTimer (now (image .entry)) timer) (i ∷ []))) x (now (outcomes .entry)) (now (effects .entry)) r (now (outcomes .exit)) (now (effects .exit)) ⌝ }
+    requires { ⌜ Room 1 (carried (now v) x) ⌝ }
+    ensures { λ r. ⌜ Fires 1 (activateEach (tickEnv (now (snapshot .entry)) (now (image .entry))) byTimer (keep (onTimer (now (image .entry)) timer) (i ∷ []))) (carried (now (v .entry)) x) (now (outcomes .entry)) (now (effects .entry)) (carried (now (v .exit)) r) (now (outcomes .exit)) (now (effects .exit)) ⌝ }
 {
     if !fires_on(image, i, timer) {
         return x;
     }
-    activate_if_enabled(snapshot, image, store, outcomes, effects, x, i, BY_TIMER)
+    activate_if_enabled(snapshot, image, store, outcomes, effects, v, x, i, BY_TIMER)
 }
 
 fn fire_one_timer(
@@ -79,20 +81,21 @@ fn fire_one_timer(
     store: &[u32],
     outcomes: &mut [u32],
     effects: &mut [u32],
+    v: &mut [u32],
     x: Handled,
     order: [u32; 64],
     timer: u32,
 ) -> Handled
     requires { ⌜ Holds (now store) (now image) × Ordered (now image) order ⌝ }
-    requires { ⌜ Room 64 x ⌝ }
-    ensures { λ r. ⌜ Fires 64 (activateEach (tickEnv (now (snapshot .entry)) (now (image .entry))) byTimer (rulesOnTimer (now (image .entry)) timer)) x (now (outcomes .entry)) (now (effects .entry)) r (now (outcomes .exit)) (now (effects .exit)) ⌝ }
+    requires { ⌜ Room 64 (carried (now v) x) ⌝ }
+    ensures { λ r. ⌜ Fires 64 (activateEach (tickEnv (now (snapshot .entry)) (now (image .entry))) byTimer (rulesOnTimer (now (image .entry)) timer)) (carried (now (v .entry)) x) (now (outcomes .entry)) (now (effects .entry)) (carried (now (v .exit)) r) (now (outcomes .exit)) (now (effects .exit)) ⌝ }
 {
     let n = size_of(image, 0) as usize;
     let mut h = x;
     let mut j = 0;
     while j < n {
         let i = order[j];
-        h = fire_rule(snapshot, image, store, outcomes, effects, h, i, timer);
+        h = fire_rule(snapshot, image, store, outcomes, effects, v, h, i, timer);
         j += 1;
     }
     h
@@ -104,20 +107,31 @@ fn fire_due_timers(
     store: &[u32],
     outcomes: &mut [u32],
     effects: &mut [u32],
+    v: &mut [u32],
     x: Handled,
     order: [u32; 64],
     due: [NamedTimer; 16],
     n: usize,
 ) -> Handled
     requires { ⌜ Holds (now store) (now image) × Ordered (now image) order × (n ≤ 16) ⌝ }
-    requires { ⌜ Room 1024 x ⌝ }
-    ensures { λ r. ⌜ Fires 1024 (activateEach (tickEnv (now (snapshot .entry)) (now (image .entry))) byTimer (rulesOfTimers (now (image .entry)) (take n due))) x (now (outcomes .entry)) (now (effects .entry)) r (now (outcomes .exit)) (now (effects .exit)) ⌝ }
+    requires { ⌜ Room 1024 (carried (now v) x) ⌝ }
+    ensures { λ r. ⌜ Fires 1024 (activateEach (tickEnv (now (snapshot .entry)) (now (image .entry))) byTimer (rulesOfTimers (now (image .entry)) (take n due))) (carried (now (v .entry)) x) (now (outcomes .entry)) (now (effects .entry)) (carried (now (v .exit)) r) (now (outcomes .exit)) (now (effects .exit)) ⌝ }
 {
     let mut h = x;
     let mut j = 0;
     while j < n {
         let t = due[j];
-        h = fire_one_timer(snapshot, image, store, outcomes, effects, h, order, t.name);
+        h = fire_one_timer(
+            snapshot,
+            image,
+            store,
+            outcomes,
+            effects,
+            v,
+            h,
+            order,
+            t.name,
+        );
         j += 1;
     }
     h
@@ -129,22 +143,17 @@ pub fn fire_timers(
     store: &[u32],
     outcomes: &mut [u32],
     effects: &mut [u32],
+    v: &mut [u32],
     x: Handled,
     order: [u32; 64],
 ) -> Handled
     requires { ⌜ Holds (now store) (now image) × Ordered (now image) order ⌝ }
-    requires { ⌜ Room 1024 x ⌝ }
-    ensures { λ r. ⌜ Fires 1024 (fireTimers (tickEnv (now (snapshot .entry)) (now (image .entry)))) x (now (outcomes .entry)) (now (effects .entry)) r (now (outcomes .exit)) (now (effects .exit)) ⌝ }
+    requires { ⌜ Room 1024 (carried (now v) x) ⌝ }
+    ensures { λ r. ⌜ Fires 1024 (fireTimers (tickEnv (now (snapshot .entry)) (now (image .entry)))) (carried (now (v .entry)) x) (now (outcomes .entry)) (now (effects .entry)) (carried (now (v .exit)) r) (now (outcomes .exit)) (now (effects .exit)) ⌝ }
 {
-    let now = world::now_ms(snapshot);
-    let v = x.vol;
-    let list = due_timers(v, now);
-    let vol = without_due(v, now);
-    let h = Handled {
-        vol,
-        outcomes: x.outcomes,
-        effects: x.effects,
-    };
+    let time = world::now_ms(snapshot);
+    let list = due_timers(v, time);
+    without_due(v, time);
     let due = list.timers;
     fire_due_timers(
         snapshot,
@@ -152,7 +161,8 @@ pub fn fire_timers(
         store,
         outcomes,
         effects,
-        h,
+        v,
+        x,
         order,
         due,
         list.count,

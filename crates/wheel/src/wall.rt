@@ -4,8 +4,7 @@ use image::layout::size_of;
 use image::rule::trigger_at;
 use image::rule::trigger_count;
 use model::Trigger;
-use state::OptionU32;
-use state::Volatile;
+use rows::OptionU32;
 use state::rules::is_enabled;
 use world::MaybeSun;
 ghost use mathlib.Core.Path.{_≡_};
@@ -160,17 +159,17 @@ fn has_wall_trigger(image: &[u32], i: u32) -> bool
 }
 
 // Rule i is enabled and has one.
-fn enabled_wall(image: &[u32], v: Volatile, i: u32) -> bool
-    requires { ⌜ Accepted (now image) × (i < sizeOf (now image) rules) × Sound v ⌝ }
-    ensures { λ r. ⌜ r ≡ enabledWall (now (image .entry)) (meaning v .rest) i ⌝ }
+fn enabled_wall(image: &[u32], v: &[u32], i: u32) -> bool
+    requires { ⌜ Accepted (now image) × (i < sizeOf (now image) rules) × Sound (now v) ⌝ }
+    ensures { λ r. ⌜ r ≡ enabledWall (now (image .entry)) (meaning (now (v .entry)) .rest) i ⌝ }
 {
     is_enabled(v, i as usize) && has_wall_trigger(image, i)
 }
 
 // An enabled rule has a wall trigger.
-pub fn has_wall_triggers(image: &[u32], v: Volatile) -> bool
-    requires { ⌜ Accepted (now image) × Sound v ⌝ }
-    ensures { λ r. ⌜ r ≡ hasWallTriggers (now (image .entry)) (meaning v .rest) ⌝ }
+pub fn has_wall_triggers(image: &[u32], v: &[u32]) -> bool
+    requires { ⌜ Accepted (now image) × Sound (now v) ⌝ }
+    ensures { λ r. ⌜ r ≡ hasWallTriggers (now (image .entry)) (meaning (now (v .entry)) .rest) ⌝ }
 {
     let n = size_of(image, 0);
     let mut i = 0;

@@ -1,6 +1,7 @@
 -- `activate::execute::execute` meets its contract. Assumes nothing.
 use denote.Ref.{now}
 use Rattle.image.proofs.Accepted.{budget-fits}
+use Rattle.activate.specs.Carried.{carried}
 use Rattle.activate.proofs.Running.{changed-room}
 use Rattle.activate.proofs.Activating.{executes-dry, executes-wet}
 use borrow.Author.Needs.{needs}
@@ -9,27 +10,35 @@ use Rattle.activate.proofs.execute.execute.Tie as tie
 
 run-dry-requires : tie.Need-run-dry-requires
 run-dry-requires c κs =
-    let s = c .before .before .before .before .before .before .before .before .before in
-    (s .pre .0, s .pre .1, c .before .before .before .if1 .taken, changed-room (s .args .x) (c .before .before .count .result) _ (c .before .before .count .ensures) 1 (s .pre .2))
+    let b = c .before .before .before .before .before in
+    let i = b .before .before in
+    let s = i .before .before .before .before .before .before .before in
+    (s .pre .0, s .pre .1, i .if1 .taken, changed-room (carried (now (s .args .v)) (s .args .x)) _ _ (b .bump .ensures) 1 (s .pre .2))
 
 returns : tie.Need-returns
 returns c =
-    let s = c .before .before .before .before .before .before .before .before .before .before .before .before .before .before in
-    let k = c .before .before .before .before in
-    executes-dry (now (s .args .snapshot)) (now (s .args .image)) (now (s .args .part)) (s .args .own) (s .args .job) (s .args .x) (k .before .before .before .count .result) _ _ _ _ _ (k .before .before .before .before .if1 .taken) (k .before .before .before .count .ensures) (k .run-dry .ensures)
+    let k = c .before .before .before .before .before .before in
+    let b = k .before .before .before .before .before .before in
+    let i = b .before .before in
+    let s = i .before .before .before .before .before .before .before in
+    executes-dry (now (s .args .snapshot)) (now (s .args .image)) (now (s .args .part)) (s .args .own) (s .args .job) (carried (now (s .args .v)) (s .args .x)) _ _ _ _ _ _ (i .if1 .taken) (b .bump .ensures) (k .run-dry .ensures)
 
 run-wet-requires : tie.Need-run-wet-requires
 run-wet-requires c κs =
-    let s = c .before .before .before .before .before .before .before .before .before .before in
+    let b = c .before .before .before in
+    let f = b .before .before .before in
+    let s = f .before .before .before .before .before .before .before .before .before in
     let few = budget-fits (now (s .args .image)) (s .pre .0 .passes) .1 in
-    ((s .pre .0 .least, s .pre .0 .most), s .pre .1, rw (c .before .before .budget .ensures) few, changed-room (s .args .x) (c .before .before .before .start .result) _ (c .before .before .before .start .ensures) 1 (s .pre .2))
+    ((s .pre .0 .least, s .pre .0 .most), s .pre .1, rw (b .budget .ensures) few, changed-room (carried (now (s .args .v)) (s .args .x)) _ _ (f .start .ensures) 1 (s .pre .2))
 
 returns-2 : tie.Need-returns-2
 returns-2 c =
-    let s = c .before .before .before .before .before .before .before .before .before .before .before .before .before .before .before in
-    let k = c .before .before .before .before in
-    let b = k .before .before .before .budget in
-    executes-wet (now (s .args .snapshot)) (now (s .args .image)) (now (s .args .part)) (s .args .own) (s .args .job) (s .args .x) (k .before .before .before .before .start .result) _ _ _ _ _ (b .result) (k .before .before .before .before .before .if1 .left) (b .ensures) (k .before .before .before .before .start .ensures) (k .run-wet .ensures)
+    let k = c .before .before .before .before .before .before in
+    let b = k .before .before .before .before in
+    let f = b .before .before .before in
+    let i = f .before .before in
+    let s = i .before .before .before .before .before .before .before in
+    executes-wet (now (s .args .snapshot)) (now (s .args .image)) (now (s .args .part)) (s .args .own) (s .args .job) (carried (now (s .args .v)) (s .args .x)) _ _ _ _ _ _ (b .budget .result) (i .if1 .left) (b .budget .ensures) (f .start .ensures) (k .run-wet .ensures)
 
 pub execute-spec : {M : Type 1} → statement M
 execute-spec =
@@ -39,10 +48,12 @@ execute-spec =
     run-dry-requires
     (λ c. search needs)
     (λ c. search needs)
+    (λ c. search needs)
     returns
     (λ c κs. search needs)
     (λ c κs. search needs)
     run-wet-requires
+    (λ c. search needs)
     (λ c. search needs)
     (λ c. search needs)
     returns-2)

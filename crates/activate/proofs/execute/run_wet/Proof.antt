@@ -2,6 +2,7 @@
 use native.Mathlib.Omega.{arith}
 use mathlib.Core.Path.{refl}
 use denote.Ref.{now}
+use Rattle.activate.specs.Carried.{carried}
 use Rattle.activate.proofs.Running.{ready, run-grows, runs-wet}
 use borrow.Author.Needs.{needs}
 use Rattle.activate.proofs.execute.run_wet.Statement.{statement}
@@ -9,28 +10,28 @@ use Rattle.activate.proofs.execute.run_wet.Tie as tie
 
 run-steps-requires : tie.Need-run-steps-requires
 run-steps-requires c κs =
-    let s = c .before .before .before .before .before .before .before in
-    ((s .pre .0, s .pre .1), ready (s .args .x) (s .args .most) (s .pre .2) (s .pre .3))
+    let s = c .before .before .before .before .before .before .before .before in
+    ((s .pre .0, s .pre .1), ready (carried (now (s .args .v)) (s .args .x)) (s .args .most) (s .pre .2) (s .pre .3))
 
 sub-finish-wet : tie.Need-sub-finish-wet
 sub-finish-wet c =
-    let s = c .before .before .before .before .before .before .before .before .before .before .before .before .before in
-    run-grows (now (s .args .snapshot)) (now (s .args .image)) (now (s .args .part)) (s .args .own) (s .args .job) (s .args .x) (s .args .most) _ (c .before .before .before .before .before .run-steps .result) _ (s .pre .1) (s .args .from) (c .before .before .before .before .before .run-steps .ensures)
-
-finish-wet-requires : tie.Need-finish-wet-requires
-finish-wet-requires c κs = c .before .before .before .before .before .run-steps .ensures .sound
+    let k = c .before .before .before .before .before .before .before in
+    let s = k .before .before .before .before .before .before .before .before .before in
+    run-grows (now (s .args .snapshot)) (now (s .args .image)) (now (s .args .part)) (s .args .own) (s .args .job) (now (s .args .v)) (s .args .x) (s .args .most) _ _ _ (s .pre .1) (s .args .from) (k .run-steps .ensures)
 
 push-outcome-requires : tie.Need-push-outcome-requires
 push-outcome-requires c κs =
-    let s = c .before .before .before .before .before .before .before .before .before .before .before .before .before .before .before in
-    let k = c .before .before .before .before .before .before .before in
-    (omega (arith, s .pre .3 .outcomes), run-grows (now (s .args .snapshot)) (now (s .args .image)) (now (s .args .part)) (s .args .own) (s .args .job) (s .args .x) (s .args .most) _ (k .run-steps .result) _ (s .pre .1) (s .args .from) (k .run-steps .ensures))
+    let k = c .before .before .before .before .before .before .before .before .before .before .before in
+    let s = k .before .before .before .before .before .before .before .before .before in
+    (omega (arith, s .pre .3 .outcomes), run-grows (now (s .args .snapshot)) (now (s .args .image)) (now (s .args .part)) (s .args .own) (s .args .job) (now (s .args .v)) (s .args .x) (s .args .most) _ _ _ (s .pre .1) (s .args .from) (k .run-steps .ensures))
 
 returns : tie.Need-returns
 returns c =
-    let s = c .before .before .before .before .before .before .before .before .before .before .before .before .before .before .before .before .before .before in
-    let k = c .before .before .before .before .before .before .before .before .before .before in
-    runs-wet (now (s .args .snapshot)) (now (s .args .image)) (now (s .args .part)) (s .args .own) (s .args .job) (s .args .x) (s .args .most) _ (k .run-steps .result) _ (s .pre .1) (s .args .from) (k .run-steps .ensures) _ _ (c .before .before .before .before .finish-wet .result) _ _ (s .pre .2) refl (c .before .before .before .before .finish-wet .ensures) (c .before .before .push-outcome .ensures)
+    let p = c .before .before in
+    let f = p .before .before .before .before in
+    let k = f .before .before .before .before .before .before .before .before in
+    let s = k .before .before .before .before .before .before .before .before .before in
+    runs-wet (now (s .args .snapshot)) (now (s .args .image)) (now (s .args .part)) (s .args .own) (s .args .job) (now (s .args .v)) (s .args .x) (s .args .most) _ _ _ (s .pre .1) (s .args .from) (k .run-steps .ensures) _ _ _ (p .push-outcome .result) _ (s .pre .2) refl (f .finish-wet .ensures) (p .push-outcome .ensures)
 
 pub run-wet-spec : {M : Type 1} → statement M
 run-wet-spec =
@@ -38,8 +39,9 @@ run-wet-spec =
     (tie.spec
     run-steps-requires
     sub-finish-wet
-    finish-wet-requires
+    (λ c κs. search needs)
     push-outcome-requires
+    (λ c. search needs)
     (λ c. search needs)
     (λ c. search needs)
     returns)

@@ -1,5 +1,4 @@
 -- `activate::execute::start` meets its contract. Assumes nothing.
-use mathlib.Core.Path.{refl}
 use denote.Ref.{now}
 use Rattle.activate.proofs.Running.{starts}
 use borrow.Author.Needs.{needs}
@@ -8,8 +7,11 @@ use Rattle.activate.proofs.execute.start.Tie as tie
 
 returns : tie.Need-returns
 returns c =
-    let s = c .before .before .before .before .before .before in
-    starts (now (s .args .snapshot)) (s .args .job) (s .args .x) (c .before .before .bump .result) _ _ (c .before .before .before .before .now-ms .ensures) (c .before .before .bump .ensures) (c .set-last-activation .ensures) refl refl
+    let l = c .before .before in
+    let b = l .before .before .before .before .before in
+    let t = b .before .before in
+    let s = t .before .before .before in
+    starts (now (s .args .snapshot)) (s .args .job) (now (s .args .v)) _ _ _ (t .now-ms .ensures) (b .bump .ensures) (l .set-last-activation .ensures)
 
 pub start-spec : {M : Type 1} → statement M
 start-spec =
@@ -19,4 +21,5 @@ start-spec =
     (λ c κs. search needs)
     (λ c. search needs)
     (λ c κs. search needs)
+    (λ c. search needs)
     returns)

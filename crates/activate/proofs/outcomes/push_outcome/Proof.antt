@@ -7,8 +7,9 @@ use Rattle.activate.proofs.outcomes.push_outcome.Tie as tie
 
 returns : tie.Need-returns
 returns c =
-    let s = c .before .before .before .before .before .before .before in
-    record { written = λ es e. c .before .before .before .put-outcome .ensures es (omega (arith, e, s .pre .1)); state = refl; outcomes = omega arith; effects = refl }
+    let p = c .before .before .before in
+    let s = p .before .before .before .before in
+    record { written = λ es e. p .put-outcome .ensures es (omega (arith, e, s .pre .1)); outcomes = omega arith; effects = refl }
 
 pub push-outcome-spec : {M : Type 1} → statement M
 push-outcome-spec =

@@ -1,57 +1,57 @@
 -- `engine::sets::load` meets its contract. Assumes nothing.
-use mathlib.Core.Path.{sym}
+use mathlib.Core.Path.{refl, sym, _∙_}
 use native.Mathlib.Omega.{arith}
-use borrow.Author.Needs.{needs}
+use denote.Ref.{now}
 use Rattle.engine.proofs.WordLaws.{said}
 use Rattle.engine.proofs.CallLaws.{itself, words-fit, load-seen}
+use borrow.Author.Needs.{needs}
 use Rattle.engine.proofs.sets.load.Statement.{statement}
 use Rattle.engine.proofs.sets.load.Tie as tie
 
+begin-requires : tie.Need-begin-requires
+begin-requires c κs = (c .before .before .before .before .pre .0, refl)
+
 with-set-requires : tie.Need-with-set-requires
 with-set-requires c κs =
-    let s = c .before .before .before .before .before in
-    let k = said _ (s .pre .0) in
-    (s .pre .0, s .pre .1, itself (c .before .volatile-in .ensures (k .store) (k .is)))
+    let p = c .before .before .before .before .before .before .before .before .pre in
+    let k = said _ (p .0) in
+    (p .0, p .1, itself (c .before .before .before .begin .ensures (k .store) (k .is)))
 
 put-loaded-requires : tie.Need-put-loaded-requires
-put-loaded-requires c κs =
-    let s = c .before .before .before .before .before .before .before in
-    (said _ (s .pre .0) .long, s .pre .1)
+put-loaded-requires c κs = (said _ (c .before .before .before .before .before .before .before .before .before .before .before .pre .0) .long, c .before .before .before .before .before .before .before .before .before .before .before .pre .1)
 
-put-volatile-requires : tie.Need-put-volatile-requires
-put-volatile-requires c κs =
-    let d = c .before .before .before .before .before in
-    let s = d .before .before .before .before .before .before in
-    let k = said _ (s .pre .0) in
-    (omega (arith, k .long), itself (d .with-set .ensures (k .store) (k .is) (sym (d .before .before .volatile-in .ensures (k .store) (k .is) .says))))
+put-state-requires : tie.Need-put-state-requires
+put-state-requires c κs =
+    let k = said _ (c .before .before .before .before .before .before .before .before .before .before .before .before .before .before .before .before .pre .0) in
+    (c .before .before .before .store .given ∙ k .long, itself (c .before .before .before .before .before .before .before .with-set .ensures (k .store) (k .is) (sym (c .before .before .before .before .before .before .before .before .before .before .before .begin .ensures (k .store) (k .is) .says))))
 
 put-last-requires : tie.Need-put-last-requires
-put-last-requires c κs =
-    let d = c .before .before .before .before .before .before .before .before .before in
-    let k = said _ (d .before .before .before .before .before .before .pre .0) in
-    omega (arith, k .long)
+put-last-requires c κs = c .before .before .store2 .given ∙ c .before .before .before .before .before .before .before .store .given ∙ said _ (c .before .before .before .before .before .before .before .before .before .before .before .before .before .before .before .before .before .before .before .before .pre .0) .long
 
 returns : tie.Need-returns
 returns c =
-    let d = c .before .before .before .before .before .before .before .before .before .before .before .before in
-    let s = d .before .before .before .before .before .before in
+    let s = c .before .before .before .before .before .before .before .before .before .before .before .before .before .before .before .before .before .before .before .before .before .before .before in
     let k = said _ (s .pre .0) in
-    load-seen (s .args .time) (s .args .image .now) _ _ _ _ (d .with-set .result) (omega (arith, s .fits .time))
-    (words-fit (s .args .image .now) (λ i. omega (arith, d .before .before .before .before .shared-slice-known .given i)))
+    let img = now (s .args .image) in
+    load-seen (s .args .time) img _ _ _ _ _ (omega (arith, s .fits .time))
+    (words-fit img (λ i. omega (arith, c .before .before .before .before .before .before .before .before .before .before .before .before .before .before .before .before .before .before .before .before .before .shared-slice-known .given i)))
     (s .pre .1) k
-    (d .with-set .ensures (k .store) (k .is) (sym (d .before .before .volatile-in .ensures (k .store) (k .is) .says)))
-    (c .before .before .before .before .before .before .before .before .before .before .put-loaded .ensures)
-    (c .before .before .before .before .before .before .put-volatile .ensures)
+    (c .before .before .before .before .before .before .before .before .before .before .before .before .before .before .with-set .ensures (k .store) (k .is) (sym (c .before .before .before .before .before .before .before .before .before .before .before .before .before .before .before .before .before .before .begin .ensures (k .store) (k .is) .says)))
+    (c .before .before .before .before .before .before .before .before .before .before .before .put-loaded .ensures)
+    (c .before .before .before .before .before .before .put-state .ensures)
     (c .before .before .put-last .ensures)
 
 pub load-spec : {M : Type 1} → statement M
 load-spec =
     tie.close
     (tie.spec
-    (λ c κs. search needs)
+    (λ c. search needs)
+    begin-requires
+    (λ c. search needs)
     with-set-requires
     put-loaded-requires
-    put-volatile-requires
+    (λ c. search needs)
+    put-state-requires
     put-last-requires
     (λ c. search needs)
     returns)

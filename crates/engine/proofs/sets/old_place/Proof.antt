@@ -1,6 +1,6 @@
 -- `engine::sets::old_place` meets its contract. Assumes nothing.
-use borrow.Author.Needs.{needs}
 use Rattle.engine.proofs.LoadedLaws.{nothing-kept, kept-there}
+use borrow.Author.Needs.{needs}
 use Rattle.engine.proofs.sets.old_place.Statement.{statement}
 use Rattle.engine.proofs.sets.old_place.Tie as tie
 

@@ -1,7 +1,7 @@
 -- `engine::stored::deadline_answer` meets its contract. Assumes nothing.
 use mathlib.Core.Path.{sym, ap}
 use mathlib.Core.Bool.{Bool}
-use Rattle.state.specs.Meaning.{optional}
+use Rattle.rows.specs.Options.{optional}
 use Rattle.engine.specs.Answers.{deadlineIs}
 use Rattle.engine.proofs.stored.deadline_answer.Statement.{statement}
 use Rattle.engine.proofs.stored.deadline_answer.Tie as tie

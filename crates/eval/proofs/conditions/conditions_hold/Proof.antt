@@ -23,16 +23,16 @@ abbrev μ-loop : tie.MeasureT-loop
 μ-loop snapshot image v rule n k₀ k = n - k
 
 condition-count-requires : tie.Need-condition-count-requires Inv-loop μ-loop
-condition-count-requires c κs = let t = c .before .before in (t .pre .0 .least, t .pre .0 .most)
+condition-count-requires c κs = let t = c .before .before .before in (t .pre .0 .least, t .pre .0 .most)
 
 loop-holds : tie.Need-loop-holds Inv-loop μ-loop
 loop-holds c = (omega arith, c .condition-count .ensures, λ flat. starts _ _ _)
 
 condition-at-requires : tie.Need-condition-at-requires Inv-loop μ-loop
-condition-at-requires c κs = let t = c .before .before .before .before .before in (t .pre .0, (t .pre .1 .1, omega (arith, c .loop-test .taken, c .before .loop .inv .1)))
+condition-at-requires c κs = let t = c .before .before .before .before .before .before in (t .pre .0, (t .pre .1 .1, omega (arith, c .loop-test .taken, c .before .loop .inv .1)))
 
 eval-condition-requires : tie.Need-eval-condition-requires Inv-loop μ-loop
-eval-condition-requires c κs = let t = c .before .before .before .before .before .before in ((t .pre .0 .least, t .pre .0 .most), t .pre .1 .0)
+eval-condition-requires c κs = let t = c .before .before .before .before .before .before .before in ((t .pre .0 .least, t .pre .0 .most), t .pre .1 .0)
 
 loop-again : tie.Need-loop-again Inv-loop μ-loop
 loop-again c = (

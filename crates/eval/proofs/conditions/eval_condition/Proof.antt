@@ -5,7 +5,7 @@ use Rattle.eval.proofs.conditions.eval_condition.Statement.{statement}
 use Rattle.eval.proofs.conditions.eval_condition.Tie as tie
 
 eval-device-condition-requires : tie.Need-eval-device-condition-requires
-eval-device-condition-requires c κs = let t = c .before .before .before in (t .pre .0, (t .pre .1, past-groups (t .args .condition) (c .match .keys8)))
+eval-device-condition-requires c κs = let t = c .before .before .before .before in (t .pre .0, (t .pre .1, past-groups (t .args .condition) (c .match .keys8)))
 
 returns : tie.Need-returns
 returns c = λ flat. rw (c .before .before .condition .given .1) (c .time-in-range .ensures _ flat)

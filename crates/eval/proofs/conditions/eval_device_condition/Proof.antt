@@ -5,7 +5,7 @@ use Rattle.eval.proofs.conditions.eval_device_condition.Statement.{stat
 use Rattle.eval.proofs.conditions.eval_device_condition.Tie as tie
 
 eval-state-condition-requires : tie.Need-eval-state-condition-requires
-eval-state-condition-requires c κs = let t = c .before .before .before in (t .pre .0, (t .pre .1 .0, past-devices (t .args .condition) (t .pre .1 .1) (c .match .keys5)))
+eval-state-condition-requires c κs = let t = c .before .before .before .before in (t .pre .0, (t .pre .1 .0, past-devices (t .args .condition) (t .pre .1 .1) (c .match .keys5)))
 
 returns : tie.Need-returns
 returns c = λ flat. rw (c .before .before .condition .given .1) (c .input-occupancy .ensures _ flat _)

@@ -20,7 +20,7 @@ returns-5 : tie.Need-returns-5
 returns-5 c = λ flat. rw (c .before .before .condition4 .given .1) (c .compare-var .ensures flat)
 
 returns-6 : tie.Need-returns-6
-returns-6 c = λ flat. let t = c .before .before .before in past-state _ _ (t .args .condition) (t .pre .1 .1) (c .match .keys6)
+returns-6 c = λ flat. let t = c .before .before .before .before in past-state _ _ (t .args .condition) (t .pre .1 .1) (c .match .keys6)
 
 pub eval-state-condition-spec : {M : Type 1} → statement M
 eval-state-condition-spec =

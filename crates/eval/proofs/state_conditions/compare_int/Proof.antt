@@ -14,7 +14,7 @@ returns-2 : tie.Need-returns-2
 returns-2 c = λ flat.
     let k = c .before .before in
     let number = toZ-ofZ (record { sfits = c .before .as-i64 .ok }) ∙ c .before .as-i64 .ensures in
-    rw (ne-eqb _ _ (k .before .if1 .left)) (c .compared .ensures ∙ known-compared (k .before .before .before .before .args .cmp) number (k .value-at .ensures flat))
+    rw (ne-eqb _ _ (k .before .if1 .left)) (c .compared .ensures ∙ known-compared (k .before .before .before .before .before .args .cmp) number (k .value-at .ensures flat))
 
 pub compare-int-spec : {M : Type 1} → statement M
 compare-int-spec =

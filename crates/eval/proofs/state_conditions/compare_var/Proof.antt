@@ -21,9 +21,9 @@ unfolding evalCondition
 returns-2 c = λ flat.
     let k = c .before .before .before .before .before .before in
     let t = c .before .before .before .x3 in
-    let a = k .before .before .before .before .before .args in
+    let a = k .before .before .before .before .before .before .args in
     let e = envOf (a .snapshot .now) (a .image .now) flat in
-    let text = text-compared e (meaning (a .v) .rest) (t .given .0 .0) (a .cmp) (isOne (a .tag)) (a .operand) in
+    let text = text-compared e (meaning (a .v .now) .rest) (t .given .0 .0) (a .cmp) (isOne (a .tag)) (a .operand) in
     rw (← k .before .before .variable .ensures, k .x .given .1, t .given .1) (c .verdict .ensures ∙ ap some (c .before .compare-texts .ensures) ∙ text)
 
 returns-3 : tie.Need-returns-3

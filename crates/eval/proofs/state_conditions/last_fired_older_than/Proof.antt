@@ -12,9 +12,9 @@ returns : tie.Need-returns
 unfolding evalCondition lastFiredOlder
 returns c = λ flat.
     let k = c .before .before .before .before in
-    let a = k .before .before .before .before .before .args in
+    let a = k .before .before .before .before .before .before .args in
     let named = found-at _ _ (sym (k .i .given .1) ∙ k .before .before .rule-named .ensures) in
-    let older = c .before .older-than .ensures (a .image .now) flat (meaning (a .v) .rest) in
+    let older = c .before .older-than .ensures (a .image .now) flat (meaning (a .v .now) .rest) in
     rw (named, ← c .before .before .last-activation .ensures) (c .verdict .ensures ∙ ap some older)
 
 returns-2 : tie.Need-returns-2

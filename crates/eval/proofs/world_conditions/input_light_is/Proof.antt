@@ -7,7 +7,7 @@ use Rattle.eval.proofs.world_conditions.input_light_is.Tie as tie
 
 returns : tie.Need-returns
 unfolding evalCondition
-returns c = λ flat. let a = c .before .before .before .before .before .args in rw (c .light-is .ensures, c .before .before .input-light .ensures (meaning (a .v) .rest) (a .image .now) flat, c .before .value-at .ensures flat)
+returns c = λ flat. let a = c .before .before .before .before .before .before .args in rw (c .light-is .ensures, c .before .before .input-light .ensures (meaning (a .v .now) .rest) (a .image .now) flat, c .before .value-at .ensures flat)
 
 pub input-light-is-spec : {M : Type 1} → statement M
 input-light-is-spec =

@@ -7,7 +7,7 @@ use Rattle.eval.proofs.world_conditions.lamp_cct_is.Tie as tie
 
 returns : tie.Need-returns
 unfolding evalCondition
-returns c = λ flat. let a = c .before .before .before .before .before .args in rw (c .compared .ensures, c .before .before .lamp-cct .ensures (meaning (a .v) .rest) (a .image .now) flat, c .before .value-at .ensures flat)
+returns c = λ flat. let a = c .before .before .before .before .before .before .args in rw (c .compared .ensures, c .before .before .lamp-cct .ensures (meaning (a .v .now) .rest) (a .image .now) flat, c .before .value-at .ensures flat)
 
 pub lamp-cct-is-spec : {M : Type 1} → statement M
 lamp-cct-is-spec =

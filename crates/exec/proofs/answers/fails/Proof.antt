@@ -7,7 +7,7 @@ use Rattle.exec.proofs.answers.fails.Tie as tie
 
 returns : tie.Need-returns
 unfolding fails
-returns c = record { state = c .bump .ensures; effect = refl; reason = refl }
+returns c = record { state = c .before .before .bump .ensures; effect = refl; reason = refl }
 
 pub fails-spec : {M : Type 1} → statement M
-fails-spec = tie.close (tie.spec (λ c κs. search needs) returns)
+fails-spec = tie.close (tie.spec (λ c κs. search needs) (λ c. search needs) returns)

@@ -19,10 +19,4 @@ returns-2 c flat = ap levelAt (sym (ap numberOf (c .enum-told .given .1)) ∙ c 
 pub level-at-spec : {M : Type 1} → statement M
 level-at-spec =
     tie.close
-    (tie.spec
-    (λ c κs. search needs)
-    (λ c. search needs)
-    (λ c κs. search needs)
-    (λ c. search needs)
-    returns
-    returns-2)
+    (tie.spec (λ c κs. search needs) (λ c. search needs) (λ c κs. search needs) (λ c. search needs) returns returns-2)

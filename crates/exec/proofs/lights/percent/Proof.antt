@@ -11,14 +11,9 @@ use Rattle.exec.proofs.lights.percent.Tie as tie
 
 returns : tie.Need-returns
 returns c flat =
-    let a = c .before .before .before .before .args in
+    let a = c .before .before .before .before .before .before .before .before .before .args in
     let e = envOf (now (a .snapshot)) (now (a .image)) flat in
-    answers (c .dim .ensures e) (percent e (jobOf (a .job)) (meaning (a .v) .rest) (a .target) (a .hold) (a .value) _ (c .before .level-at .ensures flat))
+    answers (c .before .before .dim .ensures e) (percent e (jobOf (a .job)) (meaning (now (a .v)) .rest) (a .target) (a .hold) (a .value) _ (c .before .before .before .before .level-at .ensures flat))
 
 pub percent-spec : {M : Type 1} → statement M
-percent-spec =
-    tie.close
-    (tie.spec
-    (λ c κs. search needs)
-    (λ c κs. search needs)
-    returns)
+percent-spec = tie.close (tie.spec (λ c κs. search needs) (λ c κs. search needs) (λ c. search needs) returns)

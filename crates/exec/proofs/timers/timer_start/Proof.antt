@@ -7,10 +7,12 @@ use Rattle.exec.proofs.timers.timer_start.Statement.{statement}
 use Rattle.exec.proofs.timers.timer_start.Tie as tie
 
 returns : tie.Need-returns
-returns c image flat = answers (c .no-effect .ensures) (start-runs _ _ _ _ _ (sym (c .before .before .has-timer .ensures) ∙ c .before .if1 .taken))
+returns c image flat = answers (c .no-effect .ensures _ (c .before .before .before .before .before .before .pre)) (start-runs _ _ _ _ _ (sym (c .before .before .has-timer .ensures) ∙ c .before .if1 .taken))
 
 returns-2 : tie.Need-returns-2
-returns-2 c image flat = answers (c .arm-timer .ensures image flat _) (start-arms _ _ _ _ _ (sym (c .before .before .has-timer .ensures) ∙ c .before .if1 .left))
+returns-2 c image flat = answers (c .before .before .arm-timer .ensures image flat _) (start-arms _ _ _ _ _ (sym (c .before .before .before .before .before .has-timer .ensures) ∙ c .before .before .before .before .if1 .left))
 
 pub timer-start-spec : {M : Type 1} → statement M
-timer-start-spec = tie.close (tie.spec (λ c κs. search needs) (λ c κs. search needs) returns (λ c κs. search needs) returns-2)
+timer-start-spec =
+    tie.close
+    (tie.spec (λ c κs. search needs) (λ c κs. search needs) (λ c. search needs) returns (λ c κs. search needs) (λ c. search needs) returns-2)

@@ -12,10 +12,12 @@ use Rattle.exec.proofs.variables.panel_select.Statement.{statement}
 use Rattle.exec.proofs.variables.panel_select.Tie as tie
 
 returns : tie.Need-returns
-returns c flat = answers (c .select .ensures (now (c .before .before .before .before .before .before .before .args .snapshot)) flat) (panel (envOf (now (c .before .before .before .before .before .before .before .args .snapshot)) (now (c .before .before .before .before .before .before .before .args .image)) flat) (jobOf (c .before .before .before .before .before .before .before .args .job)) (meaning (c .before .before .before .before .before .before .before .args .v) .rest) (c .before .before .before .before .before .before .before .args .adapter) (c .before .before .before .before .before .before .before .args .group) (c .before .before .before .before .before .before .before .args .selected) _ (stored-some (c .before .before .n .given .0 .0) _ (record { sfits = c .before .known-told .given .0 .1 }) (sym (ap numberOf (c .before .before .n .given .1)) ∙ c .before .before .before .before .value-at .ensures flat)))
+returns c flat = answers (c .before .before .select .ensures (now (c .before .before .before .before .before .before .before .before .before .before .before .before .args .snapshot)) flat) (panel (envOf (now (c .before .before .before .before .before .before .before .before .before .before .before .before .args .snapshot)) (now (c .before .before .before .before .before .before .before .before .before .before .before .before .args .image)) flat) (jobOf (c .before .before .before .before .before .before .before .before .before .before .before .before .args .job)) (meaning (now (c .before .before .before .before .before .before .before .before .before .before .before .before .args .v)) .rest) (c .before .before .before .before .before .before .before .before .before .before .before .before .args .adapter) (c .before .before .before .before .before .before .before .before .before .before .before .before .args .group) (c .before .before .before .before .before .before .before .before .before .before .before .before .args .selected) _ (stored-some (c .before .before .before .before .before .n .given .0 .0) _ (record { sfits = c .before .before .before .before .known-told .given .0 .1 }) (sym (ap numberOf (c .before .before .before .before .before .n .given .1)) ∙ c .before .before .before .before .before .before .before .value-at .ensures flat)))
 
 returns-2 : tie.Need-returns-2
-returns-2 c flat = answers (c .fails .ensures) (panel (envOf (now (c .before .before .before .before .before .before .args .snapshot)) (now (c .before .before .before .before .before .before .args .image)) flat) (jobOf (c .before .before .before .before .before .before .args .job)) (meaning (c .before .before .before .before .before .before .args .v) .rest) (c .before .before .before .before .before .before .args .adapter) (c .before .before .before .before .before .before .args .group) (c .before .before .before .before .before .before .args .selected) _ (sym (ap numberOf (c .before .enum-told .given .1)) ∙ c .before .before .before .value-at .ensures flat))
+returns-2 c flat = answers (c .before .before .fails .ensures) (panel (envOf (now (c .before .before .before .before .before .before .before .before .before .before .before .args .snapshot)) (now (c .before .before .before .before .before .before .before .before .before .before .before .args .image)) flat) (jobOf (c .before .before .before .before .before .before .before .before .before .before .before .args .job)) (meaning (now (c .before .before .before .before .before .before .before .before .before .before .before .args .v)) .rest) (c .before .before .before .before .before .before .before .before .before .before .before .args .adapter) (c .before .before .before .before .before .before .before .before .before .before .before .args .group) (c .before .before .before .before .before .before .before .before .before .before .before .args .selected) _ (sym (ap numberOf (c .before .before .before .before .enum-told .given .1)) ∙ c .before .before .before .before .before .before .value-at .ensures flat))
 
 pub panel-select-spec : {M : Type 1} → statement M
-panel-select-spec = tie.close (tie.spec (λ c κs. search needs) (λ c. search needs) (λ c κs. search needs) (λ c. search needs) (λ c κs. search needs) returns returns-2)
+panel-select-spec =
+    tie.close
+    (tie.spec (λ c κs. search needs) (λ c. search needs) (λ c κs. search needs) (λ c. search needs) (λ c κs. search needs) (λ c. search needs) returns (λ c. search needs) returns-2)

@@ -12,10 +12,12 @@ use Rattle.exec.proofs.variables.var_add.Statement.{statement}
 use Rattle.exec.proofs.variables.var_add.Tie as tie
 
 returns : tie.Need-returns
-returns c flat = answers (c .add-to .ensures (envOf (now (c .before .before .before .before .before .before .before .before .args .snapshot)) (now (c .before .before .before .before .before .before .before .before .args .image)) flat)) (adds (envOf (now (c .before .before .before .before .before .before .before .before .args .snapshot)) (now (c .before .before .before .before .before .before .before .before .args .image)) flat) (jobOf (c .before .before .before .before .before .before .before .before .args .job)) (meaning (c .before .before .before .before .before .before .before .before .args .v) .rest) (c .before .before .before .before .before .before .before .before .args .name) (c .before .before .before .before .before .before .before .before .args .delta) _ _ (stored-some (c .before .before .before .step .given .0 .0) _ (record { sfits = c .before .before .known-told .given .0 .1 }) (sym (ap numberOf (c .before .before .before .step .given .1)) ∙ c .before .before .before .before .before .value-at .ensures flat)) (c .before .variable .ensures))
+returns c flat = answers (c .before .before .add-to .ensures (envOf (now (c .before .before .before .before .before .before .before .before .before .before .before .before .before .before .args .snapshot)) (now (c .before .before .before .before .before .before .before .before .before .before .before .before .before .before .args .image)) flat)) (adds (envOf (now (c .before .before .before .before .before .before .before .before .before .before .before .before .before .before .args .snapshot)) (now (c .before .before .before .before .before .before .before .before .before .before .before .before .before .before .args .image)) flat) (jobOf (c .before .before .before .before .before .before .before .before .before .before .before .before .before .before .args .job)) (meaning (now (c .before .before .before .before .before .before .before .before .before .before .before .before .before .before .args .v)) .rest) (c .before .before .before .before .before .before .before .before .before .before .before .before .before .before .args .name) (c .before .before .before .before .before .before .before .before .before .before .before .before .before .before .args .delta) _ _ (stored-some (c .before .before .before .before .before .before .before .step .given .0 .0) _ (record { sfits = c .before .before .before .before .before .before .known-told .given .0 .1 }) (sym (ap numberOf (c .before .before .before .before .before .before .before .step .given .1)) ∙ c .before .before .before .before .before .before .before .before .before .value-at .ensures flat)) (c .before .before .before .before .variable .ensures))
 
 returns-2 : tie.Need-returns-2
-returns-2 c flat = answers (c .fails .ensures) (adds (envOf (now (c .before .before .before .before .before .before .args .snapshot)) (now (c .before .before .before .before .before .before .args .image)) flat) (jobOf (c .before .before .before .before .before .before .args .job)) (meaning (c .before .before .before .before .before .before .args .v) .rest) (c .before .before .before .before .before .before .args .name) (c .before .before .before .before .before .before .args .delta) _ _ (sym (ap numberOf (c .before .enum-told .given .1)) ∙ c .before .before .before .value-at .ensures flat) refl)
+returns-2 c flat = answers (c .before .before .fails .ensures) (adds (envOf (now (c .before .before .before .before .before .before .before .before .before .before .before .args .snapshot)) (now (c .before .before .before .before .before .before .before .before .before .before .before .args .image)) flat) (jobOf (c .before .before .before .before .before .before .before .before .before .before .before .args .job)) (meaning (now (c .before .before .before .before .before .before .before .before .before .before .before .args .v)) .rest) (c .before .before .before .before .before .before .before .before .before .before .before .args .name) (c .before .before .before .before .before .before .before .before .before .before .before .args .delta) _ _ (sym (ap numberOf (c .before .before .before .before .enum-told .given .1)) ∙ c .before .before .before .before .before .before .value-at .ensures flat) refl)
 
 pub var-add-spec : {M : Type 1} → statement M
-var-add-spec = tie.close (tie.spec (λ c κs. search needs) (λ c. search needs) (λ c κs. search needs) (λ c κs. search needs) (λ c. search needs) (λ c κs. search needs) returns returns-2)
+var-add-spec =
+    tie.close
+    (tie.spec (λ c κs. search needs) (λ c. search needs) (λ c κs. search needs) (λ c κs. search needs) (λ c. search needs) (λ c κs. search needs) (λ c. search needs) returns (λ c. search needs) returns-2)

@@ -1,5 +1,5 @@
 -- `exports::evaluation::cerambiu_condition` meets its contract. Assumes nothing.
-use mathlib.Core.Path.{sym, _∙_}
+use mathlib.Core.Path.{refl, sym, _∙_}
 use borrow.Author.Needs.{needs}
 use borrow.Author.Tests.{not-true, not-false}
 use Rattle.exports.proofs.Givens.{given-is}
@@ -10,18 +10,16 @@ use Rattle.exports.proofs.evaluation.cerambiu_condition.Tie as tie
 returns : tie.Need-returns
 returns c = no-condition _ _ _ _ (sym (c .before .given .ensures) ∙ not-true _ (c .if1 .taken))
 
-state-in-requires : tie.Need-state-in-requires
-state-in-requires c κs = sym (c .before .given .ensures) ∙ not-false _ (c .if1 .left)
+begin-requires : tie.Need-begin-requires
+begin-requires c κs = (sym (c .before .before .given .ensures) ∙ not-false _ (c .before .if1 .left), refl)
 
 condition-at-requires : tie.Need-condition-at-requires
 condition-at-requires c κs =
-    let b = c .before in
-    (given-is _ _ _ (sym (b .before .given .ensures) ∙ not-false _ (b .if1 .left)) .sized, c .state-in .ensures .sound)
+    (given-is _ _ _ (sym (c .before .before .before .before .before .given .ensures) ∙ not-false _ (c .before .before .before .before .if1 .left)) .sized, c .before .before .begin .ensures .sound)
 
 returns-2 : tie.Need-returns-2
 returns-2 c =
-    let b = c .before .before .before in
-    condition-told _ _ _ _ (sym (b .before .given .ensures) ∙ not-false _ (b .if1 .left)) _ (c .before .before .state-in .ensures)
+    condition-told _ _ _ _ (sym (c .before .before .before .before .before .before .before .given .ensures) ∙ not-false _ (c .before .before .before .before .before .before .if1 .left)) _ (c .before .before .before .before .begin .ensures)
     (c .before .condition-at .result) _
     (c .before .condition-at .ensures) (c .verdict-code .ensures)
 
@@ -31,7 +29,9 @@ cerambiu-condition-spec =
     (tie.spec
     (λ c κs. search needs)
     returns
-    state-in-requires
+    (λ c. search needs)
+    begin-requires
+    (λ c. search needs)
     condition-at-requires
     (λ c κs. search needs)
     returns-2)

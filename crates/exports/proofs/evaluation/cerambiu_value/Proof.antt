@@ -1,5 +1,5 @@
 -- `exports::evaluation::cerambiu_value` meets its contract. Assumes nothing.
-use mathlib.Core.Path.{sym, _∙_}
+use mathlib.Core.Path.{refl, sym, _∙_}
 use borrow.Author.Needs.{needs}
 use borrow.Author.Tests.{not-true, not-false}
 use Rattle.exports.proofs.Givens.{given-is}
@@ -8,35 +8,27 @@ use Rattle.exports.proofs.evaluation.cerambiu_value.Statement.{statemen
 use Rattle.exports.proofs.evaluation.cerambiu_value.Tie as tie
 
 returns : tie.Need-returns
-returns c =
-    let b = c .before .before in
-    c .put-number .ensures ∙ no-value _ _ _ _ (sym (b .before .given .ensures) ∙ not-true _ (b .if1 .taken))
+returns c = c .put-number .ensures ∙ no-value _ _ _ _ (sym (c .before .before .before .given .ensures) ∙ not-true _ (c .before .before .if1 .taken))
 
-state-in-requires : tie.Need-state-in-requires
-state-in-requires c κs = sym (c .before .given .ensures) ∙ not-false _ (c .if1 .left)
+begin-requires : tie.Need-begin-requires
+begin-requires c κs = (sym (c .before .before .given .ensures) ∙ not-false _ (c .before .if1 .left), refl)
 
 value-at-requires : tie.Need-value-at-requires
 value-at-requires c κs =
-    let b = c .before in
-    (given-is _ _ _ (sym (b .before .given .ensures) ∙ not-false _ (b .if1 .left)) .sized, c .state-in .ensures .sound)
+    (given-is _ _ _ (sym (c .before .before .before .before .before .given .ensures) ∙ not-false _ (c .before .before .before .before .if1 .left)) .sized, c .before .before .begin .ensures .sound)
 
 returns-2 : tie.Need-returns-2
 returns-2 c =
-    let z = c .before .before .before .before in
-    let v = z .before .before in
-    let b = v .before .before in
-    value-told _ _ _ _ (sym (b .before .given .ensures) ∙ not-false _ (b .if1 .left)) _ (v .before .state-in .ensures)
-    (v .value-at .result) _
-    (v .value-at .ensures)
-    (some-words _ _ _ _ (record { sfits = c .before .before .before .known-told .given .0 .1 }) (z .z .given .1) (c .before .bits-of .ensures) (c .put-number2 .ensures))
+    value-told _ _ _ _ (sym (c .before .before .before .before .before .before .before .before .before .before .before .before .given .ensures) ∙ not-false _ (c .before .before .before .before .before .before .before .before .before .before .before .if1 .left)) _ (c .before .before .before .before .before .before .before .before .before .begin .ensures)
+    (c .before .before .before .before .before .before .value-at .result) _
+    (c .before .before .before .before .before .before .value-at .ensures)
+    (some-words _ _ _ _ (record { sfits = c .before .before .before .known-told .given .0 .1 }) (c .before .before .before .before .z .given .1) (c .before .bits-of .ensures) (c .put-number2 .ensures))
 
 returns-3 : tie.Need-returns-3
 returns-3 c =
-    let v = c .before .before .before .before in
-    let b = v .before .before in
-    value-told _ _ _ _ (sym (b .before .given .ensures) ∙ not-false _ (b .if1 .left)) _ (v .before .state-in .ensures)
-    (v .value-at .result) _
-    (v .value-at .ensures)
+    value-told _ _ _ _ (sym (c .before .before .before .before .before .before .before .before .before .before .given .ensures) ∙ not-false _ (c .before .before .before .before .before .before .before .before .before .if1 .left)) _ (c .before .before .before .before .before .before .before .begin .ensures)
+    (c .before .before .before .before .value-at .result) _
+    (c .before .before .before .before .value-at .ensures)
     (none-words _ _ (c .before .before .enum-told .given .1) (c .put-number3 .ensures))
 
 pub cerambiu-value-spec : {M : Type 1} → statement M
@@ -46,7 +38,9 @@ cerambiu-value-spec =
     (λ c κs. search needs)
     (λ c κs. search needs)
     returns
-    state-in-requires
+    (λ c. search needs)
+    begin-requires
+    (λ c. search needs)
     value-at-requires
     (λ c. search needs)
     (λ c κs. search needs)

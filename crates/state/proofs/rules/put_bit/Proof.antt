@@ -1,32 +1,18 @@
--- `state::rules::put_bit` meets its contract: a rule of the set, or none. Assumes nothing.
+-- `state::rules::put_bit` meets its contract. Assumes nothing.
 use native.Mathlib.Omega.{arith}
-use mathlib.Core.Path.{refl}
-use lib.ListN.{take, length-take}
-use lib.Seq.{take-set-lt, set-out}
 use borrow.Author.Needs.{needs}
-use Rattle.state.specs.Meaning.{meaning}
+use Rattle.state.proofs.KeptForRules.{bit-put, bit-past}
 use Rattle.state.proofs.rules.put_bit.Statement.{statement}
 use Rattle.state.proofs.rules.put_bit.Tie as tie
 
+put-bool-requires : tie.Need-put-bool-requires
+put-bool-requires c κs = omega (arith, c .before .before .before .before .before .pre .long, c .before .before .rule-count .ensures, c .before .if1 .taken)
+
 returns : tie.Need-returns
-unfolding meaning
-returns c =
-    let s = c .before in
-    let v = s .args .v in
-    record { says = rw (take-set-lt (v .rules) (v .enabled) (s .args .i) (s .args .on) (c .if1 .taken)); sound = s .pre; based = refl }
+returns c = bit-put _ (c .before .before .before .before .before .before .before .before .pre) _ _ _ (omega (arith, c .before .before .before .before .before .rule-count .ensures .0, c .before .before .before .before .if1 .taken)) (c .before .before .put-bool .ensures)
 
 returns-2 : tie.Need-returns-2
-unfolding meaning
-returns-2 c =
-    let s = c .before in
-    let v = s .args .v in
-    let past = set-out (take (v .rules) (v .enabled)) (s .args .i) (s .args .on) (simp length-take (omega (arith, c .if1 .left))) in
-    record { says = rw past; sound = s .pre; based = refl }
+returns-2 c = bit-past _ (c .before .before .before .before .pre) _ _ (omega (arith, c .before .rule-count .ensures .0, c .if1 .left))
 
 pub put-bit-spec : {M : Type 1} → statement M
-put-bit-spec =
-    tie.close
-    (tie.spec
-    (λ c. search needs)
-    returns
-    returns-2)
+put-bit-spec = tie.close (tie.spec (λ c κs. search needs) (λ c. search needs) put-bool-requires (λ c. search needs) returns (λ c. search needs) returns-2)

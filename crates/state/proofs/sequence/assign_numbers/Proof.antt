@@ -1,42 +1,43 @@
--- `state::sequence::assign_numbers` meets its contract. Assumes nothing.
-use Prim.Native.Nat.{_+_}
+-- `state::sequence::assign_numbers` meets its contract: its callees' contracts, put together. Assumes nothing.
+use mathlib.Core.Path.{refl}
 use native.Mathlib.Omega.{arith}
-use mathlib.Core.Path.{_≡_, refl}
-use Rattle.state.specs.Meaning.{meaning}
-use Rattle.state.proofs.Shape.{pending-fit}
-use Rattle.state.proofs.Assigning.{next-within, numbers-stay, none-below}
+use borrow.Author.Needs.{needs}
+use Rattle.state.proofs.Records.{records-lent, stored-within, stored-small}
+use Rattle.state.proofs.Assigning.{next-small, offsets-small, all-numbered}
 use Rattle.state.proofs.sequence.assign_numbers.Statement.{statement}
 use Rattle.state.proofs.sequence.assign_numbers.Tie as tie
 
 number-all-requires : tie.Need-number-all-requires
 number-all-requires c κs =
-    let s = c .before in
-    (s .pre .0 .storedFit, s .pre .0 .pendingFit, next-within (s .args .v) (s .pre .1), s .pre .0 .offsets)
+    let s = c .before .before .before .before .before .before .before in
+    let n = c .before .before .before .before .wide-at .ensures in
+    let a = c .before .before .wide-at2 .ensures in
+    (records-lent _ (s .pre .0), stored-within _ (s .pre .0), next-small _ (s .pre .0) _ _ n a (s .pre .1), offsets-small _ (s .pre .0) _ _ n a)
 
-add-w : tie.Need-add-w
-add-w c =
-    let s = c .before .before .before in
-    omega (arith, next-within (s .args .v) (s .pre .1))
+add-put-wide : tie.Need-add-put-wide
+add-put-wide c = let s = c .before .before .before .before .before .before .before .before .before .before .before .before .before .before .before .before in omega (arith, next-small _ (s .pre .0) _ _ (c .before .before .before .before .before .before .before .before .before .before .before .before .before .wide-at .ensures) (c .before .before .before .before .before .before .before .before .before .before .before .wide-at2 .ensures) (s .pre .1))
 
 returns : tie.Need-returns
-unfolding meaning
 returns c =
-    let s = c .before .before .before in
-    let v = s .args .v in
-    let base = v .«next_seq» + v .accepted in
-    let stay = numbers-stay base (v .«pending_count») (c .before .number-all .result) in
-    let next : base + 0 ≡ base = omega arith in
-    record {
-      says = rw (stay, c .before .number-all .ensures, next);
-      sound = pending-fit (s .pre .0) _ _ _ _ (s .pre .0 .pendingFit) (omega arith) (none-below (v .«pending_count») 0 (c .before .number-all .result));
-      stored = refl;
-      noneAccepted = refl;
-    }
+    let s = c .before .before .before .before .before .before .before .before .before .before .before .before .before .before .before .before .before .before .before .before .before .before .before in
+    all-numbered _ (s .pre .0) _ _ (c .before .before .before .before .before .before .before .before .before .before .before .before .before .before .before .before .before .before .before .before .wide-at .ensures) (c .before .before .before .before .before .before .before .before .before .before .before .before .before .before .before .before .before .before .wide-at2 .ensures) (s .pre .1) _ _ _ _ _ _ (c .before .before .before .before .before .before .before .before .before .before .before .before .before .before .before .number-all .ensures) refl refl (c .before .before .before .before .before .before .before .before .before .before .put-word .ensures) (c .before .before .before .before .before .before .put-wide .ensures) (c .before .before .put-wide2 .ensures)
 
 pub assign-numbers-spec : {M : Type 1} → statement M
 assign-numbers-spec =
     tie.close
     (tie.spec
+    (λ c κs. search needs)
+    (λ c κs. search needs)
+    (λ c. search needs)
+    (λ c. omega (arith, stored-small _ (c .before .before .before .before .before .before .pre .0)))
+    (λ c. search needs)
+    (λ c. search needs)
+    (λ c. search needs)
     number-all-requires
-    add-w
+    (λ c. search needs)
+    (λ c κs. search needs)
+    add-put-wide
+    (λ c κs. search needs)
+    (λ c κs. search needs)
+    (λ c. search needs)
     returns)

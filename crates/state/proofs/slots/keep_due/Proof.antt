@@ -12,13 +12,13 @@ use Rattle.state.proofs.slots.keep_due.Statement.{statement}
 use Rattle.state.proofs.slots.keep_due.Tie as tie
 
 abbrev Inv-loop : tie.InvT-loop
-Inv-loop n now a₀ i₀ j₀ a i j = (i ≤ n) × (length a₀ ≡ 64) × Closing (slotDue now) a₀ a i j
+Inv-loop n time a₀ i₀ j₀ a i j = (i ≤ n) × (length a₀ ≡ 64) × Closing (slotDue time) a₀ a i j
 
 abbrev μ-loop : tie.MeasureT-loop
-μ-loop n now a₀ i₀ j₀ a i j = n - i
+μ-loop n time a₀ i₀ j₀ a i j = n - i
 
 loop-holds : tie.Need-loop-holds Inv-loop μ-loop
-loop-holds c = (omega arith, search needs, starts (slotDue (c .args .now)) (c .args .slots))
+loop-holds c = (omega arith, search needs, starts (slotDue (c .args .time)) (c .args .slots))
 
 loop-again : tie.Need-loop-again Inv-loop μ-loop
 loop-again c =

@@ -1,16 +1,19 @@
 -- `state::slots::move_slots` meets its contract. Assumes nothing.
-use mathlib.Core.Path.{refl}
-use Rattle.state.specs.Meaning.{meaning}
+use borrow.Author.Needs.{needs}
+use Rattle.state.proofs.EverySlots.{slots-lent, slots-moved}
 use Rattle.state.proofs.slots.move_slots.Statement.{statement}
 use Rattle.state.proofs.slots.move_slots.Tie as tie
 
 returns : tie.Need-returns
-unfolding meaning
-returns c = record { says = rw (c .move-all .ensures); sound = c .before .before .pre; based = refl }
+returns c = slots-moved _ (c .before .before .before .before .before .pre) _ _ (c .before .before .move-all .ensures)
 
 pub move-slots-spec : {M : Type 1} → statement M
 move-slots-spec =
     tie.close
     (tie.spec
-    (λ c κs. c .before .pre .everyFit)
+    (λ c. search needs)
+    (λ c. search needs)
+    (λ c. search needs)
+    (λ c κs. slots-lent _ (c .before .before .pre))
+    (λ c. search needs)
     returns)

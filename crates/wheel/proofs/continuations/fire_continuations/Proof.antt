@@ -1,43 +1,38 @@
 -- `wheel::continuations::fire_continuations` meets its contract. Assumes nothing.
-use borrow.Author.Needs.{needs}
 use denote.Ref.{now}
+use Rattle.activate.specs.Carried.{carried}
 use Rattle.wheel.specs.Tick.{fitsSet}
-use Rattle.wheel.proofs.Fired.{continuations-room, continuations-fire, due-fit}
-use Rattle.wheel.proofs.Fires.{same-outcomes, same-effects}
+use Rattle.wheel.proofs.Fired.{due-fit, continuations-room, continuations-fire}
+use borrow.Author.Needs.{needs}
 use Rattle.wheel.proofs.continuations.fire_continuations.Statement.{statement}
 use Rattle.wheel.proofs.continuations.fire_continuations.Tie as tie
 
-due-now-requires : tie.Need-due-now-requires
-due-now-requires c κs = let t = c .before .before .before .before .before .before .before in (t .pre .1 .1 .sound, t .pre .1 .0)
-
-without-due-requires : tie.Need-without-due-requires
-without-due-requires c κs = c .before .before .before .before .before .before .before .before .pre .1 .1 .sound
-
 resume-all-requires : tie.Need-resume-all-requires
 resume-all-requires c κs =
-    let t = c .before .before .before .before .before .before .before .before .before .before .before .before in
-    let d = c .before .before .before .before .due-now .ensures in
-    ((t .pre .0 .0, d .1, due-fit (fitsSet (now (t .args .image))) _ _ _ (d .0) (t .pre .0 .1)), continuations-room (now (t .args .snapshot)) (now (t .args .image)) _ (c .before .before .before .before .before .before .now-ms .ensures) (t .args .x) _ (c .before .before .before .without-due .ensures) 32 (t .pre .1 .1))
-
-same-length : tie.Need-same-length
-same-length c = same-outcomes (c .before .before .before .before .resume-all .ensures .says)
-
-same-length-2 : tie.Need-same-length-2
-same-length-2 c = same-effects (c .before .before .before .before .resume-all .ensures .says)
+    let w = c .before .before .before .before .before .before in
+    let d = w .before .before in
+    let t = d .before .before in
+    let s = t .before .before .before .before .before .before .before in
+    ((s .pre .0 .0, d .due-now .ensures .1, due-fit (fitsSet (now (s .args .image))) _ _ _ (d .due-now .ensures .0) (s .pre .0 .1)), continuations-room (now (s .args .snapshot)) (now (s .args .image)) _ (t .now-ms .ensures) (carried (now (s .args .v)) (s .args .x)) _ (w .without-due .ensures) 32 (s .pre .1 .1))
 
 returns : tie.Need-returns
 returns c =
-    let t = c .before .before .before .before .before .before .before .before .before .before .before .before .before .before .before .before .before in
-    continuations-fire (now (t .args .snapshot)) (now (t .args .image)) _ (c .before .before .before .before .before .before .before .before .before .before .before .now-ms .ensures) (t .args .x) _ (c .before .before .before .before .before .before .before .before .without-due .ensures) _ (c .before .before .before .before .before .before .before .before .before .due-now .ensures .0) (c .before .before .before .before .resume-all .ensures)
+    let f = c .before .before .before .before .before .before in
+    let w = f .before .before .before .before .before .before .before in
+    let d = w .before .before in
+    let t = d .before .before in
+    let s = t .before .before .before .before .before .before .before in
+    continuations-fire (now (s .args .snapshot)) (now (s .args .image)) _ (t .now-ms .ensures) (carried (now (s .args .v)) (s .args .x)) _ (w .without-due .ensures) _ (d .due-now .ensures .0) (f .resume-all .ensures)
 
 pub fire-continuations-spec : {M : Type 1} → statement M
 fire-continuations-spec =
     tie.close
     (tie.spec
     (λ c κs. search needs)
-    due-now-requires
-    without-due-requires
+    (λ c κs. search needs)
+    (λ c κs. search needs)
     resume-all-requires
-    same-length
-    same-length-2
+    (λ c. search needs)
+    (λ c. search needs)
+    (λ c. search needs)
     returns)

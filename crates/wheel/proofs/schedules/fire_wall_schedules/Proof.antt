@@ -1,42 +1,46 @@
 -- `wheel::schedules::fire_wall_schedules` meets its contract. Assumes nothing.
-use borrow.Author.Needs.{needs}
 use denote.Ref.{now}
 use mathlib.Core.Option.{some}
 use Rattle.model.specs.Wheel.{fireWallAt, fireWallSchedules}
 use Rattle.world.specs.Values.{wallRecord}
 use Rattle.world.proofs.Laws.{wall-known}
+use Rattle.activate.specs.Carried.{carried}
 use Rattle.activate.proofs.FlatRules.{image-accepted}
 use Rattle.wheel.specs.Tick.{tickEnv}
-use Rattle.wheel.proofs.Fires.{same-outcomes, same-effects, same-part}
+use Rattle.wheel.proofs.Fires.{same-part}
 use Rattle.wheel.proofs.WallParts.{with-clock, without-clock}
+use borrow.Author.Needs.{needs}
 use Rattle.wheel.proofs.schedules.fire_wall_schedules.Statement.{statement}
 use Rattle.wheel.proofs.schedules.fire_wall_schedules.Tie as tie
 
 fire-wall-at-requires : tie.Need-fire-wall-at-requires
 fire-wall-at-requires c κs =
-    let t = c .before .before .before .before .before .before .before .before .before .before .before in
-    (t .pre .0, (t .pre .1 .0, wall-known _ (t .pre .1 .1) (c .before .before .before .before .before .wall .ensures) (c .before .before .before .w .given .1)))
+    let w = c .before .before .before .before in
+    let a = w .before .before in
+    let s = a .before .before .before .before .before .before .before in
+    (s .pre .0, (s .pre .1 .0, wall-known _ (s .pre .1 .1) (a .wall .ensures) (w .w .given .1)))
 
 without-clock-requires : tie.Need-without-clock-requires
-without-clock-requires c κs = let t = c .before .before .before .before .before .before .before .before in (image-accepted _ (t .pre .0 .0 .accepted), t .pre .1 .0 .sound)
-
-same-length : tie.Need-same-length
-same-length c = same-outcomes (c .before .before .before .before .fire-wall-at .ensures .says)
-
-same-length-2 : tie.Need-same-length-2
-same-length-2 c = same-effects (c .before .before .before .before .fire-wall-at .ensures .says)
+without-clock-requires c κs =
+    let s = c .before .before .before .before .before .before .before .before .before .before in
+    (image-accepted _ (s .pre .0 .0 .accepted), s .pre .1 .0 .sound)
 
 returns : tie.Need-returns
 returns c =
-    let t = c .before .before .before .before .before .before .before .before .before .before .before .before .before .before .before .before in
-    let s = now (t .args .snapshot) in
-    let i = now (t .args .image) in
-    same-part 64 (fireWallAt (some (wallRecord _)) (tickEnv s i)) (fireWallSchedules (tickEnv s i)) (with-clock s i (c .before .before .before .before .before .before .before .before .before .before .wall .ensures) _ _ (c .before .before .before .before .before .before .before .before .w .given .1)) (c .before .before .before .before .fire-wall-at .ensures)
+    let f = c .before .before .before .before .before .before in
+    let w = f .before .before .before .before .before in
+    let a = w .before .before in
+    let s = a .before .before .before .before .before .before .before in
+    let e = tickEnv (now (s .args .snapshot)) (now (s .args .image)) in
+    same-part 64 (fireWallAt (some (wallRecord _)) e) (fireWallSchedules e) (with-clock (now (s .args .snapshot)) (now (s .args .image)) (a .wall .ensures) _ _ (w .w .given .1)) (f .fire-wall-at .ensures)
 
 returns-2 : tie.Need-returns-2
 returns-2 c =
-    let t = c .before .before .before .before .before .before .before .before .before in
-    without-clock (now (t .args .snapshot)) (now (t .args .image)) (c .before .before .before .wall .ensures) (t .args .x) _ _ _ (c .before .enum-told .given .1) (c .without-clock .ensures)
+    let k = c .before .before in
+    let t = k .before .before in
+    let a = t .before .before in
+    let s = a .before .before .before .before .before .before .before in
+    without-clock (now (s .args .snapshot)) (now (s .args .image)) (a .wall .ensures) (carried (now (s .args .v)) (s .args .x)) _ _ (t .enum-told .given .1) (k .without-clock .ensures)
 
 pub fire-wall-schedules-spec : {M : Type 1} → statement M
 fire-wall-schedules-spec =
@@ -47,7 +51,9 @@ fire-wall-schedules-spec =
     fire-wall-at-requires
     (λ c. search needs)
     without-clock-requires
-    same-length
-    same-length-2
+    (λ c. search needs)
+    (λ c. search needs)
+    (λ c. search needs)
     returns
+    (λ c. search needs)
     returns-2)

@@ -1,6 +1,6 @@
 -- `wheel::schedules::is_set_back` meets its contract. Assumes nothing.
-use borrow.Author.Needs.{needs}
 use Rattle.model.specs.Wheel.{isSetBack}
+use borrow.Author.Needs.{needs}
 use Rattle.wheel.proofs.schedules.is_set_back.Statement.{statement}
 use Rattle.wheel.proofs.schedules.is_set_back.Tie as tie
 

@@ -1,41 +1,37 @@
 -- `wheel::slots::fire_every` meets its contract. Assumes nothing.
-use borrow.Author.Needs.{needs}
 use denote.Ref.{now}
+use Rattle.activate.specs.Carried.{carried}
 use Rattle.wheel.proofs.Fired.{few-slots, slots-room, slots-fire}
-use Rattle.wheel.proofs.Fires.{same-outcomes, same-effects}
+use borrow.Author.Needs.{needs}
 use Rattle.wheel.proofs.slots.fire_every.Statement.{statement}
 use Rattle.wheel.proofs.slots.fire_every.Tie as tie
 
-due-slots-requires : tie.Need-due-slots-requires
-due-slots-requires c κs = c .before .before .before .before .before .before .before .pre .1 .sound
-
-move-slots-requires : tie.Need-move-slots-requires
-move-slots-requires c κs = c .before .before .before .before .before .before .before .before .pre .1 .sound
-
 fire-slots-requires : tie.Need-fire-slots-requires
 fire-slots-requires c κs =
-    let t = c .before .before .before .before .before .before .before .before .before .before .before .before in
-    ((t .pre .0, few-slots (t .args .x) _ _ (t .pre .1 .sound) (c .before .before .before .before .due-slots .ensures)), slots-room (now (t .args .snapshot)) (now (t .args .image)) _ (c .before .before .before .before .before .before .now-ms .ensures) (t .args .x) _ (c .before .before .before .move-slots .ensures) 64 (t .pre .1))
-
-same-length : tie.Need-same-length
-same-length c = same-outcomes (c .before .before .before .before .fire-slots .ensures .says)
-
-same-length-2 : tie.Need-same-length-2
-same-length-2 c = same-effects (c .before .before .before .before .fire-slots .ensures .says)
+    let m = c .before .before .before .before .before .before in
+    let d = m .before .before in
+    let t = d .before .before in
+    let s = t .before .before .before .before .before .before .before in
+    ((s .pre .0, few-slots (now (s .args .v)) _ _ (s .pre .1 .sound) (d .due-slots .ensures)), slots-room (now (s .args .snapshot)) (now (s .args .image)) _ (t .now-ms .ensures) (carried (now (s .args .v)) (s .args .x)) _ (m .move-slots .ensures) 64 (s .pre .1))
 
 returns : tie.Need-returns
 returns c =
-    let t = c .before .before .before .before .before .before .before .before .before .before .before .before .before .before .before .before .before in
-    slots-fire (now (t .args .snapshot)) (now (t .args .image)) _ (c .before .before .before .before .before .before .before .before .before .before .before .now-ms .ensures) (t .args .x) _ (c .before .before .before .before .before .before .before .before .move-slots .ensures) _ (c .before .before .before .before .before .before .before .before .before .due-slots .ensures .holds) (c .before .before .before .before .fire-slots .ensures)
+    let f = c .before .before .before .before .before .before in
+    let m = f .before .before .before .before .before .before .before in
+    let d = m .before .before in
+    let t = d .before .before in
+    let s = t .before .before .before .before .before .before .before in
+    slots-fire (now (s .args .snapshot)) (now (s .args .image)) _ (t .now-ms .ensures) (carried (now (s .args .v)) (s .args .x)) _ (m .move-slots .ensures) _ (d .due-slots .ensures .holds) (f .fire-slots .ensures)
 
 pub fire-every-spec : {M : Type 1} → statement M
 fire-every-spec =
     tie.close
     (tie.spec
     (λ c κs. search needs)
-    due-slots-requires
-    move-slots-requires
+    (λ c κs. search needs)
+    (λ c κs. search needs)
     fire-slots-requires
-    same-length
-    same-length-2
+    (λ c. search needs)
+    (λ c. search needs)
+    (λ c. search needs)
     returns)

@@ -3,36 +3,36 @@ use denote.Ref.{now}
 use mathlib.Core.List.{[], _∷_}
 use Rattle.model.specs.Lists.{keep}
 use Rattle.model.specs.Wheel.{byTimer, activateIfEnabled, activateEach}
+use Rattle.activate.specs.Carried.{carried}
 use Rattle.activate.proofs.FlatRules.{image-accepted}
 use Rattle.wheel.specs.Tick.{tickEnv, onTimer}
 use Rattle.wheel.proofs.Each.{fires-off, fires-on}
-use Rattle.wheel.proofs.Fires.{same-outcomes, same-effects, same-part, skips}
+use Rattle.wheel.proofs.Fires.{same-part, skips}
+use borrow.Author.Needs.{needs}
 use Rattle.wheel.proofs.timers.fire_rule.Statement.{statement}
 use Rattle.wheel.proofs.timers.fire_rule.Tie as tie
 
 fires-on-requires : tie.Need-fires-on-requires
-fires-on-requires c κs = let t = c .before .before .before .before .before in (image-accepted _ (t .pre .0 .0 .accepted), t .pre .0 .1)
+fires-on-requires c κs =
+    let s = c .before .before .before .before .before .before in
+    (image-accepted _ (s .pre .0 .0 .accepted), s .pre .0 .1)
 
 returns : tie.Need-returns
 returns c =
-    let t = c .before .before .before .before .before .before .before in
-    let e = tickEnv (now (t .args .snapshot)) (now (t .args .image)) in
-    skips 1 (activateEach e byTimer (keep (onTimer (now (t .args .image)) (t .args .timer)) (t .args .i ∷ []))) (t .args .x) _ _ (t .pre .1 .sound) (fires-off e (now (t .args .image)) (t .args .timer) (t .args .i) _ (c .before .fires-on .ensures) (c .if1 .taken))
-
-activate-if-enabled-requires : tie.Need-activate-if-enabled-requires
-activate-if-enabled-requires c κs = c .before .before .before .before .before .before .before .before .before .pre
-
-same-length : tie.Need-same-length
-same-length c = same-outcomes (c .before .before .before .before .activate-if-enabled .ensures .says)
-
-same-length-2 : tie.Need-same-length-2
-same-length-2 c = same-effects (c .before .before .before .before .activate-if-enabled .ensures .says)
+    let i = c in
+    let n = i .before in
+    let s = n .before .before .before .before .before .before .before in
+    let e = tickEnv (now (s .args .snapshot)) (now (s .args .image)) in
+    skips 1 (activateEach e byTimer (keep (onTimer (now (s .args .image)) (s .args .timer)) (s .args .i ∷ []))) (carried (now (s .args .v)) (s .args .x)) _ _ (s .pre .1 .sound) (fires-off e (now (s .args .image)) (s .args .timer) (s .args .i) _ (n .fires-on .ensures) (i .if1 .taken))
 
 returns-2 : tie.Need-returns-2
 returns-2 c =
-    let t = c .before .before .before .before .before .before .before .before .before .before .before .before .before .before in
-    let e = tickEnv (now (t .args .snapshot)) (now (t .args .image)) in
-    same-part 1 (activateIfEnabled e byTimer (t .args .i)) (activateEach e byTimer (keep (onTimer (now (t .args .image)) (t .args .timer)) (t .args .i ∷ []))) (fires-on e (now (t .args .image)) (t .args .timer) (t .args .i) _ (c .before .before .before .before .before .before .before .before .fires-on .ensures) (c .before .before .before .before .before .before .before .if1 .left)) (c .before .before .before .before .activate-if-enabled .ensures)
+    let a = c .before .before .before .before .before .before in
+    let i = a .before .before .before .before in
+    let n = i .before in
+    let s = n .before .before .before .before .before .before .before in
+    let e = tickEnv (now (s .args .snapshot)) (now (s .args .image)) in
+    same-part 1 (activateIfEnabled e byTimer (s .args .i)) (activateEach e byTimer (keep (onTimer (now (s .args .image)) (s .args .timer)) (s .args .i ∷ []))) (fires-on e (now (s .args .image)) (s .args .timer) (s .args .i) _ (n .fires-on .ensures) (i .if1 .left)) (a .activate-if-enabled .ensures)
 
 pub fire-rule-spec : {M : Type 1} → statement M
 fire-rule-spec =
@@ -40,7 +40,8 @@ fire-rule-spec =
     (tie.spec
     fires-on-requires
     returns
-    activate-if-enabled-requires
-    same-length
-    same-length-2
+    (λ c κs. search needs)
+    (λ c. search needs)
+    (λ c. search needs)
+    (λ c. search needs)
     returns-2)

@@ -19,26 +19,38 @@ abbrev μ-loop : tie.MeasureT-loop
 μ-loop image v n i₀ i = n - i
 
 size-of-requires : tie.Need-size-of-requires Inv-loop μ-loop
-size-of-requires c κs = let t = c .before in (t .pre .0 .least, t .pre .0 .most)
+size-of-requires c κs =
+    let s = c .before .before in
+    (s .pre .0 .least, s .pre .0 .most)
 
 loop-holds : tie.Need-loop-holds Inv-loop μ-loop
 loop-holds c = (omega arith, c .size-of .ensures, starts _ _)
 
 enabled-wall-requires : tie.Need-enabled-wall-requires Inv-loop μ-loop
-enabled-wall-requires c κs = let t = c .before .before .before .before in (t .pre .0, omega (arith, c .loop-test .taken, c .before .loop .inv .1), t .pre .1)
+enabled-wall-requires c κs =
+    let b = c in
+    let l = b .before in
+    let s = l .before .before .before .before in
+    (s .pre .0, omega (arith, b .loop-test .taken, l .loop .inv .1), s .pre .1)
 
 returns : tie.Need-returns Inv-loop μ-loop
 returns c =
-    let t = c .before .before .before in
-    of-rules _ _ (hits _ _ _ 0 (below _ _ _ (t .loop .inv .1) (c .before .before .loop-test .taken)) (t .loop .inv .2) (number-at _ _ 0 _ (t .loop .inv .1) (c .before .before .loop-test .taken)) (c .before .enabled-wall .ensures) (c .if1 .taken))
+    let w = c .before in
+    let b = w .before in
+    let l = b .before in
+    of-rules _ _ (hits _ _ _ 0 (below _ _ _ (l .loop .inv .1) (b .loop-test .taken)) (l .loop .inv .2) (number-at _ _ 0 _ (l .loop .inv .1) (b .loop-test .taken)) (w .enabled-wall .ensures) (c .if1 .taken))
 
 loop-again : tie.Need-loop-again Inv-loop μ-loop
 loop-again c =
-    let t = c .before .before .before in
-    (omega arith, t .loop .inv .1, goes _ _ _ 0 (below _ _ _ (t .loop .inv .1) (c .before .before .loop-test .taken)) (t .loop .inv .2) (number-at _ _ 0 _ (t .loop .inv .1) (c .before .before .loop-test .taken)) (c .before .enabled-wall .ensures) (c .if1 .left))
+    let w = c .before in
+    let b = w .before in
+    let l = b .before in
+    (omega arith, l .loop .inv .1, goes _ _ _ 0 (below _ _ _ (l .loop .inv .1) (b .loop-test .taken)) (l .loop .inv .2) (number-at _ _ 0 _ (l .loop .inv .1) (b .loop-test .taken)) (w .enabled-wall .ensures) (c .if1 .left))
 
 returns-2 : tie.Need-returns-2 Inv-loop μ-loop
-returns-2 c = of-rules _ _ (ends _ _ _ (past _ _ _ (c .before .loop .inv .1) (c .loop-test .left)) (c .before .loop .inv .2))
+returns-2 c =
+    let l = c .before in
+    of-rules _ _ (ends _ _ _ (past _ _ _ (l .loop .inv .1) (c .loop-test .left)) (l .loop .inv .2))
 
 pub has-wall-triggers-spec : {M : Type 1} → statement M
 has-wall-triggers-spec =
