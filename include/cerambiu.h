@@ -13,8 +13,8 @@
  *             Stores of one call do not overlap. A store that is not const is written within its words only. A text is a pointer and its number of
  *             bytes.
  *   threads   Two calls may run at once if they share no store that either of them writes.
- *   stack     In bytes, at most, for every input, on x86-64: tick 37,832, load 35,336, run 30,760, next_deadline 30,696, enable 30,680,
- *             unload 30,664, counters 25,608, crontab 616, telegrams 88, new 40. The gate computes them from the machine code. The return address is in;
+ *   stack     In bytes, at most, for every input, on x86-64: tick 37,704, load 35,208, run 30,616, next_deadline 30,552, enable 30,536,
+ *             unload 30,520, counters 25,608, crontab 616, telegrams 88, new 40. The gate computes them from the machine code. The return address is in;
  *             not in: what memcpy, memmove and memset use, the arguments that the caller pushes, the dynamic linker, interrupts
  *             (docs/PERFORMANCE.md, "Stack").
  *   refusals  Each call returns 0, or the number of a refusal: the lowest that applies. A refused call has changed nothing: the store is as
@@ -68,7 +68,7 @@ extern "C" {
 #define CERAMBIU_TICK_VALUES 2      /* number of outcomes, number of effects */
 #define CERAMBIU_RUN_VALUES 2       /* the same */
 #define CERAMBIU_DEADLINE_VALUES 3  /* mark, low word, high word; all 0 where there is no deadline */
-#define CERAMBIU_COUNTERS_VALUES 17 /* see enum cerambiu_counter */
+#define CERAMBIU_COUNTERS_VALUES 16 /* see enum cerambiu_counter */
 #define CERAMBIU_TELEGRAMS_VALUES 2 /* number of effects kept, low word and high word */
 #define CERAMBIU_CRONTAB_VALUES 1   /* number of triggers */
 
@@ -116,7 +116,7 @@ enum cerambiu_refusal {
  * inside. A store that was changed from outside is refused with 2 unless it still keeps every store rule. Words that are all 0 keep them: they are a
  * store without rules, so that 2 does not tell a store that was never made. What it holds: the last time, the
  * loaded image and its flat steps, rule bits, last activations, cycle positions, at most 16 variables, 16 timers, 64 Every slots and 32 pending
- * continuations, the previous week minute, the next sequence number, 13 counters. Places: docs/STORE.md.
+ * continuations, the previous week minute, the next sequence number, 12 counters. Places: docs/STORE.md.
  *
  * RULE IMAGE -------------------------------------------------------------------------------------------------------------------------
  *
@@ -163,7 +163,7 @@ enum cerambiu_action {
     CERAMBIU_STAT_COUNT = 22,     /* name; takes a step and gives nothing */
     CERAMBIU_WAIT = 23,           /* ms; what follows it becomes a continuation */
     CERAMBIU_AFTER = 24,          /* ms, actions: these become a continuation, the run goes on */
-    CERAMBIU_CALL = 25,           /* block name; unknown or too deep: a step that fails */
+    CERAMBIU_CALL = 25,           /* block name; unknown or past the call depth: a step that fails */
     CERAMBIU_REPEAT = 26,         /* count byte, actions; 0 or over the repeat limit: a step that fails */
     CERAMBIU_CONDITIONAL = 27,    /* condition, actions of then, actions of else */
     CERAMBIU_PERCENT = 28         /* target, hold (0, 1, 2 the rule's), value: parts per million of full light */
@@ -301,8 +301,7 @@ enum cerambiu_reason {
     CERAMBIU_REASON_CONDITION_UNEVALUABLE = 1, /* a condition could not be decided, or a step failed: unevaluable, a 17th timer or variable, a
                                                   text over the limit, an unknown rule, a call or repeat that cannot be flattened, the
                                                   end of a list that has more than 256 steps */
-    CERAMBIU_REASON_EFFECT_BUDGET = 2,         /* the budget was spent with a step left, or 32 were pending and a continuation was dropped */
-    CERAMBIU_REASON_CHAIN_DEPTH = 3            /* not given by ticks and runs, which start at depth 0 */
+    CERAMBIU_REASON_EFFECT_BUDGET = 2          /* the budget was spent with a step left, or 32 were pending and a continuation was dropped */
 };
 
 enum cerambiu_effect {
@@ -321,7 +320,7 @@ enum cerambiu_effect {
     CERAMBIU_EFFECT_LEVEL = 12          /* target, level 0 to 254, hold mark */
 };
 
-/* COUNTERS: 13, each of which stops at 2^32 - 1, then four gauges ------------------------------------------------------------------ */
+/* COUNTERS: 12, each of which stops at 2^32 - 1, then four gauges ------------------------------------------------------------------ */
 
 enum cerambiu_counter {
     CERAMBIU_ACTIVATIONS_TOTAL = 0,
@@ -330,17 +329,16 @@ enum cerambiu_counter {
     CERAMBIU_SUPPRESSED_DISABLED = 3,
     CERAMBIU_CONDITIONS_REJECTED = 4,
     CERAMBIU_PARTIAL_OUTCOMES = 5,
-    CERAMBIU_CHAIN_DEPTH_EXCEEDED = 6,
-    CERAMBIU_EFFECTS_EMITTED = 7,
-    CERAMBIU_ACTIONS_FAILED = 8,
-    CERAMBIU_CONTINUATIONS_SCHEDULED = 9,
-    CERAMBIU_CONTINUATIONS_FIRED = 10,
-    CERAMBIU_CONTINUATIONS_DROPPED = 11,
-    CERAMBIU_TICKS_TIME_UNSYNCED = 12,
-    CERAMBIU_PENDING_NOW = 13,
-    CERAMBIU_TIMERS_NOW = 14,
-    CERAMBIU_RULES_NOW = 15,
-    CERAMBIU_VARIABLES_NOW = 16
+    CERAMBIU_EFFECTS_EMITTED = 6,
+    CERAMBIU_ACTIONS_FAILED = 7,
+    CERAMBIU_CONTINUATIONS_SCHEDULED = 8,
+    CERAMBIU_CONTINUATIONS_FIRED = 9,
+    CERAMBIU_CONTINUATIONS_DROPPED = 10,
+    CERAMBIU_TICKS_TIME_UNSYNCED = 11,
+    CERAMBIU_PENDING_NOW = 12,
+    CERAMBIU_TIMERS_NOW = 13,
+    CERAMBIU_RULES_NOW = 14,
+    CERAMBIU_VARIABLES_NOW = 15
 };
 
 /* CALLS ------------------------------------------------------------------------------------------------------------------------------ */
@@ -375,7 +373,7 @@ uint32_t cerambiu_run(uint32_t *store, size_t store_words, uint32_t rule, bool d
  * low word, high word. Refusals: 1, 2. */
 uint32_t cerambiu_next_deadline(const uint32_t *store, size_t store_words, uint32_t *answer, size_t answer_words);
 
-/* Answer: the 17 words of enum cerambiu_counter. Refusals: 1, 2. */
+/* Answer: the 16 words of enum cerambiu_counter. Refusals: 1, 2. */
 uint32_t cerambiu_counters(const uint32_t *store, size_t store_words, uint32_t *answer, size_t answer_words);
 
 /* The list to be sent on the bus for a tick's effects, into `list`: the shortest that leaves every lamp the same. A level (kind 12) is left out

@@ -8,7 +8,7 @@ pub const STORE_WORDS: usize = 16_384;
 pub const OUTCOME_WORDS: usize = 6;
 pub const EFFECT_WORDS: usize = 5;
 pub const TRIGGER_WORDS: usize = 8;
-pub const COUNTERS: usize = 17;
+pub const COUNTERS: usize = 16;
 
 /// Document 01's number of a refusal. A refused call has changed nothing.
 #[derive(Clone, Copy, Debug, PartialEq, Eq)]
@@ -79,7 +79,7 @@ pub fn next_deadline(store: &[u32]) -> Result<Option<u64>, Refused> {
     accepted(number, (mark == 1).then_some(low | high << 32))
 }
 
-/// The 13 counters, then pending, timers, rules, variables.
+/// The 12 counters, then pending, timers, rules, variables.
 pub fn counters(store: &[u32]) -> Result<[u32; COUNTERS], Refused> {
     let mut answer = [0; COUNTERS];
     let number = words::counters(store, &mut answer);
@@ -134,7 +134,7 @@ mod tests {
         assert_eq!(enable(&mut store, 6, false), Ok(false));
         assert_eq!(next_deadline(&store), Ok(None));
         assert_eq!(unload(&mut store, 2000), Ok(()));
-        assert_eq!(counters(&store).map(|counts| (counts[0], counts[7], counts[15])), Ok((1, 2, 0)));
+        assert_eq!(counters(&store).map(|counts| (counts[0], counts[6], counts[14])), Ok((1, 2, 0)));
     }
 
     #[test]

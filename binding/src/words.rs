@@ -151,7 +151,7 @@ pub fn next_deadline(store: &[u32], answer: &mut [u32]) -> u32 {
     unsafe { c::cerambiu_next_deadline(store.as_ptr(), store.len(), answer.as_mut_ptr(), answer.len()) }
 }
 
-/// Values: the 13 counters, then pending, timers, rules, variables.
+/// Values: the 12 counters, then pending, timers, rules, variables.
 pub fn counters(store: &[u32], answer: &mut [u32]) -> u32 {
     // SAFETY: as above.
     unsafe { c::cerambiu_counters(store.as_ptr(), store.len(), answer.as_mut_ptr(), answer.len()) }

@@ -45,6 +45,11 @@ impl Player {
         self.house.is_set_back()
     }
 
+    /// Whether the Rust's memory of chains shows: its counter, an outcome's reason or a continuation's depth.
+    pub fn shows_chain(&self) -> bool {
+        self.house.shows_chain()
+    }
+
     /// Whether the loaded set is one that fits only by sharing (document 02, request 8).
     pub fn fits_by_sharing(&self) -> bool {
         self.by_sharing

@@ -26,7 +26,7 @@ pub struct Store {
     pub pending: Vec<Pending>,
     pub week_minute: Option<u32>,
     pub next: u64,
-    pub counters: [u32; 13],
+    pub counters: [u32; 12],
 }
 
 #[derive(Clone, Copy, Debug, PartialEq)]
@@ -79,7 +79,7 @@ impl Store {
         out.counted(MOST_VARIABLES, 4, self.variables.iter().map(variable));
         out.counted(MOST_TIMERS, 3, self.timers.iter().map(timer));
         out.counted(MOST_SLOTS, 5, self.slots.iter().map(slot));
-        out.counted(MOST_PENDING, 14, self.pending.iter().map(pending));
+        out.counted(MOST_PENDING, 13, self.pending.iter().map(pending));
         out.words.extend(marked(self.week_minute.map(|minute| [minute])));
         out.wide(self.next);
         out.words.extend(self.counters);
@@ -160,6 +160,6 @@ fn pending(held: &Pending) -> Vec<u32> {
     let mut row = [pair(held.seq), pair(held.due)].concat();
     row.extend([held.rule, held.list, held.place]);
     row.extend(marked(held.jump.map(|(at, to)| [at, to])));
-    row.extend([held.budget, held.trigger, 0, 0]);
+    row.extend([held.budget, held.trigger, 0]);
     row
 }

@@ -19,7 +19,7 @@ pub enum Broken {
     Unused,
     Position,
     Trigger,
-    DepthOrEvent,
+    Event,
     WeekMinute,
     Image,
     FlatForm,
@@ -46,7 +46,7 @@ impl Broken {
         Broken::Unused,
         Broken::Position,
         Broken::Trigger,
-        Broken::DepthOrEvent,
+        Broken::Event,
         Broken::WeekMinute,
         Broken::Image,
         Broken::FlatForm,
@@ -74,7 +74,7 @@ impl Broken {
             Broken::Unused => "unused words are 0",
             Broken::Position => "positions are below 16",
             Broken::Trigger => "its trigger is 0 to 4",
-            Broken::DepthOrEvent => "its depth and event words are 0",
+            Broken::Event => "its event word is 0",
             Broken::WeekMinute => "the week minute is below 10,080",
             Broken::Image => "the image passes load",
             Broken::FlatForm => "the flat part is its flat form",
@@ -203,12 +203,12 @@ fn shape(words: &[u32]) -> Result<Parts<'_>, Broken> {
     ask(variables.chunks(4).all(|row| row[1] <= 1), Broken::Mark)?;
     let timers = cursor.counted(MOST_TIMERS, 3)?;
     let slots = cursor.counted(MOST_SLOTS, 5)?;
-    let pending = cursor.counted(MOST_PENDING, 14)?;
-    pending.chunks(14).try_for_each(pending_words_fit)?;
+    let pending = cursor.counted(MOST_PENDING, 13)?;
+    pending.chunks(13).try_for_each(pending_words_fit)?;
     let week_minute = marked(cursor.take(2))?.map(|words| words[0]);
     ask(week_minute.is_none_or(|minute| minute < 10_080), Broken::WeekMinute)?;
     let next = cursor.wide();
-    let counters = cursor.take(13);
+    let counters = cursor.take(12);
     ask(zeros(cursor.rest), Broken::Unused)?;
     let loaded = loaded == 1;
     Ok(Parts {
@@ -225,7 +225,7 @@ fn position_fits(row: &[u32]) -> Result<(), Broken> {
 fn pending_words_fit(row: &[u32]) -> Result<(), Broken> {
     marked(&row[7..10])?;
     ask(row[11] <= 4, Broken::Trigger)?;
-    ask(zeros(&row[12..14]), Broken::DepthOrEvent)
+    ask(row[12] == 0, Broken::Event)
 }
 
 // THE SET ------------------------------------------------------------------------------------------------------------------------
@@ -271,7 +271,7 @@ impl<'a> Parts<'a> {
             variables: self.variables.chunks(4).map(variable).collect(),
             timers: self.timers.chunks(3).map(|row| Timer { name: row[0], due: wide(&row[1..]) }).collect(),
             slots: self.slots.chunks(5).map(slot).collect(),
-            pending: self.pending.chunks(14).map(pending).collect(),
+            pending: self.pending.chunks(13).map(pending).collect(),
             week_minute: self.week_minute,
             next: self.next,
             counters: std::array::from_fn(|place| self.counters[place]),

@@ -16,8 +16,8 @@ const OUTCOME_WORDS: u32 = 6;
 const EFFECT_WORDS: u32 = 5;
 /// Places of the next sequence number, low and high word (docs/STORE.md). The oracle keeps no
 /// other store word.
-const NEXT_LOW: u32 = 13_691;
-const NEXT_HIGH: u32 = 13_692;
+const NEXT_LOW: u32 = 13_659;
+const NEXT_HIGH: u32 = 13_660;
 /// The next sequence number of a new store.
 const FIRST_NUMBER: u64 = 1;
 
@@ -46,7 +46,7 @@ pub enum Answer {
     Outcomes { time: u64, list: Vec<Outcome> },
     Enabled(bool),
     Deadline(Option<u64>),
-    Counters([u32; 17]),
+    Counters([u32; 16]),
     Word(u32),
     Refused(u32),
     /// The lines for a call that the published engine has not.
@@ -77,6 +77,8 @@ pub struct House {
     effect_words: u32,
     /// Whether a tick's clock was set back.
     set_back: bool,
+    /// Whether an outcome of the last tick or run was refused for the depth of its chain.
+    chained: bool,
 }
 
 impl Default for House {
@@ -97,6 +99,7 @@ impl House {
             outcome_words: OUTCOME_WORDS * 4_096,
             effect_words: EFFECT_WORDS * 65_536,
             set_back: false,
+            chained: false,
         }
     }
 
@@ -141,8 +144,19 @@ impl House {
             Call::Peek { place } => self.peek(*place),
             Call::Own { name, given } => self.own(name, given),
             _ if self.size != STORE_WORDS => Answer::Refused(1),
-            _ => self.engine_call(call),
+            _ => match self.engine_call(call) {
+                _ if self.shows_chain() => Answer::Unsupported("a chain of rules".to_owned()),
+                answer => answer,
+            },
         }
+    }
+
+    /// Document 02, request 9: the Rust's memory of chains shows nowhere, so that its counter, its reason and the depth of a
+    /// continuation have no word here. Whether one of the three is not as it must be: the counter 0, no outcome of the last call refused
+    /// for its depth, every continuation at depth 0.
+    #[must_use]
+    pub fn shows_chain(&self) -> bool {
+        self.chained || self.engine.counters().chain_depth_exceeded != 0 || self.engine.deepest_continuation() != 0
     }
 
     fn engine_call(&mut self, call: &Call) -> Answer {
@@ -210,6 +224,7 @@ impl House {
         let before = engine.counters().continuations_scheduled;
         self.set_back |= engine.is_set_back(&input, &world);
         let outcomes = engine.handle_set_back(input, &world);
+        self.chained = outcomes.iter().any(|outcome| outcome.partial == Some(PartialReason::ChainDepth));
         let after = engine.counters().continuations_scheduled;
         if !self.room_for(&outcomes) {
             return Answer::Refused(30);
@@ -251,8 +266,8 @@ impl House {
     }
 }
 
-/// The 13 counters in `EngineCounters` order, then pending, timers, rules, variables.
-fn counter_words(counters: &EngineCountersSnapshot) -> [u32; 17] {
+/// The 12 counters in `EngineCounters` order without `chain_depth_exceeded`, then pending, timers, rules, variables.
+fn counter_words(counters: &EngineCountersSnapshot) -> [u32; 16] {
     [
         counters.activations_total,
         counters.activations_dry,
@@ -260,7 +275,6 @@ fn counter_words(counters: &EngineCountersSnapshot) -> [u32; 17] {
         counters.suppressed_disabled,
         counters.conditions_rejected,
         counters.partial_outcomes,
-        counters.chain_depth_exceeded,
         counters.effects_emitted,
         counters.actions_failed,
         counters.continuations_scheduled,
@@ -283,7 +297,8 @@ fn outcome_words(outcome: &ActivationOutcome) -> Outcome {
             None => 0,
             Some(PartialReason::ConditionUnevaluable) => 1,
             Some(PartialReason::EffectBudget) => 2,
-            Some(PartialReason::ChainDepth) => 3,
+            // Given by no outcome: `shows_chain`.
+            Some(PartialReason::ChainDepth) => u32::MAX,
         },
         effects: outcome.effects.iter().map(effect_words).collect(),
     }

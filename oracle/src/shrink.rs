@@ -13,8 +13,8 @@ use crate::house::{Answer, Call, House};
 const MAX_ROUNDS: usize = 20;
 const STORE_WORDS: u32 = 16_384;
 /// Places of the next sequence number in the store (docs/STORE.md).
-const NEXT_LOW: u32 = 13_691;
-const NEXT_HIGH: u32 = 13_692;
+const NEXT_LOW: u32 = 13_659;
+const NEXT_HIGH: u32 = 13_660;
 
 /// The smallest history found for which `differs` holds; the history itself if it
 /// does not hold of it. Images and snapshots stay accepted, or keep their refusal.

@@ -55,7 +55,7 @@ pub fn reason(reason: u32) -> &'static str {
         0 => "",
         1 => "a condition could not be decided, or a step failed (reason 1)",
         2 => "the budget was spent with a step left, or 32 were waiting: steps are lost (reason 2)",
-        _ => "a chain of rules was too deep (reason 3)",
+        _ => "a reason that no outcome has",
     }
 }
 

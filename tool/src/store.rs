@@ -18,10 +18,11 @@ pub const VARIABLES: usize = 12_805;
 pub const TIMERS: usize = 12_870;
 pub const SLOTS: usize = 12_919;
 pub const PENDING: usize = 13_240;
-pub const WEEK_MINUTE: usize = 13_689;
-pub const NEXT: usize = 13_691;
-pub const COUNTERS: usize = 13_693;
-pub const UNUSED: usize = 13_706;
+pub const PENDING_WORDS: usize = 13;
+pub const WEEK_MINUTE: usize = 13_657;
+pub const NEXT: usize = 13_659;
+pub const COUNTERS: usize = 13_661;
+pub const UNUSED: usize = 13_673;
 
 /// A counted table: the place of its count, its most rows, the words of a row.
 #[derive(Clone, Copy)]
@@ -38,7 +39,7 @@ pub const COUNTED: [Counted; 6] = [
     Counted { name: "variables", place: VARIABLES, most: 16, width: 4 },
     Counted { name: "timers", place: TIMERS, most: 16, width: 3 },
     Counted { name: "Every slots", place: SLOTS, most: 64, width: 5 },
-    Counted { name: "pending", place: PENDING, most: 32, width: 14 },
+    Counted { name: "pending", place: PENDING, most: 32, width: PENDING_WORDS },
 ];
 
 impl Counted {
@@ -50,14 +51,13 @@ impl Counted {
     }
 }
 
-pub const COUNTER_NAMES: [&str; 17] = [
+pub const COUNTER_NAMES: [&str; 16] = [
     "activations",
     "dry activations",
     "suppressed by cooldown",
     "suppressed, rule off",
     "conditions rejected",
     "partial outcomes",
-    "chain depth exceeded",
     "effects",
     "actions failed",
     "continuations scheduled",
@@ -157,7 +157,7 @@ impl<'a> State<'a> {
     }
 
     pub fn counters(&self) -> &'a [u32] {
-        &self.words[COUNTERS..COUNTERS + 13]
+        &self.words[COUNTERS..UNUSED]
     }
 
     /// The earliest due time of what waits, timers and Every slots.

@@ -152,7 +152,7 @@ fn stores() {
 
 /// A place to change: mostly where something stands.
 fn store_place(random: &mut Random, store: &[u32]) -> usize {
-    use barn::store::{ACTIVATIONS, BITS, IMAGE, LISTS, PENDING, SLOTS, STEPS, TIMERS, VARIABLES};
+    use barn::store::{ACTIVATIONS, BITS, IMAGE, LISTS, PENDING, PENDING_WORDS, SLOTS, STEPS, TIMERS, VARIABLES};
     let counted = |place: usize, width: usize| (place, 1 + store[place] as usize * width + 1);
     let (from, length) = match random.below(10) {
         0 => (0, 4),
@@ -163,7 +163,7 @@ fn store_place(random: &mut Random, store: &[u32]) -> usize {
         5 => counted(VARIABLES, 4),
         6 => counted(TIMERS, 3),
         7 => counted(SLOTS, 5),
-        8 => counted(PENDING, 14),
+        8 => counted(PENDING, PENDING_WORDS),
         _ => (ACTIVATIONS, store.len() - ACTIVATIONS),
     };
     (from + random.below(length as u32) as usize).min(store.len() - 1)

@@ -14,8 +14,8 @@ const LARGE: Lent = Lent { answer: 0, outcomes: 24_576, effects: 327_680 };
 const VARIABLES: usize = 12_805;
 const VARIABLE_WORDS: usize = 4;
 const PENDING: usize = 13_240;
-const PENDING_WORDS: usize = 14;
-const COUNTERS: std::ops::Range<usize> = 13_693..13_706;
+const PENDING_WORDS: usize = 13;
+const COUNTERS: std::ops::Range<usize> = 13_661..13_673;
 
 /// Why a history stops.
 pub type Difference = String;
@@ -102,6 +102,8 @@ impl<'a> Both<'a> {
     pub fn call(&mut self, call: &Call) -> Result<(), Difference> {
         let before = self.player.fits_by_sharing();
         let mut answer = self.player.call(call);
+        self.tally.chains += 1;
+        ask(!self.player.shows_chain(), || format!("{call:?}: the Rust shows a chain of rules"))?;
         if let Answer::Counters(counters) = &mut answer {
             counters[..COUNTERS.len()].iter_mut().for_each(|counter| *counter = counter.saturating_add(self.counted));
         }

@@ -8,8 +8,10 @@
 //! - Levels: action kind 28 on every entry and every middle of the dimming curve and their neighbours, and on values without a level.
 //! - Stores: every word of good stores to VALUES other values; a store for each rule that is broken.
 //!
-//! Of each call: number, values, outcomes, effects, all words of the store, and that a refusal changed nothing and left zeros. Prints each
-//! difference, the counts, and what was met; its status is 1 if there is a difference or a cell that can be reached is empty.
+//! Of each call: number, values, outcomes, effects, all words of the store, and that a refusal changed nothing and left zeros. Behind each the
+//! Rust is asked whether its memory of chains shows, in its counter, a reason or the depth of a continuation (document 02's request 9): that
+//! would be a difference too. Prints each difference, the counts, and what was met; its status is 1 if there is a difference or a cell that
+//! can be reached is empty.
 
 mod both;
 pub mod house;
@@ -176,7 +178,7 @@ impl Calls {
     fn report(&self) -> bool {
         let whole = self.tally.report() && !self.empty;
         let calls = format!("calls: {} calls, {} differences", self.tally.calls, self.differences);
-        println!("{calls}; {}; {}; {}", self.tally.wheels(), self.tally.percents(), self.tally.sharing());
+        println!("{calls}; {}; {}; {}; {}", self.tally.wheels(), self.tally.percents(), self.tally.sharing(), self.tally.chains());
         whole && self.differences == 0
     }
 }

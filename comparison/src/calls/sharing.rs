@@ -6,7 +6,7 @@ use crate::store::MOST_PENDING;
 
 /// Places of the pending records: docs/STORE.md.
 const PENDING: usize = 13_240;
-const PENDING_WORDS: usize = 14;
+const PENDING_WORDS: usize = 13;
 const RULE: usize = 4;
 const LIST: usize = 5;
 const PLACE: usize = 6;

@@ -30,7 +30,6 @@ const WHEELS: [&str; 2] = ["the Rust, up to the first clock set back", "its vari
 /// Tables of a store, and how many each can hold.
 const TABLES: [&str; 5] = ["rules", "pending", "timers", "variables", "Every slots"];
 const FULL: [usize; 5] = [RULES, MOST_PENDING, MOST_TIMERS, MOST_VARIABLES, MOST_SLOTS];
-/// Reason 3, ChainDepth, is not given by ticks and runs.
 const REASONS: [&str; 3] = ["none", "ConditionUnevaluable", "EffectBudget"];
 
 /// The refusals that each call can have.
@@ -65,6 +64,8 @@ pub struct Tally {
     wheels: [u64; 2],
     /// Beside them, ticks and runs on sets with action kind 28: the Rust has no such kind, so they are compared with the definition only.
     pub percents: u64,
+    /// How often the Rust was asked whether it shows a chain of rules (document 02, request 9).
+    pub chains: u64,
     /// Sets that fit only by sharing.
     pub sharing: Sharing,
     answers: BTreeMap<(usize, u32), u64>,
@@ -116,6 +117,11 @@ impl Tally {
         format!("{} ticks and runs with action kind 28 with the definition only", self.percents)
     }
 
+    /// Where the Rust shows a chain there is a difference.
+    pub fn chains(&self) -> String {
+        format!("the Rust asked {} times for a chain of rules", self.chains)
+    }
+
     pub fn sharing(&self) -> String {
         format!("{} histories load a set that fits only by sharing", self.sharing.histories)
     }
@@ -153,7 +159,7 @@ impl Tally {
         empty += row("said", SAID.iter().map(said));
         empty += row("outcomes", [("all".to_owned(), self.outcomes), ("dry".to_owned(), self.dry)].into_iter());
         empty += named_row("wheel", &WHEELS, &self.wheels);
-        empty += usize::from(self.percents == 0);
+        empty += usize::from(self.percents == 0) + usize::from(self.chains == 0);
         empty += named_row("sharing", &sharing::CELLS, &self.sharing.counts);
         empty += usize::from(self.sharing.histories <= sharing::LEAST);
         let most: Vec<u64> = self.most.iter().map(|count| *count as u64).collect();

@@ -68,7 +68,7 @@ impl Three {
     /// None where a call on the way is refused.
     fn of(house: &House) -> Option<Three> {
         let [outcomes, effects] = house.room;
-        let lent = Lent { answer: 17, outcomes: outcomes * OUTCOME_WORDS, effects: effects * EFFECT_WORDS };
+        let lent = Lent { answer: 16, outcomes: outcomes * OUTCOME_WORDS, effects: effects * EFFECT_WORDS };
         let (oracle, bare) = (oracle::house::House::new(), Bare::default());
         let mut three = Three { store: vec![0; WORDS], oracle, bare, lent };
         made(&mut three.store, &Call::New { time: 0 }, lent);

@@ -27,7 +27,7 @@ use Rattle.activate.specs.Carried.{Carried, carried}
 use Rattle.activate.specs.declared.Handled.{Handled}
 use Rattle.activate.specs.declared.Mode.{Mode}
 use Rattle.activate.specs.declared.decide.Decision.{Decision}
-use Rattle.activate.specs.declared.decide.Decision.the-variants.{Begins, InCooldown, Rejected, TooDeep, Unevaluable}
+use Rattle.activate.specs.declared.decide.Decision.the-variants.{Begins, InCooldown, Rejected, Unevaluable}
 use Rattle.activate.proofs.Continues.{withVol}
 use Rattle.activate.proofs.Running.{changed, after-change, same-handles, refuses}
 
@@ -60,7 +60,7 @@ module _ (snapshot image part : List ℕ) (own : ℕ) (j : Job) (x : Carried) (w
       (after-change x w _ a part own (j .index) k ow ew r ow′ ew′ (subst (λ (n : ℕ). RunsWet snapshot image part own j start n (withVol w x) ow ew r ow′ ew′) e h (started (j .rule))))
 
 -- ---- `activate`
-module _ (snapshot image part : List ℕ) (own i kind depth : ℕ) (mode : Mode) (v : List ℕ) (x : Handled) (ow ew : List ℕ) where
+module _ (snapshot image part : List ℕ) (own i kind : ℕ) (mode : Mode) (v : List ℕ) (x : Handled) (ow ew : List ℕ) where
   abbrev rest : Rest
   rest = meaning v .rest
 
@@ -70,16 +70,16 @@ module _ (snapshot image part : List ℕ) (own i kind depth : ℕ) (mode : Mode)
   abbrev job : Job
   job = jobWith (nameOf image i) (isDry mode)
 
-  activated : (a d : Decision) → Decides snapshot image i depth mode rest a → a ≡ d → (flat : List (List FlatStep))
-      → model.decided (decisionOf d (isDry mode) rest) (envOf snapshot image flat) (jobOf job) (meaning v) ≡ model.activate (envOf snapshot image flat) i kind depth (modeOf mode) (meaning v)
+  activated : (a d : Decision) → Decides snapshot image i mode rest a → a ≡ d → (flat : List (List FlatStep))
+      → model.decided (decisionOf d (isDry mode) rest) (envOf snapshot image flat) (jobOf job) (meaning v) ≡ model.activate (envOf snapshot image flat) i kind (modeOf mode) (meaning v)
   unfolding model.activate model.jobOf
   activated a d h e flat = rw (h flat, e)
 
-  module _ (j : Job) (name : ℕ) (dry : Bool) (e : j ≡ jobWith name dry) (n : name ≡ nameOf image i) (w : dry ≡ isDry mode) (a : Decision) (d : Decides snapshot image i depth mode rest a) where
+  module _ (j : Job) (name : ℕ) (dry : Bool) (e : j ≡ jobWith name dry) (n : name ≡ nameOf image i) (w : dry ≡ isDry mode) (a : Decision) (d : Decides snapshot image i mode rest a) where
     is-job : j ≡ job
     is-job = e ∙ ap (λ (k : ℕ). jobWith k dry) n ∙ ap (jobWith (nameOf image i)) w
 
-    pub begins : (r : Carried) (ow′ ew′ : List ℕ) → a ≡ Begins → Executes snapshot image part own j (carried v x) ow ew r ow′ ew′ → Activates snapshot image part own i kind depth mode (carried v x) ow ew r ow′ ew′
+    pub begins : (r : Carried) (ow′ ew′ : List ℕ) → a ≡ Begins → Executes snapshot image part own j (carried v x) ow ew r ow′ ew′ → Activates snapshot image part own i kind mode (carried v x) ow ew r ow′ ew′
     begins r ow′ ew′ t h =
         same-handles part own i _ _ (carried v x) ow ew r ow′ ew′ (activated a Begins d t) (subst (λ (k : Job). Executes snapshot image part own k (carried v x) ow ew r ow′ ew′) is-job h)
 
@@ -87,20 +87,16 @@ module _ (snapshot image part : List ℕ) (own i kind depth : ℕ) (mode : Mode)
         → Handles part own i (λ flat. record { vol = withRest s (meaning v); outcomes = model.outcome (jobOf job) [] reason ∷ []; trace = aborted (job .rule) ∷ [] }) (carried v x) ow ew (carried u r) ow′ ew
     refusing u r ow′ s reason c h = refuses part own i v x ow ew u s job reason (aborted (job .rule) ∷ []) r ow′ c (subst (λ (k : Job). Pushes x ow k reason (x .effects) r ow′) is-job h)
 
-    pub too-deep : (u : List ℕ) (r : Handled) (ow′ : List ℕ) → a ≡ TooDeep → Changes v (bump model-state.chainDepthExceeded rest) u → Pushes x ow j model.chainDepth (x .effects) r ow′
-        → Activates snapshot image part own i kind depth mode (carried v x) ow ew (carried u r) ow′ ew
-    too-deep u r ow′ t c h = same-handles part own i _ _ (carried v x) ow ew (carried u r) ow′ ew (activated a TooDeep d t) (refusing u r ow′ _ model.chainDepth c h)
-
     pub unevaluable : (u : List ℕ) (r : Handled) (ow′ : List ℕ) → a ≡ Unevaluable → NotesPartial dry v u → Pushes x ow j actions.conditionUnevaluable (x .effects) r ow′
-        → Activates snapshot image part own i kind depth mode (carried v x) ow ew (carried u r) ow′ ew
+        → Activates snapshot image part own i kind mode (carried v x) ow ew (carried u r) ow′ ew
     unevaluable u r ow′ t c h =
         same-handles part own i _ _ (carried v x) ow ew (carried u r) ow′ ew (activated a Unevaluable d t) (refusing u r ow′ _ actions.conditionUnevaluable (subst (λ (z : Bool). NotesPartial z v u) w c) h)
 
-  module _ (u : List ℕ) (a : Decision) (d : Decides snapshot image i depth mode rest a) where
-    pub in-cooldown : a ≡ InCooldown → Changes v (bump model-state.suppressedCooldown rest) u → Activates snapshot image part own i kind depth mode (carried v x) ow ew (carried u x) ow ew
+  module _ (u : List ℕ) (a : Decision) (d : Decides snapshot image i mode rest a) where
+    pub in-cooldown : a ≡ InCooldown → Changes v (bump model-state.suppressedCooldown rest) u → Activates snapshot image part own i kind mode (carried v x) ow ew (carried u x) ow ew
     in-cooldown t c = same-handles part own i _ _ (carried v x) ow ew (carried u x) ow ew (activated a InCooldown d t) (changed (carried v x) u _ c part own i ow ew)
 
-    pub rejected : a ≡ Rejected → Changes v (bump model-state.conditionsRejected rest) u → Activates snapshot image part own i kind depth mode (carried v x) ow ew (carried u x) ow ew
+    pub rejected : a ≡ Rejected → Changes v (bump model-state.conditionsRejected rest) u → Activates snapshot image part own i kind mode (carried v x) ow ew (carried u x) ow ew
     rejected t c = same-handles part own i _ _ (carried v x) ow ew (carried u x) ow ew (activated a Rejected d t) (changed (carried v x) u _ c part own i ow ew)
 
 -- ---- `resume`

@@ -1,10 +1,9 @@
 -- Whether a rule starts now. Assumes nothing.
-use Prim.Native.Nat.{ℕ, _≤_, _<_}
+use Prim.Native.Nat.{ℕ}
 use mathlib.Core.Path.{_≡_, sym, ap, _∙_}
 use mathlib.Core.Bool.{Bool, true, false}
 use mathlib.Core.List.{List}
 use lib.Dec.{ltb}
-use borrow.Author.Tests.{lt-ltb, le-ltb}
 use Rattle.words.specs.Saturating.{saturatingSub}
 use Rattle.model.specs.Activate as model
 use Rattle.model.specs.Rules.{cooldownOf}
@@ -19,7 +18,7 @@ use Rattle.eval.specs.declared.Verdict.the-variants as verdict
 use Rattle.activate.specs.Decisions.{isAuto, InCooldownIs, CooldownHolds, Decides}
 use Rattle.activate.specs.declared.Mode.{Mode}
 use Rattle.activate.specs.declared.decide.Decision.{Decision}
-use Rattle.activate.specs.declared.decide.Decision.the-variants.{Begins, InCooldown, Rejected, TooDeep, Unevaluable}
+use Rattle.activate.specs.declared.decide.Decision.the-variants.{Begins, InCooldown, Rejected, Unevaluable}
 
 -- the time since the last activation
 module _ (snapshot image : List ℕ) (i : ℕ) (s : Rest) (last : OptionU64) (h : option64 last ≡ lastActivationAt s i) where
@@ -38,23 +37,19 @@ module _ (snapshot image : List ℕ) (i : ℕ) (m : Mode) (s : Rest) (auto : Boo
   pub asks-none : auto ≡ false → CooldownHolds snapshot image i m s false
   asks-none f flat = rw (sym h ∙ f)
 
--- the cooldown, then the depth, then the conditions
+-- the cooldown, then the conditions
 abbrev pub decisionBy : Verdict → Decision
 decisionBy verdict.Yes = Begins
 decisionBy verdict.No = Rejected
 decisionBy verdict.Unevaluable = Unevaluable
 
-module _ (snapshot image : List ℕ) (i depth : ℕ) (m : Mode) (s : Rest) (b : Bool) (h : CooldownHolds snapshot image i m s b) where
-  pub cooling : b ≡ true → Decides snapshot image i depth m s InCooldown
+module _ (snapshot image : List ℕ) (i : ℕ) (m : Mode) (s : Rest) (b : Bool) (h : CooldownHolds snapshot image i m s b) where
+  pub cooling : b ≡ true → Decides snapshot image i m s InCooldown
   unfolding model.decide
   cooling t flat = rw (sym (h flat) ∙ t)
 
-  pub deep : b ≡ false → 4 < depth → Decides snapshot image i depth m s TooDeep
+  pub judged : b ≡ false → (v w : Verdict) → RuleHolds snapshot image s i v → v ≡ w → Decides snapshot image i m s (decisionBy w)
   unfolding model.decide
-  deep f d flat = rw (sym (h flat) ∙ f, lt-ltb 4 depth d)
-
-  pub judged : b ≡ false → depth ≤ 4 → (v w : Verdict) → RuleHolds snapshot image s i v → v ≡ w → Decides snapshot image i depth m s (decisionBy w)
-  unfolding model.decide
-  judged f d v verdict.Yes k e flat = rw (sym (h flat) ∙ f, le-ltb 4 depth d, sym (k flat) ∙ ap verdictOf e)
-  judged f d v verdict.No k e flat = rw (sym (h flat) ∙ f, le-ltb 4 depth d, sym (k flat) ∙ ap verdictOf e)
-  judged f d v verdict.Unevaluable k e flat = rw (sym (h flat) ∙ f, le-ltb 4 depth d, sym (k flat) ∙ ap verdictOf e)
+  judged f v verdict.Yes k e flat = rw (sym (h flat) ∙ f, sym (k flat) ∙ ap verdictOf e)
+  judged f v verdict.No k e flat = rw (sym (h flat) ∙ f, sym (k flat) ∙ ap verdictOf e)
+  judged f v verdict.Unevaluable k e flat = rw (sym (h flat) ∙ f, sym (k flat) ∙ ap verdictOf e)

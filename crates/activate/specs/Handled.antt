@@ -70,8 +70,8 @@ pub record Handles (part : List ℕ) (own i : ℕ) (h : List (List FlatStep) →
   pub within : Within 1 x r
 
 module _ (snapshot image part : List ℕ) (own i : ℕ) where
-  abbrev pub Activates : ℕ → ℕ → Mode → Carried → List ℕ → List ℕ → Carried → List ℕ → List ℕ → Type 0
-  Activates kind depth mode x = Handles part own i (λ flat. model.activate (envOf snapshot image flat) i kind depth (modeOf mode) (meaning (x .vol))) x
+  abbrev pub Activates : ℕ → Mode → Carried → List ℕ → List ℕ → Carried → List ℕ → List ℕ → Type 0
+  Activates kind mode x = Handles part own i (λ flat. model.activate (envOf snapshot image flat) i kind (modeOf mode) (meaning (x .vol))) x
 
   abbrev pub Resumes : Pending → Carried → List ℕ → List ℕ → Carried → List ℕ → List ℕ → Type 0
   Resumes c x = Handles part own i (λ flat. model.resume (envOf snapshot image flat) c (meaning (x .vol))) x

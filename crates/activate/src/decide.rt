@@ -15,11 +15,8 @@ pub enum Decision {
     Begins,
     InCooldown,
     Rejected,
-    TooDeep,
     Unevaluable,
 }
-
-const MAX_CHAIN_DEPTH: u32 = 4;
 
 fn is_auto(mode: Mode) -> bool
     ensures { λ r. ⌜ r ≡ isAuto mode ⌝ }
@@ -55,22 +52,12 @@ fn cooldown_holds(snapshot: &[u32], image: &[u32], v: &[u32], i: u32, mode: Mode
     false
 }
 
-pub fn decide(
-    snapshot: &[u32],
-    image: &[u32],
-    v: &[u32],
-    i: u32,
-    depth: u32,
-    mode: Mode,
-) -> Decision
+pub fn decide(snapshot: &[u32], image: &[u32], v: &[u32], i: u32, mode: Mode) -> Decision
     requires { ⌜ Accepted (now image) × (i < sizeOf (now image) rules) × Sound (now v) ⌝ }
-    ensures { λ r. ⌜ Decides (now (snapshot .entry)) (now (image .entry)) i depth mode (meaning (now (v .entry)) .rest) r ⌝ }
+    ensures { λ r. ⌜ Decides (now (snapshot .entry)) (now (image .entry)) i mode (meaning (now (v .entry)) .rest) r ⌝ }
 {
     if cooldown_holds(snapshot, image, v, i, mode) {
         return Decision::InCooldown;
-    }
-    if MAX_CHAIN_DEPTH < depth {
-        return Decision::TooDeep;
     }
     match conditions_hold(snapshot, image, v, i) {
         Verdict::Yes => Decision::Begins,

@@ -61,7 +61,7 @@ fn job_of(image: &[u32], name: u32, i: u32, kind: u32, dry: bool) -> Job
     }
 }
 
-// Rule i, by a trigger kind of an outcome, at a depth. `part` is its part of the flat steps, where its own list stands behind `own` steps.
+// Rule i, by a trigger kind of an outcome. `part` is its part of the flat steps, where its own list stands behind `own` steps.
 pub fn activate(
     snapshot: &[u32],
     image: &[u32],
@@ -73,16 +73,15 @@ pub fn activate(
     x: Handled,
     i: u32,
     kind: u32,
-    depth: u32,
     mode: Mode,
 ) -> Handled
     requires { ⌜ Accepted (now image) × FlatWords (now part) own × (i < sizeOf (now image) rules) ⌝ }
     requires { ⌜ Room 1 (carried (now v) x) ⌝ }
-    ensures { λ r. ⌜ Activates (now (snapshot .entry)) (now (image .entry)) (now (part .entry)) own i kind depth mode (carried (now (v .entry)) x) (now (outcomes .entry)) (now (effects .entry)) (carried (now (v .exit)) r) (now (outcomes .exit)) (now (effects .exit)) ⌝ }
+    ensures { λ r. ⌜ Activates (now (snapshot .entry)) (now (image .entry)) (now (part .entry)) own i kind mode (carried (now (v .entry)) x) (now (outcomes .entry)) (now (effects .entry)) (carried (now (v .exit)) r) (now (outcomes .exit)) (now (effects .exit)) ⌝ }
 {
     let dry = is_dry(mode);
     let job = job_of(image, image::rule::name_of(image, i), i, kind, dry);
-    match decide::decide(snapshot, image, v, i, depth, mode) {
+    match decide::decide(snapshot, image, v, i, mode) {
         Decision::Begins => execute::execute(
             snapshot,
             image,
@@ -101,10 +100,6 @@ pub fn activate(
         Decision::Rejected => {
             state::bump(v, counters::CONDITIONS_REJECTED, 1);
             x
-        }
-        Decision::TooDeep => {
-            state::bump(v, counters::CHAIN_DEPTH_EXCEEDED, 1);
-            push_outcome(outcomes, x, job, state::reasons::CHAIN_DEPTH, x.effects)
         }
         Decision::Unevaluable => {
             execute::note_wet_partial(v, dry);

@@ -1,4 +1,4 @@
--- The counters of the code as the specification has them: a list of 13, in the order of `EngineCounters`.
+-- The counters of the code as the specification has them: a list of 12, in the order of `EngineCounters`.
 use Prim.Native.Nat.{ℕ}
 use mathlib.Core.List.{List, [], _∷_}
 use lib.ListN.{getD, set}
@@ -13,7 +13,6 @@ countersOf c =
     ∷ c .«suppressed_disabled»
     ∷ c .«conditions_rejected»
     ∷ c .«partial_outcomes»
-    ∷ c .«chain_depth_exceeded»
     ∷ c .«effects_emitted»
     ∷ c .«actions_failed»
     ∷ c .«continuations_scheduled»

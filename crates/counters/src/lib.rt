@@ -1,4 +1,4 @@
-// The 13 counters of a store, the Rust's `EngineCounters`, as one record. A counter is named by its place. Document 01: the
+// The 12 counters of a store, the Rust's `EngineCounters` without the one that nothing counts, as one record. A counter is named by its place. Document 01: the
 // counters are one record, lent and changed in place (`bump`); its proof is a walk by hand, docs/WALKS.md. A caller that has
 // the record by value counts by `with_bump`, and needs no walk.
 use words::saturating_add_u32 as add;
@@ -17,19 +17,17 @@ pub const CONDITIONS_REJECTED: u32 = 4;
 
 pub const PARTIAL_OUTCOMES: u32 = 5;
 
-pub const CHAIN_DEPTH_EXCEEDED: u32 = 6;
+pub const EFFECTS_EMITTED: u32 = 6;
 
-pub const EFFECTS_EMITTED: u32 = 7;
+pub const ACTIONS_FAILED: u32 = 7;
 
-pub const ACTIONS_FAILED: u32 = 8;
+pub const CONTINUATIONS_SCHEDULED: u32 = 8;
 
-pub const CONTINUATIONS_SCHEDULED: u32 = 9;
+pub const CONTINUATIONS_FIRED: u32 = 9;
 
-pub const CONTINUATIONS_FIRED: u32 = 10;
+pub const CONTINUATIONS_DROPPED: u32 = 10;
 
-pub const CONTINUATIONS_DROPPED: u32 = 11;
-
-pub const TICKS_TIME_UNSYNCED: u32 = 12;
+pub const TICKS_TIME_UNSYNCED: u32 = 11;
 
 pub struct Counters {
     pub activations_total: u32,
@@ -38,7 +36,6 @@ pub struct Counters {
     pub suppressed_disabled: u32,
     pub conditions_rejected: u32,
     pub partial_outcomes: u32,
-    pub chain_depth_exceeded: u32,
     pub effects_emitted: u32,
     pub actions_failed: u32,
     pub continuations_scheduled: u32,
@@ -59,7 +56,6 @@ fn count(c: Counters, which: u32, by: u32) -> Counters
         SUPPRESSED_DISABLED => d.suppressed_disabled = add(c.suppressed_disabled, by),
         CONDITIONS_REJECTED => d.conditions_rejected = add(c.conditions_rejected, by),
         PARTIAL_OUTCOMES => d.partial_outcomes = add(c.partial_outcomes, by),
-        CHAIN_DEPTH_EXCEEDED => d.chain_depth_exceeded = add(c.chain_depth_exceeded, by),
         EFFECTS_EMITTED => d.effects_emitted = add(c.effects_emitted, by),
         ACTIONS_FAILED => d.actions_failed = add(c.actions_failed, by),
         CONTINUATIONS_SCHEDULED => d.continuations_scheduled = add(c.continuations_scheduled, by),

@@ -86,7 +86,7 @@ examples =
     ([] ∷ ((6 ∷ 0 ∷ []) ∷ []) ∷ [] ∷ [] ∷ ((10 ∷ []) ∷ []) ∷ [] ∷ [] ∷ ([] ∷ []) ∷ []) ∷
     -- the 33rd continuation is dropped: reason 2; counters: 32 scheduled, 1 dropped, 32 pending
     edge (history many (runWet 5 0 ∷ counters ∷ []))
-    ([] ∷ ((5 ∷ 2 ∷ []) ∷ []) ∷ ((1 ∷ 0 ∷ 0 ∷ 0 ∷ 0 ∷ 1 ∷ 0 ∷ 0 ∷ 0 ∷ 32 ∷ 0 ∷ 1 ∷ 0 ∷ 32 ∷ 0 ∷ 1 ∷ 0 ∷ []) ∷ []) ∷ []) ∷
+    ([] ∷ ((5 ∷ 2 ∷ []) ∷ []) ∷ ((1 ∷ 0 ∷ 0 ∷ 0 ∷ 0 ∷ 1 ∷ 0 ∷ 0 ∷ 32 ∷ 0 ∷ 1 ∷ 0 ∷ 32 ∷ 0 ∷ 1 ∷ 0 ∷ []) ∷ []) ∷ []) ∷
     -- a dry run: the body behind all that is queued, and nothing is left
     edge (history (doing 8 2 (after 10 2 1 ∷ log 2 ∷ log 1 ∷ [])) (runDry 5 0 ∷ deadline ∷ []))
     ([] ∷ ((5 ∷ 0 ∷ 2 ∷ 1 ∷ []) ∷ []) ∷ ([] ∷ []) ∷ []) ∷

@@ -29,7 +29,7 @@ unfoldable pub solar : List ℕ
 solar = imageOf 8 (rule 5 0 0 1 0 0 0 1 ∷ []) ((3 ∷ 0 ∷ 0 ∷ []) ∷ []) [] (logs 1) []
 
 unfoldable pub unsynced : ℕ → List (List ℕ)
-unsynced n = (0 ∷ 0 ∷ 0 ∷ 0 ∷ 0 ∷ 0 ∷ 0 ∷ 0 ∷ 0 ∷ 0 ∷ 0 ∷ 0 ∷ n ∷ 0 ∷ 0 ∷ 1 ∷ 0 ∷ []) ∷ []
+unsynced n = (0 ∷ 0 ∷ 0 ∷ 0 ∷ 0 ∷ 0 ∷ 0 ∷ 0 ∷ 0 ∷ 0 ∷ 0 ∷ n ∷ 0 ∷ 0 ∷ 1 ∷ 0 ∷ []) ∷ []
 
 -- rule 1 every millisecond; rule 2 when timer 9 fires; rule 3 at 4:59; rule 4 starts timer 9, waits and logs 2
 unfoldable pub others : List ℕ

@@ -190,7 +190,7 @@ rules-loaded : (o : Option RuleSet) → ruleCount o ≡ rulesLoaded o
 rules-loaded none = refl
 rules-loaded (some set) = refl
 
-pub counters-are : (w : List ℕ) (s : Store) (c : Counters) (p t n q : ℕ) → ReadsAs w s → counters.countersOf c ≡ tableAt any 13 w countersPlace
+pub counters-are : (w : List ℕ) (s : Store) (c : Counters) (p t n q : ℕ) → ReadsAs w s → counters.countersOf c ≡ tableAt any 12 w countersPlace
     → p ≡ rowAt any w pendingPlace → t ≡ rowAt any w timersPlace → n ≡ ruleCount (s .loaded) → q ≡ rowAt any w variablesPlace
     → counters.countersOf c ++ (p ∷ t ∷ n ∷ q ∷ []) ≡ countersOf s
 unfolding countersOf

@@ -32,7 +32,7 @@ valuesOf NoDeadline = 0 ∷ 0 ∷ 0 ∷ []
 unfoldable pub shown : Answer → List ℕ → List ℕ → List ℕ → Seen
 shown r w os es = record { number = numberOf r; values = valuesOf r; store = w; outcomes = os; effects = es }
 
--- the answer of `counters`: its number, and the 17 counters where it is no refusal
+-- the answer of `counters`: its number, and the 16 numbers where it is no refusal
 unfoldable pub shownCounters : Counted → List ℕ → Seen
 shownCounters r w =
     record { number = r .refusal; values = cond (eqb (r .refusal) 0) (r .values) []; store = w; outcomes = []; effects = [] }

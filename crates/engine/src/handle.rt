@@ -118,7 +118,6 @@ fn run_at(
         x,
         i,
         0,
-        0,
         mode,
     )
 }

@@ -29,10 +29,10 @@ pub enum Answer {
     NoDeadline,
 }
 
-// What `counters` answers: the refusal's number or 0, and the 13 counters, then pending, timers, rules, variables.
+// What `counters` answers: the refusal's number or 0, and the 12 counters, then pending, timers, rules, variables.
 pub struct Counted {
     pub refusal: u32,
-    pub values: [u32; 17],
+    pub values: [u32; 16],
 }
 
 // A new store, whatever the words were.
@@ -140,13 +140,13 @@ pub fn next_deadline(store: &[u32]) -> Answer
     stored::next_deadline(store)
 }
 
-// The 13 counters, then how many are pending, timers, rules and variables.
+// The 12 counters, then how many are pending, timers, rules and variables.
 pub fn counters(store: &[u32]) -> Counted
     ensures { λ r. ⌜ shownCounters r (now (store .entry)) ≡ seen (callOn counters (now (store .entry))) ⌝ }
 {
     let n = stored::refusal(store);
     if n != 0 {
-        let values = [0; 17];
+        let values = [0; 16];
         return Counted { refusal: n, values };
     }
     stored::counters(store)

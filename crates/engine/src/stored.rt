@@ -92,7 +92,7 @@ pub fn next_deadline(store: &[u32]) -> Answer
     deadline_answer(next)
 }
 
-// The 13 counters and the four gauges.
+// The 12 counters and the four gauges.
 pub fn counters(store: &[u32]) -> Counted
     requires { ⌜ present (read (now store)) ≡ true ⌝ }
     ensures { λ r. ⌜ shownCounters r (now (store .entry)) ≡ seen (callOn counters (now (store .entry))) ⌝ }
@@ -111,7 +111,6 @@ pub fn counters(store: &[u32]) -> Counted
         read::word_at(store, k + 9),
         read::word_at(store, k + 10),
         read::word_at(store, k + 11),
-        read::word_at(store, k + 12),
         read::word_at(store, table::PENDING),
         read::word_at(store, table::TIMERS),
         rule_count(store) as u32,

@@ -20,7 +20,7 @@ use Rattle.model.specs.State.{Env, Rest, Volatile, RuleSet, Store, withRest, is
 use Rattle.model.specs.Eval.{conditionsHold}
 use Rattle.model.specs.Actions.{Job, conditionUnevaluable}
 use Rattle.model.specs.Exec.{RunOutput, runSteps}
-use Rattle.model.specs.Activate.{Mode, Auto, Manual, isDry, isAuto, Handled, noOutcome, andThen, outcome, jobOf, inCooldown, Decision, begins, suppressed, tooDeep, unevaluable, verdict, decide, finished, executeWet, execute, decided, activate, resume}
+use Rattle.model.specs.Activate.{Mode, Auto, Manual, isDry, isAuto, Handled, noOutcome, andThen, outcome, jobOf, inCooldown, Decision, begins, suppressed, unevaluable, verdict, decide, finished, executeWet, execute, decided, activate, resume}
 use Rattle.model.specs.Steps.{start}
 use Rattle.model.specs.Wheel.{dueNow, resumeAll, fireContinuations, serviceTick}
 use Rattle.model.specs.Calls.{Call, new, load, unload, enable, tick, run, deadline, counters, Done, overflow, loading, callLoad, callUnload, enabling, ruleIn, callEnable, committing, committed, tickWith, runRule, runWith, given, refuse, call}
@@ -78,25 +78,6 @@ part-append {set} {b = b} {bs = bs} (first {c = c} {cs = cs} {reason = reason} {
 pub record Faithful (set : RuleSet) (cs : List Pending) (x : Handled) : Type 0 where
   pub part : PartOf set cs (x .trace) (x .outcomes)
 
--- at depth 0 no chain is too deep
-Shallow : Decision → Type 0
-Shallow (begins s) = Unit {0}
-Shallow (suppressed s) = Unit {0}
-Shallow (tooDeep s) = ⊥
-Shallow (unevaluable s) = Unit {0}
-
-shallow-verdict : (o : Option Bool) (dry : Bool) (s : Rest) → Shallow (verdict o dry s)
-unfolding Shallow
-shallow-verdict none dry s = tt
-shallow-verdict (some true) dry s = tt
-shallow-verdict (some false) dry s = tt
-
-shallow : (e : Env) (i : ℕ) (m : Mode) (s : Rest) → Shallow (decide e i 0 m s)
-unfolding decide
-shallow e i m s =
-    by (isAuto m && inCooldown e i s) (λ t. rw t (unfold Shallow in tt))
-    (λ f. rw f (shallow-verdict (conditionsHold e s (conditionsOfRule (e .set .image) i)) (isDry m) s))
-
 module _ (e : Env) where
   no-outcome : (v : Volatile) → Faithful (e .set) [] (noOutcome v)
   no-outcome v = record { part = behind no-more }
@@ -138,17 +119,15 @@ module _ (e : Env) where
   wet-execute w false v t wet er =
       starts w _ wet er (run-trace (budget (e .set .image)) e w wet start _) ((run-effects (budget (e .set .image)) e w start _) .effects)
 
-  decides : (w : Job) (d : Decision) (v : Volatile) → Shallow d → w .dry ≡ false → w .rule ≡ nameOf (e .set .image) (w .index) → Faithful (e .set) [] (decided d e w v)
-  unfolding Shallow
-  decides w (begins s) v h wet er = wet-execute w (w .dry) (withRest s v) wet wet er
-  decides w (suppressed s) v h wet er = no-outcome (withRest s v)
-  decides w (tooDeep s) v h wet er = absurd h
-  decides w (unevaluable s) v h wet er = aborts w (withRest s v) wet er
+  decides : (w : Job) (d : Decision) (v : Volatile) → w .dry ≡ false → w .rule ≡ nameOf (e .set .image) (w .index) → Faithful (e .set) [] (decided d e w v)
+  decides w (begins s) v wet er = wet-execute w (w .dry) (withRest s v) wet wet er
+  decides w (suppressed s) v wet er = no-outcome (withRest s v)
+  decides w (unevaluable s) v wet er = aborts w (withRest s v) wet er
 
-  activates : (i kind : ℕ) (m : Mode) (v : Volatile) → isDry m ≡ false → Faithful (e .set) [] (activate e i kind 0 m v)
+  activates : (i kind : ℕ) (m : Mode) (v : Volatile) → isDry m ≡ false → Faithful (e .set) [] (activate e i kind m v)
   unfolding activate jobOf
   activates i kind m v wet =
-      decides (jobOf e (nameOf (e .set .image) i) i kind (isDry m)) (decide e i 0 m (v .rest)) v (shallow e i m (v .rest)) wet refl
+      decides (jobOf e (nameOf (e .set .image) i) i kind (isDry m)) (decide e i m (v .rest)) v wet refl
 
   -- behind the resumptions there are activations only
   trace-laws : WheelLaws e (List Pending) (λ i. Unit {0}) (λ cs. Unit {0}) (λ cs v. cs ≡ []) (Faithful (e .set))
@@ -161,7 +140,7 @@ module _ (e : Env) where
         both = λ cs x K a b. and-then cs x K a b;
         order = every-any (nameOrder (e .set .image));
         slot = λ r i q. tt;
-        starts = λ cs i kind v our le p. subst (λ ds. Faithful (e .set) ds (activate e i kind 0 Auto v)) (sym p) (activates i kind Auto v refl);
+        starts = λ cs i kind v our le p. subst (λ ds. Faithful (e .set) ds (activate e i kind Auto v)) (sym p) (activates i kind Auto v refl);
         timers = λ cs v p. p;
         slots = λ cs v p. p;
         unsynced = λ cs v p. p;

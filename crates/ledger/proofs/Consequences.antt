@@ -22,7 +22,7 @@ use Rattle.model.specs.Outcome.{Outcome, Item, started, resumed, aborted, paid}
 use Rattle.model.specs.Steps.{FlatStep, plain, stepsOf}
 use Rattle.model.specs.State.{RuleSet}
 use Rattle.ledger.specs.Trace.{effectsIn, RunOf, ended, exhausted, waits, continues, ActivationsOf, no-more, activation, unevaluable, TraceOf, activations, resumption}
-use Rattle.ledger.specs.FlatForm.{flowAt, nested, Context, ListForm, at-end, action, cut-off, ActionForm, is-plain, is-wait, is-after, after-in-after, is-call, call-too-deep, call-unknown, is-repeat, repeat-refused, is-branch, branch-in-branch}
+use Rattle.ledger.specs.FlatForm.{flowAt, nested, Context, ListForm, at-end, action, cut-off, ActionForm, is-plain, is-wait, is-after, after-in-after, is-call, call-past-limit, call-unknown, is-repeat, repeat-refused, is-branch, branch-in-branch}
 use Rattle.ledger.proofs.ListLaws.{and-l, and-r, and-i}
 use Rattle.ledger.proofs.Reasons.{isDrop, dropsOne, reason-two}
 
@@ -139,7 +139,7 @@ action-waits (is-wait e) = let z = ap waitAction e in omega arith
 action-waits (is-after e q h) = let z = ap waitAction e in omega arith
 action-waits (after-in-after e q) = let z = ap waitAction e in omega arith
 action-waits (is-call e d q h) = let z = ap waitAction e in omega arith
-action-waits (call-too-deep e d) = let z = ap waitAction e in omega arith
+action-waits (call-past-limit e d) = let z = ap waitAction e in omega arith
 action-waits (call-unknown e d q) = let z = ap waitAction e in omega arith
 action-waits (is-repeat e q h c) = let z = ap waitAction e in omega arith
 action-waits (repeat-refused e q) = let z = ap waitAction e in omega arith
@@ -226,7 +226,7 @@ action-body-waits {img} {i = i} (is-after {xs = xs} e q g) h =
     omega arith
 action-body-waits (after-in-after e q) h = absurd (false≢true h)
 action-body-waits {img} {i = i} (is-call e d q g) h = let z = ap (nestedWait img i) e in omega arith
-action-body-waits (call-too-deep e d) h = absurd (false≢true h)
+action-body-waits (call-past-limit e d) h = absurd (false≢true h)
 action-body-waits (call-unknown e d q) h = absurd (false≢true h)
 action-body-waits {img} {i = i} (is-repeat e q g c) h = let z = ap (nestedWait img i) e in omega arith
 action-body-waits (repeat-refused e q) h = absurd (false≢true h)
@@ -263,7 +263,7 @@ own-action {i = i} {s = s} (is-wait e) o = ap (λ x. plain x ∷ []) (Option·so
 own-action {i = i} (is-after e q h) o = none-some (ap (ownStep i) e) o
 own-action {i = i} (after-in-after e q) o = none-some (ap (ownStep i) e) o
 own-action {i = i} (is-call e d q h) o = none-some (ap (ownStep i) e) o
-own-action {i = i} (call-too-deep e d) o = none-some (ap (ownStep i) e) o
+own-action {i = i} (call-past-limit e d) o = none-some (ap (ownStep i) e) o
 own-action {i = i} (call-unknown e d q) o = none-some (ap (ownStep i) e) o
 own-action {i = i} (is-repeat e q h c) o = none-some (ap (ownStep i) e) o
 own-action {i = i} (repeat-refused e q) o = none-some (ap (ownStep i) e) o
@@ -298,7 +298,7 @@ one-step (is-wait e) o = refl
 one-step (is-after e q h) o = refl
 one-step (after-in-after e q) o = refl
 one-step (is-call e d q h) o = absurd (false≢true (sym (ap isOneStep e) ∙ o))
-one-step (call-too-deep e d) o = refl
+one-step (call-past-limit e d) o = refl
 one-step (call-unknown e d q) o = refl
 one-step (is-repeat e q h c) o = absurd (false≢true (sym (ap isOneStep e) ∙ o))
 one-step (repeat-refused e q) o = refl

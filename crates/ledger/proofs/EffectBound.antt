@@ -23,7 +23,7 @@ use Rattle.model.specs.Flat.{Flattened, flattenRule, flattenRules, setOf, stepA
 use Rattle.model.specs.Steps.{start}
 use Rattle.model.specs.Actions.{Job}
 use Rattle.model.specs.Exec.{StepResult, exec, RunOutput, continueRun, withStep, runSteps}
-use Rattle.model.specs.Activate.{Mode, Auto, Manual, isDry, Handled, noOutcome, andThen, jobOf, Decision, begins, suppressed, tooDeep, unevaluable, decide, executeWet, execute, decided, activate, resume}
+use Rattle.model.specs.Activate.{Mode, Auto, Manual, isDry, Handled, noOutcome, andThen, jobOf, Decision, begins, suppressed, unevaluable, decide, executeWet, execute, decided, activate, resume}
 use Rattle.model.specs.Wheel.{dueNow, notDue, resumeAll, fireContinuations, serviceTick}
 use Rattle.model.specs.Rules.{nameOrder}
 use Rattle.model.specs.Calls.{Call, new, load, unload, enable, tick, run, deadline, counters, Done, refuse, fresh, loading, callLoad, callUnload, enabling, ruleIn, callEnable, overflow, committing, committed, tickWith, runRule, runWith, given, call}
@@ -129,12 +129,11 @@ module _ (ρ : Activation) where
     decides : (w : Job) (d : Decision) (v : Volatile) (l : Ledger) → w .dry ≡ false → l .budget ≡ image.budget (e .set .image) → Within l → BoundKept l (decided d e w v)
     decides w (begins s) v l wet eb h = executes w (w .dry) (withRest s v) l wet eb h
     decides w (suppressed s) v l wet eb h = no-outcome (withRest s v) l h
-    decides w (tooDeep s) v l wet eb h = aborts (withRest s v) _ _ l h
     decides w (unevaluable s) v l wet eb h = aborts (withRest s v) _ _ l h
 
-    activates : (i kind : ℕ) (m : Mode) (v : Volatile) (l : Ledger) → isDry m ≡ false → l .budget ≡ image.budget (e .set .image) → Within l → BoundKept l (activate e i kind 0 m v)
+    activates : (i kind : ℕ) (m : Mode) (v : Volatile) (l : Ledger) → isDry m ≡ false → l .budget ≡ image.budget (e .set .image) → Within l → BoundKept l (activate e i kind m v)
     unfolding activate jobOf
-    activates i kind m v l wet eb h = decides (jobOf e (nameOf (e .set .image) i) i kind (isDry m)) (decide e i 0 m (v .rest)) v l wet eb h
+    activates i kind m v l wet eb h = decides (jobOf e (nameOf (e .set .image) i) i kind (isDry m)) (decide e i m (v .rest)) v l wet eb h
 
     -- in a call with this set, within the bound
     pub record InBound (l : Ledger) (v : Volatile) : Type 0 where

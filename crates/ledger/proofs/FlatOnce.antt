@@ -17,7 +17,7 @@ use Rattle.model.specs.declared.Step.{Step}
 use Rattle.model.specs.declared.Step.the-variants.{Primitive, Wait, Branch, After, Fail}
 use Rattle.model.specs.Steps.{FlatStep, plain, stepsOf}
 use Rattle.model.specs.Flat.{blockNamed}
-use Rattle.ledger.specs.FlatForm.{flowAt, records, listed, nested, Context, outermost, insideAfter, insideRepeat, insideConditional, insideCall, refusesRepeat, Copies, no-copy, copy, too-long, ListForm, at-end, action, cut-off, ActionForm, is-plain, is-wait, is-after, after-in-after, is-call, call-too-deep, call-unknown, is-repeat, repeat-refused, is-branch, branch-in-branch, RuleForm}
+use Rattle.ledger.specs.FlatForm.{flowAt, records, listed, nested, Context, outermost, insideAfter, insideRepeat, insideConditional, insideCall, refusesRepeat, Copies, no-copy, copy, too-long, ListForm, at-end, action, cut-off, ActionForm, is-plain, is-wait, is-after, after-in-after, is-call, call-past-limit, call-unknown, is-repeat, repeat-refused, is-branch, branch-in-branch, RuleForm}
 use Rattle.ledger.proofs.Consequences.{steps-plain}
 
 copies-once : {xs ys zs : List FlatStep} {t n : ℕ} → Copies xs t n ys → Copies xs t n zs → ys ≡ zs
@@ -74,7 +74,7 @@ module _ (img : List ℕ) where
       subst (λ a. OneForm p n i a ys) (sym e) (subst (λ b. AfterForm p n i ms f k b ys) (sym q) refl)
   one-form {p} {n} {i} {ys} (is-call {b = b} {d = d} e q g h) =
       subst (λ a. OneForm p n i a ys) (sym e) (subst (λ d. CallForm p n i d (named b) ys) (sym q) (subst (λ o. CallForm p n i (suc d) o ys) (sym g) h))
-  one-form {p} {n} {i} {ys} (call-too-deep {b = b} e q) =
+  one-form {p} {n} {i} {ys} (call-past-limit {b = b} e q) =
       subst (λ a. OneForm p n i a ys) (sym e) (subst (λ d. CallForm p n i d (named b) ys) (sym q) refl)
   one-form {p} {n} {i} {ys} (call-unknown {b = b} {d = d} e q g) =
       subst (λ a. OneForm p n i a ys) (sym e) (subst (λ d. CallForm p n i d (named b) ys) (sym q) (subst (λ o. CallForm p n i (suc d) o ys) (sym g) refl))
@@ -137,7 +137,7 @@ module _ (img : List ℕ) where
     the-form p n xs ys c (is-call {b = b} {d = r} {r = block} e q g h) o =
         part-once r (block .a) (block .b) (upFrom 0 (records img)) (subst CallsOnce (sym c ∙ q) calls) (insideCall r p) n refl _ ys h
         (subst (λ m. CallForm p n i (suc r) m ys) g (subst (λ m. CallForm p n i m (named b) ys) q (subst (λ a. OneForm p n i a ys) e o)))
-    the-form p n xs ys c (call-too-deep {b = b} e q) o = subst (λ m. CallForm p n i m (named b) ys) q (subst (λ a. OneForm p n i a ys) e o)
+    the-form p n xs ys c (call-past-limit {b = b} e q) o = subst (λ m. CallForm p n i m (named b) ys) q (subst (λ a. OneForm p n i a ys) e o)
     the-form p n xs ys c (call-unknown {b = b} {d = r} e q g) o =
         subst (λ m. CallForm p n i (suc r) m ys) g (subst (λ m. CallForm p n i m (named b) ys) q (subst (λ a. OneForm p n i a ys) e o))
     the-form p n xs ys c (is-repeat {t = t} {f = f} {k = j} e q h w) o =

@@ -22,7 +22,7 @@ use Rattle.model.specs.Flat.{stepAt}
 use Rattle.model.specs.Eval.{conditionAt}
 use Rattle.model.specs.Actions.{Job, PrimResult, primAt}
 use Rattle.model.specs.Exec.{dropped, accepted, schedule, StepResult, afterPrim, runBranch, exec, RunOutput, continueRun, withStep, runSteps}
-use Rattle.model.specs.Activate.{Mode, Auto, isDry, Handled, noOutcome, andThen, jobOf, Decision, begins, suppressed, tooDeep, unevaluable, decide, finishWet, executeWet, execute, decided, activate, resume}
+use Rattle.model.specs.Activate.{Mode, Auto, isDry, Handled, noOutcome, andThen, jobOf, Decision, begins, suppressed, unevaluable, decide, finishWet, executeWet, execute, decided, activate, resume}
 use Rattle.model.specs.Steps.{start}
 use Rattle.model.specs.Wheel.{resumeAll}
 use Rattle.model.specs.Rules.{nameOrder}
@@ -281,13 +281,12 @@ module _ (o : Option RuleSet) (j k : ℕ) where
       → l .now ≡ e .world .now → l .budget ≡ budget (e .set .image) → Simulates l (decided d e w v)
   decides e w (begins s) v l wet kr h hn hb = wet-execute e w (w .dry) (withRest s v) l wet kr (any-rest o j k s v (l .standing) h) hn hb
   decides e w (suppressed s) v l wet kr h hn hb = no-outcome (withRest s v) l (any-rest o j k s v (l .standing) h)
-  decides e w (tooDeep s) v l wet kr h hn hb = aborts (withRest s v) _ _ l (any-rest o j k s v (l .standing) h)
   decides e w (unevaluable s) v l wet kr h hn hb = aborts (withRest s v) _ _ l (any-rest o j k s v (l .standing) h)
 
   pub activates : (e : Env) (i kind : ℕ) (m : Mode) (v : Volatile) (l : Ledger) → isDry m ≡ false → knownTo o (nameOf (e .set .image) i) ≡ true
-      → Sim o j k v (l .standing) → l .now ≡ e .world .now → l .budget ≡ budget (e .set .image) → Simulates l (activate e i kind 0 m v)
+      → Sim o j k v (l .standing) → l .now ≡ e .world .now → l .budget ≡ budget (e .set .image) → Simulates l (activate e i kind m v)
   unfolding activate jobOf
-  activates e i kind m v l wet kr h hn hb = decides e (jobOf e (nameOf (e .set .image) i) i kind (isDry m)) (decide e i 0 m (v .rest)) v l wet kr h hn hb
+  activates e i kind m v l wet kr h hn hb = decides e (jobOf e (nameOf (e .set .image) i) i kind (isDry m)) (decide e i m (v .rest)) v l wet kr h hn hb
 
   module _ (e : Env) (ok : (i : ℕ) → present (ruleNamed (e .set .image) (nameOf (e .set .image) i)) ≡ true → knownTo o (nameOf (e .set .image) i) ≡ true) where
     -- a rule of the set

@@ -12,7 +12,7 @@ use Rattle.model.specs.Rows.{rules}
 use Rattle.model.specs.Rules.{nameOf, ruleNamed}
 use Rattle.model.specs.State.{Env, Volatile, withRest, isEnabled}
 use Rattle.model.specs.Actions.{Job}
-use Rattle.model.specs.Activate.{Mode, Manual, isDry, Decision, begins, suppressed, tooDeep, unevaluable, decide, outcome, jobOf, executeWet, executeDry, execute, decided, activate}
+use Rattle.model.specs.Activate.{Mode, Manual, isDry, Decision, begins, suppressed, unevaluable, decide, outcome, jobOf, executeWet, executeDry, execute, decided, activate}
 use Rattle.model.specs.Calls.{runRule}
 use Rattle.ledger.specs.Trace.{OnlyOf}
 use Rattle.ledger.proofs.ListLaws.{by}
@@ -40,7 +40,6 @@ module _ (e : Env) (r : ℕ) where
       go true = (name, kind)
       go false = (name, kind)
   one-outcome w (suppressed s) v name kind = tt
-  one-outcome w (tooDeep s) v name kind = (name, kind)
   one-outcome w (unevaluable s) v name kind = (name, kind)
 
   named-only : (o : Option ℕ) → ruleNamed (e .set .image) r ≡ o → (v : Volatile) → OnlyOf r ((runRule e o false v) .outcomes)
@@ -48,7 +47,7 @@ module _ (e : Env) (r : ℕ) where
   named-only none h v = tt
   named-only (some i) h v =
       by (isEnabled (v .rest) i)
-      (λ t. rw t (one-outcome (jobOf e (nameOf (e .set .image) i) i 0 false) (decide e i 0 Manual (v .rest)) v (name-of-rule (e .set .image) r i h) refl))
+      (λ t. rw t (one-outcome (jobOf e (nameOf (e .set .image) i) i 0 false) (decide e i Manual (v .rest)) v (name-of-rule (e .set .image) r i h) refl))
       (λ f. rw f tt)
 
   pub run-only : (v : Volatile) → OnlyOf r ((runRule e (ruleNamed (e .set .image) r) false v) .outcomes)

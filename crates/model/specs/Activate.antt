@@ -10,7 +10,7 @@ use Rattle.model.specs.Image.{budget}
 use Rattle.model.specs.Rules.{nameOf, holdHclOf, cooldownOf, conditionsOfRule, ruleNamed}
 use Rattle.model.specs.Steps.{Point, start}
 use Rattle.model.specs.Outcome.{Effect, Outcome, Item, started, resumed, aborted}
-use Rattle.model.specs.State.{Env, Rest, Volatile, Pending, withRest, withLastActivation, bump, bumpBy, lastActivationAt, activationsTotal, activationsDry, suppressedCooldown, conditionsRejected, partialOutcomes, chainDepthExceeded, effectsEmitted, continuationsFired}
+use Rattle.model.specs.State.{Env, Rest, Volatile, Pending, withRest, withLastActivation, bump, bumpBy, lastActivationAt, activationsTotal, activationsDry, suppressedCooldown, conditionsRejected, partialOutcomes, effectsEmitted, continuationsFired}
 use Rattle.model.specs.Eval.{conditionsHold}
 use Rattle.model.specs.Actions.{Job, conditionUnevaluable}
 use Rattle.model.specs.Exec.{RunOutput, runSteps}
@@ -44,9 +44,6 @@ andThen x k = let y = k (x .vol) in record { vol = y .vol; outcomes = x .outcome
 unfoldable pub outcome : Job → List Effect → ℕ → Outcome
 outcome j effects reason = record { rule = j .rule; dry = cond (j .dry) 1 0; trigger = j .trigger; reason = reason; effects = effects }
 
-abbrev pub chainDepth : ℕ
-chainDepth = 3
-
 -- the rule of this name, at place i of the image
 unfoldable pub jobOf : Env → ℕ → ℕ → ℕ → Bool → Job
 jobOf e name i kind dry = record { rule = name; index = i; hold = holdHclOf (e .set .image) i; trigger = kind; dry = dry }
@@ -61,22 +58,18 @@ inCooldown e i s = within (e .world .now) (cooldownOf (e .set .image) i) (lastAc
 
 -- whether a rule starts now, and what that does to the counters
 pub data Decision : Type 0 where
-  begins suppressed tooDeep unevaluable : Rest → Decision
-
-abbrev pub maxChainDepth : ℕ
-maxChainDepth = 4
+  begins suppressed unevaluable : Rest → Decision
 
 abbrev pub verdict : Option Bool → Bool → Rest → Decision
 verdict (some true) dry s = begins s
 verdict (some false) dry s = suppressed (bump conditionsRejected s)
 verdict none dry s = unevaluable (cond dry s (bump partialOutcomes s))
 
--- ticks and runs start at depth 0, so that here no chain is too deep
-unfoldable pub decide : Env → ℕ → ℕ → Mode → Rest → Decision
-decide e i depth m s =
+-- the Rust also asks for the depth of a chain, which is always 0 (document 02, request 9; crate `reasons`)
+unfoldable pub decide : Env → ℕ → Mode → Rest → Decision
+decide e i m s =
     cond (isAuto m && inCooldown e i s) (suppressed (bump suppressedCooldown s))
-    (cond (ltb maxChainDepth depth) (tooDeep (bump chainDepthExceeded s))
-    (verdict (conditionsHold e s (conditionsOfRule (e .set .image) i)) (isDry m) s))
+    (verdict (conditionsHold e s (conditionsOfRule (e .set .image) i)) (isDry m) s)
 
 -- `finish_wet`
 unfoldable pub finishWet : List Effect → ℕ → Volatile → Volatile
@@ -106,12 +99,11 @@ execute e j false v = executeWet e j v
 abbrev pub decided : Decision → Env → Job → Volatile → Handled
 decided (begins s) e j v = execute e j (j .dry) (withRest s v)
 decided (suppressed s) e j v = noOutcome (withRest s v)
-decided (tooDeep s) e j v = record { vol = withRest s v; outcomes = outcome j [] chainDepth ∷ []; trace = aborted (j .rule) ∷ [] }
 decided (unevaluable s) e j v = record { vol = withRest s v; outcomes = outcome j [] conditionUnevaluable ∷ []; trace = aborted (j .rule) ∷ [] }
 
--- rule i of the set, by a trigger kind of an outcome, at a depth
-unfoldable pub activate : Env → ℕ → ℕ → ℕ → Mode → Volatile → Handled
-activate e i kind depth m v = decided (decide e i depth m (v .rest)) e (jobOf e (nameOf (e .set .image) i) i kind (isDry m)) v
+-- rule i of the set, by a trigger kind of an outcome
+unfoldable pub activate : Env → ℕ → ℕ → Mode → Volatile → Handled
+activate e i kind m v = decided (decide e i m (v .rest)) e (jobOf e (nameOf (e .set .image) i) i kind (isDry m)) v
 
 -- a continuation goes on where it stood; its rule is loaded
 unfoldable pub resume : Env → Pending → Volatile → Handled

@@ -8,7 +8,7 @@ use Rattle.model.specs.Steps.{Step, Point}
 use Rattle.model.specs.declared.Pending.{Pending}
 
 -- dry is 0 or 1; trigger: 0 HttpTrigger, 1 TimerFires, 2 Every, 3 AtTime, 4 AtSolar;
--- reason: 0 none, 1 ConditionUnevaluable, 2 EffectBudget, 3 ChainDepth
+-- reason: 0 none, 1 ConditionUnevaluable, 2 EffectBudget
 pub record Outcome : Type 0 where
   pub rule : ℕ
   pub dry : ℕ
@@ -27,5 +27,5 @@ pub data Report : Type 0 where
 pub data Item : Type 0 where
   resumed : Pending → Item  -- this record resumes
   started : ℕ → Item  -- the rule of this name starts
-  aborted : ℕ → Item  -- it would start, but its conditions cannot be evaluated (or the chain is too deep): no step runs
+  aborted : ℕ → Item  -- it would start, but its conditions cannot be evaluated: no step runs
   paid : Step → Report → Option Effect → Item

@@ -61,7 +61,7 @@ jumpIs = record { to = jumpOf; from = ofJump; there = elim [ NoJump ↦ refl | J
 abbrev pub jumpRow : Row Jump
 jumpRow = as-row jumpIs (maybe (any ⊗ any))
 
--- sequence number, due time, rule, list, place, jump, budget, trigger; its depth and event words are 0
+-- sequence number, due time, rule, list, place, jump, budget, trigger; its event word is 0
 abbrev pub pendingIs : Same (ℕ × (ℕ × (ℕ × (ℕ × (ℕ × (Jump × (ℕ × (ℕ × Unit {0})))))))) Pending
 pendingIs =
     record {
@@ -83,7 +83,7 @@ pendingIs =
     }
 
 abbrev pub pendingRow : Row Pending
-pendingRow = as-row pendingIs (wide ⊗ (wide ⊗ (any ⊗ (any ⊗ (any ⊗ (jumpRow ⊗ (any ⊗ (word 4 ⊗ pad 2))))))))
+pendingRow = as-row pendingIs (wide ⊗ (wide ⊗ (any ⊗ (any ⊗ (any ⊗ (jumpRow ⊗ (any ⊗ (word 4 ⊗ pad 1))))))))
 
 -- PARTS ---------------------------------------------------------------------------------------------------------------------------
 -- the loaded word, the image, the rules' lists and the flat steps
@@ -159,7 +159,7 @@ changingPart =
     then (most 32 pendingRow
     then (one (maybe (word 10079))
     then (one wide
-    then all 13 any)))))))))
+    then all 12 any)))))))))
 
 abbrev pub partsIs : Same (ℕ × (Loaded × (Changing × Unit {0}))) Parts
 partsIs =
@@ -170,6 +170,6 @@ partsIs =
       back = λ x. refl;
     }
 
--- 16,384 words: the last 2,678 are unused
+-- 16,384 words: the last 2,711 are unused
 unfoldable pub layout : Codec Parts
-layout = as-parts partsIs (one wide then (loadedPart then (changingPart then unused 2678)))
+layout = as-parts partsIs (one wide then (loadedPart then (changingPart then unused 2711)))

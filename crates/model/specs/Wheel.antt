@@ -53,7 +53,7 @@ pub record Plan : Type 0 where
   pub rules : List ℕ
 
 unfoldable pub activateIfEnabled : Env → ℕ → ℕ → Volatile → Handled
-activateIfEnabled e kind i v = cond (isEnabled (v .rest) i) (activate e i kind 0 Auto v) (noOutcome v)
+activateIfEnabled e kind i v = cond (isEnabled (v .rest) i) (activate e i kind Auto v) (noOutcome v)
 
 unfoldable pub activateEach : Env → ℕ → List ℕ → Volatile → Handled
 activateEach e kind [] v = noOutcome v
@@ -153,7 +153,7 @@ dueWallKind e base window (Other ∷ ts) = dueWallKind e base window ts
 
 abbrev pub startWall : Option ℕ → Env → ℕ → Volatile → Handled
 startWall none e i v = noOutcome v
-startWall (some kind) e i v = activate e i kind 0 Auto v
+startWall (some kind) e i v = activate e i kind Auto v
 
 -- a rule's turn: whether it is enabled, and whether a sun was missed so far; then the others'
 abbrev pub wallTurn : Bool → Bool → Env → ℕ → ℕ → ℕ → Volatile → (Bool → Volatile → Handled) → Handled

@@ -19,10 +19,10 @@ use Rattle.play.specs.Played.{Lends}
 use Rattle.play.proofs.Gathering.{gathers-none}
 
 module _ (c : Call) (size n : ℕ) (w : List ℕ) (l : Lends size w n) where
-  module _ (x : Called) (e : x ≡ answered 17 (callOn c (take n w))) where
+  module _ (x : Called) (e : x ≡ answered 16 (callOn c (take n w))) where
     seen : x ≡ seenOn size c w
     unfolding seenOn
-    seen = e ∙ ap (λ z. answered 17 (callOn c z)) (l .first)
+    seen = e ∙ ap (λ z. answered 16 (callOn c z)) (l .first)
 
     pub store-called : x .store ++ drop n w ≡ calling size c w .store
     unfolding calling
@@ -49,7 +49,7 @@ module _ (c : Call) (size n : ℕ) (w : List ℕ) (l : Lends size w n) where
   -- a call without values
   module _ (x : Called) (e : x ≡ answered 0 (callOn c (take n w))) where
     with-values : Called
-    with-values = answered 17 (callOn c (take n w))
+    with-values = answered 16 (callOn c (take n w))
 
     same-store : x .store ≡ with-values .store
     unfolding answered called with-values
@@ -73,7 +73,7 @@ module _ (c : Call) (size n : ℕ) (w : List ℕ) (l : Lends size w n) where
 module _ (c : ℕ → ℕ → Call) (call time size n : ℕ) (w : List ℕ) (l : Lends size w n) where
   module _ (outcomes effects os es : ℕ) (ow ew : List ℕ) (lo : Lends outcomes ow os) (le : Lends effects ew es) where
     pub does-handle : (number : ℕ) (answer w′ ow′ ew′ : List ℕ)
-        → called number answer w′ ow′ ew′ ≡ answered 17 (callOn (c (length (take os ow)) (length (take es ew))) (take n w))
+        → called number answer w′ ow′ ew′ ≡ answered 16 (callOn (c (length (take os ow)) (length (take es ew))) (take n w))
         → length ow′ ≡ length (take os ow) → length ew′ ≡ length (take es ew)
         → ((a b : ℕ) (y : Called) → answerLines (c a b) y ≡ handledLines call time (y .answer) (y .outcomes) (y .effects))
         → ((a b : ℕ) → callNumber (c a b) ≡ call)
@@ -92,13 +92,13 @@ module _ (c : ℕ → ℕ → Call) (call time size n : ℕ) (w : List ℕ) (l :
 
 -- a call that asks is lent words for effects, to answer into
 module _ (a : ℕ → Asked) (call : ℕ) (lines : List ℕ → List ℕ → List ℕ) (room n : ℕ) (lw : List ℕ) (l : Lends room lw n) where
-  pub tells-lines : (number : ℕ) (answer lw′ : List ℕ) → tells number answer lw′ ≡ told 17 (a (length (take n lw))) → length lw′ ≡ length (take n lw)
+  pub tells-lines : (number : ℕ) (answer lw′ : List ℕ) → tells number answer lw′ ≡ told 16 (a (length (take n lw))) → length lw′ ≡ length (take n lw)
       → (b after : List ℕ) (o r : Stream) → Gathers b o (unlessRefused call number (lines answer (take n (lw′ ++ drop n lw)))) after r
-      → Gathers b o (toldLines call lines (told 17 (a (min room (length lw))))) after r
+      → Gathers b o (toldLines call lines (told 16 (a (min room (length lw))))) after r
   unfolding tells toldLines
   tells-lines number answer lw′ e f b after o r g =
       let i : length (take n lw) ≡ min room (length lw) = sym (l .counts .1) ∙ l .least in
-      let s : tells number answer lw′ ≡ told 17 (a (min room (length lw))) = e ∙ ap (λ (k : ℕ). told 17 (a k)) i in
+      let s : tells number answer lw′ ≡ told 16 (a (min room (length lw))) = e ∙ ap (λ (k : ℕ). told 16 (a k)) i in
       let t : take n (lw′ ++ drop n lw) ≡ lw′ = take-at lw′ (drop n lw) n (f ∙ sym (l .counts .1)) in
       subst (λ (x : Told). Gathers b o (toldLines call lines x) after r) s (rw t at g)
 

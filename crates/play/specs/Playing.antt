@@ -25,16 +25,16 @@ pub record Obeyed : Type 0 where
   pub store : List ℕ
   pub lines : List ℕ
 
--- what is seen of a call on the first n words of a store, with 17 words lent for the values of its answer
+-- what is seen of a call on the first n words of a store, with 16 words lent for the values of its answer
 unfoldable pub seenOn : ℕ → Call → List ℕ → Called
-seenOn n c w = answered 17 (callOn c (take n w))
+seenOn n c w = answered 16 (callOn c (take n w))
 
 unfoldable pub calling : ℕ → Call → List ℕ → Obeyed
 calling n c w = record { store = seenOn n c w .store ++ drop n w; lines = callLines c (seenOn n c w) }
 
 -- a call that asks, by its number; nothing changes
 abbrev pub asking : ℕ → (List ℕ → List ℕ → List ℕ) → Asked → List ℕ → Obeyed
-asking call lines a w = record { store = w; lines = toldLines call lines (told 17 a) }
+asking call lines a w = record { store = w; lines = toldLines call lines (told 16 a) }
 
 abbrev pub quiet : List ℕ → Obeyed
 quiet w = record { store = w; lines = [] }

@@ -74,7 +74,7 @@ answerLines (enable rule on) r = enabledLine rule (eqb (getD (r .answer) 0 0) 1)
 answerLines (tick snap os es) r = handledLines 4 (nowOf snap) (r .answer) (r .outcomes) (r .effects)
 answerLines (run rule dry snap os es) r = handledLines 5 (nowOf snap) (r .answer) (r .outcomes) (r .effects)
 answerLines deadline r = deadlineOf (r .answer)
-answerLines counters r = line (bytesOf "counters") (numbers (wordsAt (r .answer) 0 17))
+answerLines counters r = line (bytesOf "counters") (numbers (wordsAt (r .answer) 0 16))
 
 -- a refusal returns its number only
 abbrev pub unlessRefused : ℕ → ℕ → List ℕ → List ℕ

@@ -84,13 +84,13 @@ pub fn deadline(o: Stream, out: &mut [u8], call: u32, number: u32, answer: &[u32
 
 pub fn counters(o: Stream, out: &mut [u8], call: u32, number: u32, answer: &[u32]) -> Stream
     requires { ⌜ 1024 ≤ length (now out) ⌝ }
-    ensures { λ r. ⌜ Gathers (now (out .entry)) o (unlessRefused call number (line (bytesOf "counters") (numbers (wordsAt (now (answer .entry)) 0 17)))) (now (out .exit)) r ⌝ }
+    ensures { λ r. ⌜ Gathers (now (out .entry)) o (unlessRefused call number (line (bytesOf "counters") (numbers (wordsAt (now (answer .entry)) 0 16)))) (now (out .exit)) r ⌝ }
 {
     if number != 0 {
         return refused(o, out, call, number);
     }
     let p = output::text(o, out, b"counters");
-    let q = output::words(p, out, answer, 0, 17);
+    let q = output::words(p, out, answer, 0, 16);
     output::end(q, out)
 }
 

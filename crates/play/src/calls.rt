@@ -80,7 +80,7 @@ fn enable(o: Stream, size: usize, rule: u32, on: bool, store: &mut [u32], out: &
     ensures { λ r. ⌜ Does (calling size (Calls.enable rule on) (now (store .entry))) (now (out .entry)) o (now (store .exit)) (now (out .exit)) r ⌝ }
 {
     let n = within(size, store);
-    let mut answer = [0u32; 17];
+    let mut answer = [0u32; 16];
     let number = cerambiu::cerambiu_enable(&mut store[..n], rule, on, &mut answer);
     answers::enabled(o, out, calls::ENABLE, number, rule, &answer)
 }
@@ -90,7 +90,7 @@ fn deadline(o: Stream, size: usize, store: &[u32], out: &mut [u8]) -> Stream
     ensures { λ r. ⌜ Does (calling size Calls.deadline (now (store .entry))) (now (out .entry)) o (now (store .entry)) (now (out .exit)) r ⌝ }
 {
     let n = within(size, store);
-    let mut answer = [0u32; 17];
+    let mut answer = [0u32; 16];
     let number = cerambiu::cerambiu_next_deadline(&store[..n], &mut answer);
     answers::deadline(o, out, calls::DEADLINE, number, &answer)
 }
@@ -100,7 +100,7 @@ fn counters(o: Stream, size: usize, store: &[u32], out: &mut [u8]) -> Stream
     ensures { λ r. ⌜ Does (calling size Calls.counters (now (store .entry))) (now (out .entry)) o (now (store .entry)) (now (out .exit)) r ⌝ }
 {
     let n = within(size, store);
-    let mut answer = [0u32; 17];
+    let mut answer = [0u32; 16];
     let number = cerambiu::cerambiu_counters(&store[..n], &mut answer);
     answers::counters(o, out, calls::COUNTERS, number, &answer)
 }
@@ -120,7 +120,7 @@ fn tick(
     let n = within(t.size, store);
     let os = within(t.outcomes, outcomes);
     let es = within(t.effects, effects);
-    let mut answer = [0u32; 17];
+    let mut answer = [0u32; 16];
     let number = cerambiu::cerambiu_tick(
         &mut store[..n],
         snapshot,
@@ -157,7 +157,7 @@ fn run(
     let n = within(t.size, store);
     let os = within(t.outcomes, outcomes);
     let es = within(t.effects, effects);
-    let mut answer = [0u32; 17];
+    let mut answer = [0u32; 16];
     let number = cerambiu::cerambiu_run(
         &mut store[..n],
         rule,
@@ -189,10 +189,10 @@ fn peek(o: Stream, place: u64, store: &[u32], out: &mut [u8]) -> Stream
 
 fn telegrams(o: Stream, room: usize, words: &[u32], effects: &mut [u32], out: &mut [u8]) -> Stream
     requires { ⌜ 1024 ≤ length (now out) ⌝ }
-    ensures { λ r. ⌜ Gathers (now (out .entry)) o (toldLines 12 telegramLines (told 17 (sending (min room (length (now (effects .entry)))) (now (words .entry))))) (now (out .exit)) r ⌝ }
+    ensures { λ r. ⌜ Gathers (now (out .entry)) o (toldLines 12 telegramLines (told 16 (sending (min room (length (now (effects .entry)))) (now (words .entry))))) (now (out .exit)) r ⌝ }
 {
     let n = within(room, effects);
-    let mut answer = [0u32; 17];
+    let mut answer = [0u32; 16];
     let number = cerambiu::cerambiu_telegrams(words, &mut effects[..n], &mut answer);
     answers::telegrams(o, out, calls::TELEGRAMS, number, &answer, &effects[..n])
 }
@@ -206,10 +206,10 @@ fn crontab(
     out: &mut [u8],
 ) -> Stream
     requires { ⌜ 1024 ≤ length (now out) ⌝ }
-    ensures { λ r. ⌜ Gathers (now (out .entry)) o (toldLines 13 triggerLines (told 17 (Crontab.crontab (now (text .entry)) sunday (min room (length (now (effects .entry))))))) (now (out .exit)) r ⌝ }
+    ensures { λ r. ⌜ Gathers (now (out .entry)) o (toldLines 13 triggerLines (told 16 (Crontab.crontab (now (text .entry)) sunday (min room (length (now (effects .entry))))))) (now (out .exit)) r ⌝ }
 {
     let n = within(room, effects);
-    let mut answer = [0u32; 17];
+    let mut answer = [0u32; 16];
     let number = cerambiu::cerambiu_crontab(text, sunday, &mut effects[..n], &mut answer);
     answers::crontab(o, out, calls::CRONTAB, number, &answer, &effects[..n])
 }

@@ -1,18 +1,16 @@
--- The reasons of outcomes, and the counter of chains that are too deep, over lists of calls.
+-- The reasons of outcomes, over lists of calls; and the Rust's decision, which asks for the depth of a chain.
 use Prim.Native.Nat.{ℕ}
 use mathlib.Core.Path.{_≡_}
-use mathlib.Core.Bool.{Bool, true}
-use mathlib.Core.List.{List, [], _∷_}
-use mathlib.Core.Option.{some}
-use lib.Dec.{leb, eqb}
-use lib.ListN.{getD}
+use mathlib.Core.Bool.{Bool, true, cond, _&&_}
+use mathlib.Core.List.{List}
+use lib.Dec.{leb, ltb}
 use Rattle.model.specs.Lists.{all}
+use Rattle.model.specs.Rules.{conditionsOfRule}
 use Rattle.model.specs.Outcome.{Outcome}
-use Rattle.model.specs.State.{Store, chainDepthExceeded}
-use Rattle.model.specs.Store.{read}
-use Rattle.model.specs.Calls.{Call, new, load, unload, enable, tick, run, deadline, counters, Answer, done, refused, enabled, handled, due, counted, answers}
-use Rattle.ledger.specs.Ledger.{finalStore}
-use Rattle.ledger.specs.OnWords.{answersOn, wordsAfter}
+use Rattle.model.specs.State.{Env, Rest, bump, suppressedCooldown}
+use Rattle.model.specs.Eval.{conditionsHold}
+use Rattle.model.specs.Activate.{Mode, Decision, suppressed, isAuto, isDry, inCooldown, verdict}
+use Rattle.model.specs.Calls.{Answer, done, refused, enabled, handled, due, counted}
 
 -- none, ConditionUnevaluable or EffectBudget: no other reason
 abbrev pub isKnown : Outcome → Bool
@@ -27,38 +25,17 @@ allKnown (handled os) = all isKnown os
 allKnown (due t) = true
 allKnown (counted cs) = true
 
--- the counter, of the counters or of what `counters` answers
-abbrev pub chainsIn : List ℕ → ℕ
-chainsIn cs = getD cs chainDepthExceeded 0
+-- activate.rs: a chain of activations deeper than this is given up. The Rust keeps a depth with every activation, and no code of it ever
+-- gives one above 0
+abbrev pub maxChainDepth : ℕ
+maxChainDepth = 4
 
--- what calls leave of a number in it: that number, and 0 where a store was made new
-abbrev pub leftOf : ℕ → List Call → ℕ
-leftOf n [] = n
-leftOf n (new t ∷ cs) = leftOf 0 cs
-leftOf n (load t img ∷ cs) = leftOf n cs
-leftOf n (unload t ∷ cs) = leftOf n cs
-leftOf n (enable rule on ∷ cs) = leftOf n cs
-leftOf n (tick snap os es ∷ cs) = leftOf n cs
-leftOf n (run rule dry snap os es ∷ cs) = leftOf n cs
-leftOf n (deadline ∷ cs) = leftOf n cs
-leftOf n (counters ∷ cs) = leftOf n cs
+pub data DeepDecision : Type 0 where
+  tooDeep : DeepDecision
+  shallow : Decision → DeepDecision
 
--- no call of the list gives another reason, and none counts a chain
-pub record NoChains (s : Store) (cs : List Call) : Type 0 where
-  pub reasons : all allKnown (answers s cs) ≡ true
-  pub counter : chainsIn (finalStore s cs .vol .rest .counters) ≡ leftOf (chainsIn (s .vol .rest .counters)) cs
-
--- the same of the calls on the words of a store
-pub record NoChainsOnWords (w : List ℕ) (s : Store) (cs : List Call) : Type 0 where
-  pub reasons : all allKnown (answersOn w cs) ≡ true
-  pub reads : read (wordsAfter w cs) ≡ some (finalStore s cs)
-  pub counter : chainsIn (finalStore s cs .vol .rest .counters) ≡ leftOf (chainsIn (s .vol .rest .counters)) cs
-
--- what `counters` answers has 0 there
-abbrev pub noneShown : Answer → Bool
-noneShown done = true
-noneShown (refused n) = true
-noneShown (enabled b) = true
-noneShown (handled os) = true
-noneShown (due t) = true
-noneShown (counted cs) = eqb (chainsIn cs) 0
+-- activate.rs: cooldown, then the depth, then the conditions
+unfoldable pub decideAt : ℕ → Env → ℕ → Mode → Rest → DeepDecision
+decideAt depth e i m s =
+    cond (isAuto m && inCooldown e i s) (shallow (suppressed (bump suppressedCooldown s)))
+    (cond (ltb maxChainDepth depth) tooDeep (shallow (verdict (conditionsHold e s (conditionsOfRule (e .set .image) i)) (isDry m) s)))

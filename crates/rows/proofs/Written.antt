@@ -89,10 +89,10 @@ point-put w w₁ w₂ w₃ k x h e₁ e₂ e₃ =
     and-then w w₁ w₃ k (k + 1) (any .put (x .list)) (any .put (x .place) ++ jumpRow .put (x .jump)) (omega arith) refl e₁
     (λ l. lays w₁ w₂ w₃ (k + 1) (k + 2) (any .put (x .place)) (jumpRow .put (x .jump)) (omega arith) (omega arith) e₂ e₃)
 
-pub pending-put : (w w₁ w₂ w₃ w₄ w₅ w₆ w₇ : List ℕ) (k : ℕ) (x : Pending) → k + 14 ≤ length w
+pub pending-put : (w w₁ w₂ w₃ w₄ w₅ w₆ w₇ : List ℕ) (k : ℕ) (x : Pending) → k + 13 ≤ length w
     → w₁ ≡ laid w k (wide .put (x .seq)) → w₂ ≡ laid w₁ (k + 2) (wide .put (x .due)) → w₃ ≡ laid w₂ (k + 4) (any .put (x .rule))
     → w₄ ≡ laid w₃ (k + 5) (pointRow .put (x .point)) → w₅ ≡ laid w₄ (k + 10) (any .put (x .budget))
-    → w₆ ≡ laid w₅ (k + 11) (any .put (x .trigger)) → w₇ ≡ laid w₆ (k + 12) (replicate 2 0) → w₇ ≡ laid w k (pendingRow .put x)
+    → w₆ ≡ laid w₅ (k + 11) (any .put (x .trigger)) → w₇ ≡ laid w₆ (k + 12) (replicate 1 0) → w₇ ≡ laid w k (pendingRow .put x)
 pending-put w w₁ w₂ w₃ w₄ w₅ w₆ w₇ k x h e₁ e₂ e₃ e₄ e₅ e₆ e₇ =
     let j = jump-long (x .point .jump) in
     and-then w w₁ w₇ k (k + 2) (wide .put (x .seq)) _ (omega arith) refl e₁
@@ -100,7 +100,7 @@ pending-put w w₁ w₂ w₃ w₄ w₅ w₆ w₇ k x h e₁ e₂ e₃ e₄ e₅ 
     (λ l₂. and-then w₂ w₃ w₇ (k + 4) (k + 5) (any .put (x .rule)) _ (omega arith) (omega arith) e₃
     (λ l₃. and-then w₃ w₄ w₇ (k + 5) (k + 10) (pointRow .put (x .point)) _ (omega arith) (omega arith) e₄
     (λ l₄. and-then w₄ w₅ w₇ (k + 10) (k + 11) (any .put (x .budget)) _ (omega arith) (omega arith) e₅
-    (λ l₅. lays w₅ w₆ w₇ (k + 11) (k + 12) (any .put (x .trigger)) (replicate 2 0) (omega arith) (omega arith) e₆ e₇)))))
+    (λ l₅. lays w₅ w₆ w₇ (k + 11) (k + 12) (any .put (x .trigger)) (replicate 1 0) (omega arith) (omega arith) e₆ e₇)))))
 
 -- HOW MANY WORDS ------------------------------------------------------------------------------------------------------------------------
 pub bool-long : Long boolRow
@@ -130,7 +130,7 @@ pub slot-long : Long slotRow
 slot-long = record { long = λ x. refl }
 
 pub pending-long : Long pendingRow
-pending-long = record { long = λ x. by-jump (x .point .jump) (x .budget ∷ (x .trigger ∷ (0 ∷ (0 ∷ [])))) }
+pending-long = record { long = λ x. by-jump (x .point .jump) (x .budget ∷ (x .trigger ∷ (0 ∷ []))) }
   where
     by-jump : (j : Jump) (l : List ℕ) → suc (suc (suc (suc (suc (suc (suc (length (jumpRow .put j ++ l)))))))) ≡ 10 + length l
     by-jump NoJump l = omega arith

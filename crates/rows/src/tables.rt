@@ -65,7 +65,7 @@ pub fn pendings_at(s: &[u32], k: usize, n: usize) -> [Pending; 32]
     let mut a = [z; 32];
     let mut i = 0;
     while i < n {
-        let x = read::pending_at(s, k + i * 14);
+        let x = read::pending_at(s, k + i * 13);
         a[i] = x;
         i += 1;
     }

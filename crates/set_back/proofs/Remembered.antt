@@ -21,12 +21,12 @@ use Rattle.model.specs.declared.Pending.{Pending}
 use Rattle.model.specs.declared.VarValue.{VarValue}
 use Rattle.model.specs.declared.VarValue.the-variants.{Int, Text}
 use Rattle.model.specs.declared.Effect.{Effect}
-use Rattle.model.specs.State.{Env, Rest, Volatile, withRest, bumpBy, bump, cancelTimer, timerNamed, varNamed, strike, isFull, isEnabled, partialOutcomes}
+use Rattle.model.specs.State.{Env, Rest, Volatile, withRest, bumpBy, bump, cancelTimer, timerNamed, varNamed, strike, isFull, isEnabled, partialOutcomes, effectsEmitted, suppressedCooldown, actionsFailed, activationsTotal, conditionsRejected, continuationsDropped, continuationsFired, continuationsScheduled}
 use Rattle.model.specs.Eval.{conditionAt, conditionsHold, valueAt}
 use Rattle.model.specs.Actions.{Job, PrimResult, fails, runPrim, primLight, primRecall, primApply, primCycle, cycleEffect, levelAt, selects, dims, armTimer, varSet, primVarSet, varAdd, setRuleBit, primAt}
 use Rattle.model.specs.Exec.{Scheduled, dropped, accepted, schedule, StepResult, afterPrim, runBranch, exec, RunOutput, continueRun, withStep, runSteps}
 use Rattle.model.specs.Flat.{stepAt}
-use Rattle.model.specs.Activate.{Auto, Handled, jobOf, Decision, begins, suppressed, tooDeep, unevaluable, verdict, inCooldown, decide, finishWet, executeWet, execute, decided, activate, resume}
+use Rattle.model.specs.Activate.{Auto, Handled, jobOf, Decision, begins, suppressed, unevaluable, verdict, inCooldown, decide, finishWet, executeWet, execute, decided, activate, resume}
 use Rattle.model.specs.Wheel.{resumeAll, notDue, dueNow, fireContinuations, activateIfEnabled, activateEach, timersDue, everyDue, fireTimers, fireEvery}
 use Rattle.set_back.specs.Ticks.{beforeWall}
 
@@ -55,7 +55,7 @@ one-of s false x y p q = q
 module _ (e : Env) (j : Job) (s : Rest) where
   failed : (s′ : Rest) → Same s s′ → Kept s (fails s′)
   unfolding Kept fails
-  failed s′ p = bumped 8 1 s′ ∙ p
+  failed s′ p = bumped actionsFailed 1 s′ ∙ p
 
   canceled : (name : ℕ) → Same s (cond (j .dry) s (cancelTimer name s))
   unfolding cancelTimer
@@ -142,12 +142,12 @@ module _ (e : Env) (j : Job) (s : Rest) where
 -- A RUN -------------------------------------------------------------------------------------------------------------------------
 struck : (r : ℕ) (v : Volatile) → SameIn v (strike r v)
 unfolding strike
-struck r v = bumped 11 _ (v .rest)
+struck r v = bumped continuationsDropped _ (v .rest)
 
 module _ (e : Env) (j : Job) where
   scheduled : (b ms : ℕ) (sp : Point) (v : Volatile) → SameIn v ((schedule e j b ms sp v) .vol)
   unfolding schedule dropped accepted
-  scheduled b ms sp v = go (isFull v) _ _ (bumped 11 1 (v .rest)) (bumped 9 1 (v .rest))
+  scheduled b ms sp v = go (isFull v) _ _ (bumped continuationsDropped 1 (v .rest)) (bumped continuationsScheduled 1 (v .rest))
     where
       go : (full : Bool) (x y : Scheduled) → SameIn v (x .vol) → SameIn v (y .vol) → SameIn v ((cond full x y) .vol)
       go true x y p q = p
@@ -191,33 +191,32 @@ module _ (e : Env) (j : Job) where
 finishes : (effects : List Effect) (reason : ℕ) (v : Volatile) → SameIn v (finishWet effects reason v)
 unfolding finishWet
 finishes effects reason v =
-    let s = bumpBy 7 _ (v .rest) in
-    let p = bumped 7 _ (v .rest) in
-    one-of (v .rest) (eqb reason 0) s (bump partialOutcomes s) p (bumped 5 1 s ∙ p)
+    let s = bumpBy effectsEmitted _ (v .rest) in
+    let p = bumped effectsEmitted _ (v .rest) in
+    one-of (v .rest) (eqb reason 0) s (bump partialOutcomes s) p (bumped partialOutcomes 1 s ∙ p)
 
 -- AN ACTIVATION, A RESUMPTION -----------------------------------------------------------------------------------------------------
 module _ (e : Env) where
   executes : (j : Job) (v : Volatile) → SameIn v ((executeWet e j v) .vol)
   unfolding executeWet
   executes j v =
-      finishes _ _ _ ∙ (runs e j (budget (e .set .image)) _ _ ∙ bumped 0 1 (v .rest))
+      finishes _ _ _ ∙ (runs e j (budget (e .set .image)) _ _ ∙ bumped activationsTotal 1 (v .rest))
 
   -- what a decision leaves
   abbrev Left : Rest → Decision → Type 0
   Left s (begins s′) = Same s s′
   Left s (suppressed s′) = Same s s′
-  Left s (tooDeep s′) = Same s s′
   Left s (unevaluable s′) = Same s s′
 
-  decides : (i : ℕ) (s : Rest) → Left s (decide e i 0 Auto s)
+  decides : (i : ℕ) (s : Rest) → Left s (decide e i Auto s)
   unfolding decide
   decides i s = go (inCooldown e i s) (conditionsHold e s (conditionsOfRule (e .set .image) i))
     where
-      go : (b : Bool) (o : Option Bool) → Left s (cond b (suppressed (bump 2 s)) (verdict o false s))
-      go true o = bumped 2 1 s
+      go : (b : Bool) (o : Option Bool) → Left s (cond b (suppressed (bump suppressedCooldown s)) (verdict o false s))
+      go true o = bumped suppressedCooldown 1 s
       go false (some true) = refl
-      go false (some false) = bumped 4 1 s
-      go false none = bumped 5 1 s
+      go false (some false) = bumped conditionsRejected 1 s
+      go false none = bumped partialOutcomes 1 s
 
   wet : (b : Bool) (j : Job) (v : Volatile) → b ≡ false → SameIn v ((execute e j b v) .vol)
   wet true j v f = absurd (false≢true (sym f))
@@ -226,16 +225,15 @@ module _ (e : Env) where
   does : (d : Decision) (j : Job) (v : Volatile) → j .dry ≡ false → Left (v .rest) d → SameIn v ((decided d e j v) .vol)
   does (begins s) j v f p = wet (j .dry) j (withRest s v) f ∙ p
   does (suppressed s) j v f p = p
-  does (tooDeep s) j v f p = p
   does (unevaluable s) j v f p = p
 
-  activates : (i kind : ℕ) (v : Volatile) → SameIn v ((activate e i kind 0 Auto v) .vol)
+  activates : (i kind : ℕ) (v : Volatile) → SameIn v ((activate e i kind Auto v) .vol)
   unfolding activate jobOf
-  activates i kind v = does (decide e i 0 Auto (v .rest)) _ v refl (decides i (v .rest))
+  activates i kind v = does (decide e i Auto (v .rest)) _ v refl (decides i (v .rest))
 
   resumes : (c : Pending) (v : Volatile) → SameIn v ((resume e c v) .vol)
   unfolding resume
-  resumes c v = finishes _ _ _ ∙ (runs e _ (c .budget) (c .point) _ ∙ bumped 10 1 (v .rest))
+  resumes c v = finishes _ _ _ ∙ (runs e _ (c .budget) (c .point) _ ∙ bumped continuationsFired 1 (v .rest))
 
   -- THE PARTS OF A TICK -----------------------------------------------------------------------------------------------------------
   resumes-all : (cs : List Pending) (v : Volatile) → SameIn v ((resumeAll e cs v) .vol)

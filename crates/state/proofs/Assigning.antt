@@ -104,25 +104,25 @@ module _ (next stored : ℕ) (t₀ : List ℕ) (start : Counted 32 pendingRow t�
     pub numbers-long : length t ≡ wordsIn pendingPart
     numbers-long = holds-long pendingRow pending-laws 32 t (get t) (v .counted)
 
-    module _ (offset : ℕ) (from : stored ≤ i) (less : i < n) (e : offset ≡ rowAt wide t (1 + i * 14)) where
+    module _ (offset : ℕ) (from : stored ≤ i) (less : i < n) (e : offset ≡ rowAt wide t (1 + i * 13)) where
       abbrev old : Pending
-      old = getD (get t) i (rowAt pendingRow t (1 + i * 14))
+      old = getD (get t) i (rowAt pendingRow t (1 + i * 13))
 
       within : i < length (get t)
       within = rw numbers-length less
 
       offset-is : offset ≡ old .seq
       unfolding rowAt
-      offset-is = e ∙ ap (λ (p : Pending). p .seq) (row-read pendingRow pending-laws 32 t (get t) i (rowAt pendingRow t (1 + i * 14)) (v .counted) within)
+      offset-is = e ∙ ap (λ (p : Pending). p .seq) (row-read pendingRow pending-laws 32 t (get t) i (rowAt pendingRow t (1 + i * 13)) (v .counted) within)
 
       pub offset-small : (accepted : ℕ) → Below accepted (drop stored (get t₀)) → offset < accepted
       offset-small accepted b =
           let long = v .numbering .long in
-          rw offset-is (offset-below next stored (get t₀) (get t) i (rowAt pendingRow t (1 + i * 14)) (v .numbering) accepted b from (rw long at within))
+          rw offset-is (offset-below next stored (get t₀) (get t) i (rowAt pendingRow t (1 + i * 13)) (v .numbering) accepted b from (rw long at within))
 
-      pub numbers-more : (t₁ : List ℕ) → t₁ ≡ laid t (1 + i * 14) (wide .put (next + offset)) → Words t₁ → Numbers next stored t₀ t₁ (i + 1)
+      pub numbers-more : (t₁ : List ℕ) → t₁ ≡ laid t (1 + i * 13) (wide .put (next + offset)) → Words t₁ → Numbers next stored t₀ t₁ (i + 1)
       numbers-more t₁ b words =
-          let k : ℕ = 1 + i * 14 in
+          let k : ℕ = 1 + i * 13 in
           let x : Pending = offsetFrom next old in
           let room = holds-few pendingRow pending-laws 32 t (get t) (v .counted) in
           let below : k ≤ length t = omega (arith, numbers-long, numbers-length) in

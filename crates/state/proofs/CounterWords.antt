@@ -1,4 +1,4 @@
--- The 13 counters, and the minute of the week at the tick before. Assumes nothing.
+-- The 12 counters, and the minute of the week at the tick before. Assumes nothing.
 use mathlib.Core.Path.{_≡_, refl, sym, ap, subst, _∙_}
 use mathlib.Core.Bool.{true, not, or-true}
 use mathlib.Core.List.{List, [], _∷_, _++_}
@@ -46,35 +46,33 @@ module _ (w : List ℕ) where
       → c .«suppressed_disabled» ≡ rowAt any w (k + 3)
       → c .«conditions_rejected» ≡ rowAt any w (k + 4)
       → c .«partial_outcomes» ≡ rowAt any w (k + 5)
-      → c .«chain_depth_exceeded» ≡ rowAt any w (k + 6)
-      → c .«effects_emitted» ≡ rowAt any w (k + 7)
-      → c .«actions_failed» ≡ rowAt any w (k + 8)
-      → c .«continuations_scheduled» ≡ rowAt any w (k + 9)
-      → c .«continuations_fired» ≡ rowAt any w (k + 10)
-      → c .«continuations_dropped» ≡ rowAt any w (k + 11)
-      → c .«ticks_time_unsynced» ≡ rowAt any w (k + 12)
-      → countersOf c ≡ tableAt any 13 w k
+      → c .«effects_emitted» ≡ rowAt any w (k + 6)
+      → c .«actions_failed» ≡ rowAt any w (k + 7)
+      → c .«continuations_scheduled» ≡ rowAt any w (k + 8)
+      → c .«continuations_fired» ≡ rowAt any w (k + 9)
+      → c .«continuations_dropped» ≡ rowAt any w (k + 10)
+      → c .«ticks_time_unsynced» ≡ rowAt any w (k + 11)
+      → countersOf c ≡ tableAt any 12 w k
   unfolding countersOf
-  counters-are k c e₀ e₁ e₂ e₃ e₄ e₅ e₆ e₇ e₈ e₉ e₁₀ e₁₁ e₁₂ =
-      table-cons 12 k (k + 1) _ _ refl e₀
-      (table-cons 11 (k + 1) (k + 2) _ _ (omega arith) e₁
-      (table-cons 10 (k + 2) (k + 3) _ _ (omega arith) e₂
-      (table-cons 9 (k + 3) (k + 4) _ _ (omega arith) e₃
-      (table-cons 8 (k + 4) (k + 5) _ _ (omega arith) e₄
-      (table-cons 7 (k + 5) (k + 6) _ _ (omega arith) e₅
-      (table-cons 6 (k + 6) (k + 7) _ _ (omega arith) e₆
-      (table-cons 5 (k + 7) (k + 8) _ _ (omega arith) e₇
-      (table-cons 4 (k + 8) (k + 9) _ _ (omega arith) e₈
-      (table-cons 3 (k + 9) (k + 10) _ _ (omega arith) e₉
-      (table-cons 2 (k + 10) (k + 11) _ _ (omega arith) e₁₀
-      (table-cons 1 (k + 11) (k + 12) _ _ (omega arith) e₁₁
-      (table-cons 0 (k + 12) (k + 13) _ _ (omega arith) e₁₂ (table-nil (k + 13))))))))))))))
+  counters-are k c e₀ e₁ e₂ e₃ e₄ e₅ e₆ e₇ e₈ e₉ e₁₀ e₁₁ =
+      table-cons 11 k (k + 1) _ _ refl e₀
+      (table-cons 10 (k + 1) (k + 2) _ _ (omega arith) e₁
+      (table-cons 9 (k + 2) (k + 3) _ _ (omega arith) e₂
+      (table-cons 8 (k + 3) (k + 4) _ _ (omega arith) e₃
+      (table-cons 7 (k + 4) (k + 5) _ _ (omega arith) e₄
+      (table-cons 6 (k + 5) (k + 6) _ _ (omega arith) e₅
+      (table-cons 5 (k + 6) (k + 7) _ _ (omega arith) e₆
+      (table-cons 4 (k + 7) (k + 8) _ _ (omega arith) e₇
+      (table-cons 3 (k + 8) (k + 9) _ _ (omega arith) e₈
+      (table-cons 2 (k + 9) (k + 10) _ _ (omega arith) e₉
+      (table-cons 1 (k + 10) (k + 11) _ _ (omega arith) e₁₀
+      (table-cons 0 (k + 11) (k + 12) _ _ (omega arith) e₁₁ (table-nil (k + 12)))))))))))))
 
--- all 13 are written
-pub counters-put : (w w₁ : List ℕ) (k i : ℕ) (c : Counters) → i ≤ 13 → 13 ≤ i → w₁ ≡ laid w k (wordsOf any (take i (countersOf c))) → w₁ ≡ laid w k (wordsOf any (countersOf c))
+-- all 12 are written
+pub counters-put : (w w₁ : List ℕ) (k i : ℕ) (c : Counters) → i ≤ 12 → 12 ≤ i → w₁ ≡ laid w k (wordsOf any (take i (countersOf c))) → w₁ ≡ laid w k (wordsOf any (countersOf c))
 unfolding countersOf
 counters-put w w₁ k i c h l e =
-    let q : i ≡ 13 = omega arith in
+    let q : i ≡ 12 = omega arith in
     rw q at e
 
 -- ONE COUNTER GOES UP -------------------------------------------------------------------------------------------------------------------------
@@ -99,16 +97,16 @@ word-fits m (suc n) (y ∷ w) (suc i) x e h =
     let b = both (rowFits (upTo m ∷ []) (y ∷ w)) (rowsFit n (upTo m ∷ []) w) e in
     join (b .0) (word-fits m n w i x (b .1) h)
 
-pub bumped : (w w′ c d : List ℕ) (which by : ℕ) → Sound w → c ≡ tableAt any 13 w (placeOf countersPart) → d ≡ raisedAt which by c → w′ ≡ laid w (placeOf countersPart) (wordsOf any d)
+pub bumped : (w w′ c d : List ℕ) (which by : ℕ) → Sound w → c ≡ tableAt any 12 w (placeOf countersPart) → d ≡ raisedAt which by c → w′ ≡ laid w (placeOf countersPart) (wordsOf any d)
     → Means w′ (base w) (withRest (bumpBy which by (meaning w .rest)) (meaning w))
 unfolding meaning bumpBy tableAt
 bumped w w′ c d which by s e f b =
     let p : List ℕ = part countersPart w in
     let long = part-long countersPart (omega arith) w (s .long) in
-    let is : c ≡ p = e ∙ words-at 13 (drop (placeOf countersPart) w) (rw (length-drop (placeOf countersPart) w) (omega (arith, s .long))) ∙ sym (part-is countersPart (omega arith) w) in
+    let is : c ≡ p = e ∙ words-at 12 (drop (placeOf countersPart) w) (rw (length-drop (placeOf countersPart) w) (omega (arith, s .long))) ∙ sym (part-is countersPart (omega arith) w) in
     let raised : d ≡ raisedAt which by p = f ∙ ap (raisedAt which by) is in
-    let fit = word-fits 4294967295 13 p which (saturatingAdd max32 (getD p which 0) by) (s .parts .fit countersPart (omega arith)) (add-at-most max32 (getD p which 0) by) in
-    let k : length (raisedAt which by p) ≡ 13 = length-set p which (saturatingAdd max32 (getD p which 0) by) ∙ long in
+    let fit = word-fits 4294967295 12 p which (saturatingAdd max32 (getD p which 0) by) (s .parts .fit countersPart (omega arith)) (add-at-most max32 (getD p which 0) by) in
+    let k : length (raisedAt which by p) ≡ 12 = length-set p which (saturatingAdd max32 (getD p which 0) by) ∙ long in
     let q : w′ ≡ laid w (placeOf countersPart) (raisedAt which by p) = b ∙ ap (laid w (placeOf countersPart)) (any-words d ∙ raised) in
     counters-changed w w′ (raisedAt which by p) s (rw q (changed-laid countersPart (omega arith) w (raisedAt which by p) (shaped w s) k fit))
 

@@ -43,7 +43,7 @@ use Rattle.state.proofs.Follows.{follows, next-is}
 
 pub pending-laws : RowLaws pendingRow
 pending-laws =
-    as-row-laws pendingIs (⊗-laws wide-laws (⊗-laws wide-laws (⊗-laws any-laws (⊗-laws any-laws (⊗-laws any-laws (⊗-laws jump-laws (⊗-laws any-laws (⊗-laws any-laws (pad-laws 2)))))))))
+    as-row-laws pendingIs (⊗-laws wide-laws (⊗-laws wide-laws (⊗-laws any-laws (⊗-laws any-laws (⊗-laws any-laws (⊗-laws jump-laws (⊗-laws any-laws (⊗-laws any-laws (pad-laws 1)))))))))
 
 unfoldable pub records : List ℕ → List Pending
 records w = recordsIn (cut partSizes w)
@@ -62,10 +62,10 @@ module _ (w : List ℕ) (s : Sound w) where
   pub records-hold : Holds 32 pendingRow lent (records w)
   records-hold = rw records-are at records-lent
 
-  pub records-fit : Fits 14 lent
+  pub records-fit : Fits 13 lent
   records-fit = holds-fits pendingRow pending-laws 32 _ _ records-hold (omega arith) (omega arith) (omega arith)
 
-  pub records-table : Table 14 lent
+  pub records-table : Table 13 lent
   records-table = holds-table pendingRow pending-laws 32 _ _ records-hold (omega arith) (omega arith) (omega arith)
 
   lent-count : getD lent 0 0 ≡ getD w (placeOf pendingPart) 0
@@ -227,7 +227,7 @@ module _ (w : List ℕ) (s : Sound w) (test : Test) where
   abbrev st : ℕ
   st = storedIn (cut partSizes w)
 
-  front-is : length (keep (passes test) (take (getD w (placeOf storedPart) 0) (rowsIn 14 mine))) ≡ length (keep (keptBy test) (take st (records w)))
+  front-is : length (keep (passes test) (take (getD w (placeOf storedPart) 0) (rowsIn 13 mine))) ≡ length (keep (keptBy test) (take st (records w)))
   front-is =
       let h = holds-rows pendingRow pending-laws 32 _ _ (records-hold w s) in
       ap (λ (x : List (List ℕ)). length (keep (passes test) (take (getD w (placeOf storedPart) 0) x))) h
@@ -236,15 +236,15 @@ module _ (w : List ℕ) (s : Sound w) (test : Test) where
       ∙ ap length (keep-rows pendingRow pending-laws 32 (passes test) (keptBy test) (λ a. refl) (take st (records w)))
       ∙ simp length-map
 
-  pub front-small : (front : ℕ) → front ≡ length (keep (passes test) (take (getD w (placeOf storedPart) 0) (rowsIn 14 mine))) → front ≤ 32
+  pub front-small : (front : ℕ) → front ≡ length (keep (passes test) (take (getD w (placeOf storedPart) 0) (rowsIn 13 mine))) → front ≤ 32
   front-small front e =
       let k = few-keep pendingRow pending-laws 32 (passes test) (keptBy test) (λ a. refl) (take st (records w)) in
       let t : length (take st (records w)) ≤ length (records w) = simp length-take (omega arith) in
       omega (arith, e ∙ front-is, k, holds-few pendingRow pending-laws 32 _ _ (records-hold w s))
 
   module _ (past : pastNumber test) where
-    closes : (p w₁ w₂ : List ℕ) (front : ℕ) → p ≡ tableOf (length mine - 1) (keep (passes test) (rowsIn 14 mine))
-        → front ≡ length (keep (passes test) (take (getD w (placeOf storedPart) 0) (rowsIn 14 mine))) → w₁ ≡ putMid (placeOf pendingPart) (wordsIn pendingPart) w p → w₂ ≡ set w₁ (placeOf storedPart) front
+    closes : (p w₁ w₂ : List ℕ) (front : ℕ) → p ≡ tableOf (length mine - 1) (keep (passes test) (rowsIn 13 mine))
+        → front ≡ length (keep (passes test) (take (getD w (placeOf storedPart) 0) (rowsIn 13 mine))) → w₁ ≡ putMid (placeOf pendingPart) (wordsIn pendingPart) w p → w₂ ≡ set w₁ (placeOf storedPart) front
         → Means w₂ (base w) (closedUp test (meaning w))
     unfolding cut meaning base records
     closes p w₁ w₂ front e f e₁ e₂ =
@@ -272,7 +272,7 @@ module _ (w : List ℕ) (s : Sound w) (test : Test) where
         }
 
     -- how many are left
-    left-count : (left : ℕ) → left ≡ length (keep (passes test) (rowsIn 14 mine)) → left ≡ length (keep (keptBy test) (meaning w .pending))
+    left-count : (left : ℕ) → left ≡ length (keep (passes test) (rowsIn 13 mine)) → left ≡ length (keep (keptBy test) (meaning w .pending))
     unfolding meaning base records
     left-count left e =
         let l : List Pending = recordsIn (cut partSizes w) in
@@ -281,11 +281,11 @@ module _ (w : List ℕ) (s : Sound w) (test : Test) where
         ∙ (let m : length (map (pendingRow .put) (keep (keptBy test) l)) ≡ length (keep (keptBy test) l) = simp length-map in m)
         ∙ sym (ap length (keep-numbered (base w) (keptBy test) (ignores test past (base w)) st l) ∙ numbered-length (base w) _ (keep (keptBy test) l))
 
-    pub left-few : (left : ℕ) → left ≡ length (keep (passes test) (rowsIn 14 mine)) → left ≤ getD w (placeOf pendingPart) 0
+    pub left-few : (left : ℕ) → left ≡ length (keep (passes test) (rowsIn 13 mine)) → left ≤ getD w (placeOf pendingPart) 0
     left-few left e = omega (arith, left-count left e, few-keep pendingRow pending-laws 32 (passes test) (keptBy test) (λ a. refl) (meaning w .pending), pending-length w s)
 
-    pub closes-up : (p w₁ w₂ : List ℕ) (front left : ℕ) → p ≡ tableOf (length mine - 1) (keep (passes test) (rowsIn 14 mine))
-        → front ≡ length (keep (passes test) (take (getD w (placeOf storedPart) 0) (rowsIn 14 mine))) → left ≡ length (keep (passes test) (rowsIn 14 mine))
+    pub closes-up : (p w₁ w₂ : List ℕ) (front left : ℕ) → p ≡ tableOf (length mine - 1) (keep (passes test) (rowsIn 13 mine))
+        → front ≡ length (keep (passes test) (take (getD w (placeOf storedPart) 0) (rowsIn 13 mine))) → left ≡ length (keep (passes test) (rowsIn 13 mine))
         → w₁ ≡ putMid (placeOf pendingPart) (wordsIn pendingPart) w p → w₂ ≡ set w₁ (placeOf storedPart) front → ClosesUp test w w₂ (getD w (placeOf pendingPart) 0 - left)
     closes-up p w₁ w₂ front left e f g e₁ e₂ = (closes p w₁ w₂ front e f e₁ e₂, omega (arith, left-count left g, left-few left g, pending-length w s))
 
@@ -339,7 +339,7 @@ all-dropped w w₁ w₂ n s e m₁ m₂ =
 rows-same : (n : ℕ) (w : List ℕ) → rowsAt parts.pendingRow n w ≡ rowsAt pendingRow n w
 unfolding rowsAt
 rows-same zero w = refl
-rows-same (suc n) w = ap (λ (l : List Pending). pendingRow .get w ∷ l) (rows-same n (drop 14 w))
+rows-same (suc n) w = ap (λ (l : List Pending). pendingRow .get w ∷ l) (rows-same n (drop 13 w))
 
 pub records-due : (w : List ℕ) → Sound w → storedCount w ≡ pendingCount w → (n time : ℕ) (l due : List Pending) → n ≡ getD w (placeOf pendingPart) 0
     → take n l ≡ tableAt parts.pendingRow n w (placeOf pendingPart + 1) → due ≡ dueNow time (take n l) → due ≡ dueNow time (meaning w .pending)

@@ -20,7 +20,7 @@ use Rattle.state.specs.Cuts.{cut, sum}
 -- the row of a pending record, whatever the word of its trigger: inside a call the words of triggers, cycle positions and the week minute may
 -- be any; what a call gives back is in range again, by the rules of the store
 abbrev pub pendingRow : Row Pending
-pendingRow = as-row pendingIs (wide ⊗ (wide ⊗ (any ⊗ (any ⊗ (any ⊗ (jumpRow ⊗ (any ⊗ (any ⊗ pad 2))))))))
+pendingRow = as-row pendingIs (wide ⊗ (wide ⊗ (any ⊗ (any ⊗ (any ⊗ (jumpRow ⊗ (any ⊗ (any ⊗ pad 1))))))))
 
 abbrev pub stateParts : List Part
 stateParts =
@@ -33,7 +33,7 @@ stateParts =
     ∷ counted 32 (pendingRow .cells)
     ∷ fixed 1 ((maybe any) .cells)
     ∷ fixed 1 (wide .cells)
-    ∷ fixed 13 (any .cells)
+    ∷ fixed 12 (any .cells)
     ∷ fixed 1 (upTo 32 ∷ [])
     ∷ fixed 1 (wide .cells)
     ∷ fixed 1 (upTo 64 ∷ [])

@@ -54,7 +54,7 @@ pub struct SlotList {
 
 fn counters_at(s: &[u32], k: usize) -> Counters
     requires { ⌜ k ≤ 16384 ⌝ }
-    ensures { λ r. ⌜ countersOf r ≡ tableAt any 13 (now (s .entry)) k ⌝ }
+    ensures { λ r. ⌜ countersOf r ≡ tableAt any 12 (now (s .entry)) k ⌝ }
 {
     Counters {
         activations_total: rows::read::word_at(s, k),
@@ -63,18 +63,17 @@ fn counters_at(s: &[u32], k: usize) -> Counters
         suppressed_disabled: rows::read::word_at(s, k + 3),
         conditions_rejected: rows::read::word_at(s, k + 4),
         partial_outcomes: rows::read::word_at(s, k + 5),
-        chain_depth_exceeded: rows::read::word_at(s, k + 6),
-        effects_emitted: rows::read::word_at(s, k + 7),
-        actions_failed: rows::read::word_at(s, k + 8),
-        continuations_scheduled: rows::read::word_at(s, k + 9),
-        continuations_fired: rows::read::word_at(s, k + 10),
-        continuations_dropped: rows::read::word_at(s, k + 11),
-        ticks_time_unsynced: rows::read::word_at(s, k + 12),
+        effects_emitted: rows::read::word_at(s, k + 6),
+        actions_failed: rows::read::word_at(s, k + 7),
+        continuations_scheduled: rows::read::word_at(s, k + 8),
+        continuations_fired: rows::read::word_at(s, k + 9),
+        continuations_dropped: rows::read::word_at(s, k + 10),
+        ticks_time_unsynced: rows::read::word_at(s, k + 11),
     }
 }
 
 fn put_counters(s: &mut [u32], k: usize, c: Counters)
-    requires { ⌜ k + 13 ≤ length (now s) ⌝ }
+    requires { ⌜ k + 12 ≤ length (now s) ⌝ }
     ensures { λ _. ⌜ now (s .exit) ≡ laid (now (s .entry)) k (wordsOf any (countersOf c)) ⌝ }
 {
     let values = [
@@ -84,7 +83,6 @@ fn put_counters(s: &mut [u32], k: usize, c: Counters)
         c.suppressed_disabled,
         c.conditions_rejected,
         c.partial_outcomes,
-        c.chain_depth_exceeded,
         c.effects_emitted,
         c.actions_failed,
         c.continuations_scheduled,
@@ -93,13 +91,13 @@ fn put_counters(s: &mut [u32], k: usize, c: Counters)
         c.ticks_time_unsynced,
     ];
     let mut i = 0;
-    while i < 13 {
+    while i < 12 {
         rows::put::put_word(s, k + i, values[i]);
         i += 1;
     }
 }
 
-// The counter at place `which` goes up by `by`: the 13 words are read into the record, which is lent, and written back.
+// The counter at place `which` goes up by `by`: the 12 words are read into the record, which is lent, and written back.
 pub fn bump(v: &mut [u32], which: u32, by: u32)
     requires { ⌜ Sound (now v) ⌝ }
     ensures { λ _. ⌜ Means (now (v .exit)) (base (now (v .entry))) (withRest (bumpBy which by (meaning (now (v .entry)) .rest)) (meaning (now (v .entry)))) ⌝ }

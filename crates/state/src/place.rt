@@ -19,7 +19,7 @@ pub const MAX_SLOTS: usize = 64;
 
 pub const MAX_PENDING: usize = 32;
 
-pub const COUNTER_WORDS: usize = 13;
+pub const COUNTER_WORDS: usize = 12;
 
 pub const BITS: usize = 0;
 

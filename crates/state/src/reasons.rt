@@ -2,5 +2,3 @@
 pub const CONDITION_UNEVALUABLE: u32 = 1;
 
 pub const EFFECT_BUDGET: u32 = 2;
-
-pub const CHAIN_DEPTH: u32 = 3;

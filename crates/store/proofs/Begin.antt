@@ -95,7 +95,7 @@ pub record Good (m : Changing) : Type 0 where
   pub pending : most 32 pendingRow .good (m .pending) ≡ true
   pub week : (maybe any) .good (m .prevWeekMin) ≡ true
   pub next : wide .good (m .next) ≡ true
-  pub countersLong : length (m .counters) ≡ 13
+  pub countersLong : length (m .counters) ≡ 12
   pub counters : allGood any (m .counters) ≡ true
 
 pub good-of : (m : Changing) → changingPart .good m ≡ true → Good m
@@ -109,11 +109,11 @@ good-of m g =
     let (s, g₆) = both (most 64 slotRow .good (m .slots)) _ g₅ in
     let (c, g₇) = both (most 32 parts.pendingRow .good (m .pending)) _ g₆ in
     let (w, g₈) = both ((maybe (word 10079)) .good (m .prevWeekMin)) _ g₇ in
-    let (n, k) = both (wide .good (m .next)) (all 13 any .good (m .counters)) g₈ in
+    let (n, k) = both (wide .good (m .next)) (all 12 any .good (m .counters)) g₈ in
     let (bl, bg) = both (eqb (length (m .bits)) 64) (allGood bit (m .bits)) b in
     let (al, ag) = both (eqb (length (m .activations)) 64) (allGood (maybe wide) (m .activations)) a in
     let (pl, pg) = both (eqb (length (m .positions)) 64) (allGood (maybe (word 15)) (m .positions)) p in
-    let (kl, kg) = both (eqb (length (m .counters)) 13) (allGood any (m .counters)) k in
+    let (kl, kg) = both (eqb (length (m .counters)) 12) (allGood any (m .counters)) k in
     record {
       bitsLong = eqb-true _ _ bl;
       bits = bg;
@@ -163,7 +163,7 @@ module _ (m : Changing) (g : Good m) (n : ℕ) (h : n ≤ 64) where
       let s = holds-long slotRow slot-laws 64 _ (m .slots) (record { words = refl; good = g .slots }) in
       let p = holds-long pendingRow pending-laws 32 _ (m .pending) (record { words = refl; good = g .pending }) in
       let w = positions-laws .long (m .prevWeekMin) in
-      let k = rows-words any any-laws (m .counters) 13 (g .countersLong) in
+      let k = rows-words any any-laws (m .counters) 12 (g .countersLong) in
       λ i. a i ∷ b i ∷ c i ∷ v i ∷ t i ∷ s i ∷ p i ∷ w i ∷ 2 ∷ k i ∷ 1 ∷ 2 ∷ 1 ∷ []
 
   pub pieces-long : length (flatten (pieces n m)) ≡ stateWords
@@ -191,7 +191,7 @@ module _ (m : Changing) (g : Good m) (n : ℕ) (h : n ≤ 64) where
       few : length (m .pending) ≤ 32
       few = leb-true _ _ (both (leb (length (m .pending)) 32) (allGood pendingRow (m .pending)) (g .pending) .0)
 
-      counters-fit : rowsFit 13 (any .cells) (wordsOf any (m .counters)) ≡ true
+      counters-fit : rowsFit 12 (any .cells) (wordsOf any (m .counters)) ≡ true
       counters-fit =
           ap (λ (k : ℕ). rowsFit k (any .cells) (wordsOf any (m .counters))) (sym (g .countersLong))
           ∙ (rw append-nil at (rows-reads any any-laws (m .counters) [] (g .counters) .1))

@@ -71,13 +71,13 @@ module _ (w : List ℕ) (r : Readable w) where
   good = good-of m (good-changing w (r .fit))
 
   -- the words of what calls change
-  words-at : drop statePlace w ≡ changingPart .put m ++ (replicate 2678 0 ++ drop (sizes (layout .parts)) w)
+  words-at : drop statePlace w ≡ changingPart .put m ++ (replicate 2711 0 ++ drop (sizes (layout .parts)) w)
   unfolding layout changingIn
   words-at =
       let p = layout .get w in
       let l = loadedPart .put (p .set) in
       let c = changingPart .put (p .changing) in
-      let z : List ℕ = replicate 2678 0 in
+      let z : List ℕ = replicate 2711 0 in
       let e = drop (sizes (layout .parts)) w in
       let a : drop 2 w ≡ (l ++ (c ++ z)) ++ e = ap (drop 2) (sym (layout-laws .writes w (r .fit) .0)) in
       let long = loaded-laws .long (p .set) (unfold loadedIn in good-loaded w (r .fit)) ∙ loaded-size in
@@ -95,7 +95,7 @@ module _ (w : List ℕ) (r : Readable w) where
   positions = wordsOf (maybe (word 15)) (m .positions)
 
   abbrev behind-all : List ℕ
-  behind-all = replicate 2678 0 ++ drop (sizes (layout .parts)) w
+  behind-all = replicate 2711 0 ++ drop (sizes (layout .parts)) w
 
   groups-at : drop statePlace w ≡ (bits ++ (activations ++ (positions ++ others m))) ++ behind-all
   unfolding changingPart

@@ -40,7 +40,7 @@ module _ (e : Env) (kind i : ℕ) (v : Volatile) {on : Bool} (is : on ≡ isEnab
   unfolding activateIfEnabled
   is-off h = rw (← is, not-true on h)
 
-  pub is-on : not on ≡ false → activateIfEnabled e kind i v ≡ model.activate e i kind 0 model.Auto v
+  pub is-on : not on ≡ false → activateIfEnabled e kind i v ≡ model.activate e i kind model.Auto v
   unfolding activateIfEnabled
   is-on h = rw (← is, not-false on h)
 

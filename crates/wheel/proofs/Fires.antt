@@ -33,7 +33,7 @@ same-state s s′ = s′ .long ∙ sym (s .long)
 
 -- ONE RULE ----------------------------------------------------------------------------------------------------------------------------------
 module _ (snapshot image part : List ℕ) (own i : ℕ) (x : Carried) (ow ew : List ℕ) (r : Carried) (ow′ ew′ : List ℕ) (s : Says part own (getD (setOf image (flattenRules image) .flat) i [])) where
-  pub activated : (kind : ℕ) → Activates snapshot image part own i kind 0 Auto x ow ew r ow′ ew′ → Fires 1 (model.activate (tickEnv snapshot image) i kind 0 model.Auto) x ow ew r ow′ ew′
+  pub activated : (kind : ℕ) → Activates snapshot image part own i kind Auto x ow ew r ow′ ew′ → Fires 1 (model.activate (tickEnv snapshot image) i kind model.Auto) x ow ew r ow′ ew′
   unfolding tickEnv setOf
   activated kind a = record { says = a .says (setOf image (flattenRules image) .flat) s; within = a .within }
 

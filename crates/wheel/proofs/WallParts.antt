@@ -52,7 +52,7 @@ module _ (kind : OptionU32) (e : Env) (i : ℕ) (v : model-state.Volatile) where
   pub not-due : not (kind .present) ≡ true → startWall (option32 kind) e i v ≡ noOutcome v
   not-due h = rw (not-true (kind .present) h)
 
-  pub is-due : not (kind .present) ≡ false → startWall (option32 kind) e i v ≡ model.activate e i (kind .value) 0 model.Auto v
+  pub is-due : not (kind .present) ≡ false → startWall (option32 kind) e i v ≡ model.activate e i (kind .value) model.Auto v
   is-due h = rw (not-false (kind .present) h)
 
 -- ---- a rule's turn

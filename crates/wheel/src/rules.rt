@@ -27,7 +27,7 @@ pub fn activate_rule(
 ) -> Handled
     requires { ⌜ Holds (now store) (now image) × (i < sizeOf (now image) rules) ⌝ }
     requires { ⌜ Room 1 (carried (now v) x) ⌝ }
-    ensures { λ r. ⌜ Fires 1 (model.activate (tickEnv (now (snapshot .entry)) (now (image .entry))) i kind 0 model.Auto) (carried (now (v .entry)) x) (now (outcomes .entry)) (now (effects .entry)) (carried (now (v .exit)) r) (now (outcomes .exit)) (now (effects .exit)) ⌝ }
+    ensures { λ r. ⌜ Fires 1 (model.activate (tickEnv (now (snapshot .entry)) (now (image .entry))) i kind model.Auto) (carried (now (v .entry)) x) (now (outcomes .entry)) (now (effects .entry)) (carried (now (v .exit)) r) (now (outcomes .exit)) (now (effects .exit)) ⌝ }
 {
     let part = rule_steps(store, i);
     let own = rule_own(store, i);
@@ -42,7 +42,6 @@ pub fn activate_rule(
         x,
         i,
         kind,
-        0,
         Mode::Auto,
     )
 }

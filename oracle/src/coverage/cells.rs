@@ -68,7 +68,7 @@ pub(super) const PARTS: [Part; 14] = [
     Part {
         name: "trigger",
         rows: &["HttpTrigger", "TimerFires", "Every", "AtTime", "AtSolar"],
-        columns: &["reason 0", "reason 1", "reason 2", "reason 3"],
+        columns: &["reason 0", "reason 1", "reason 2"],
     },
     Part {
         name: "cause of Fail",
@@ -88,7 +88,7 @@ pub(super) const PARTS: [Part; 14] = [
         name: "counter",
         rows: &[
             "activations_total", "activations_dry", "suppressed_cooldown", "suppressed_disabled",
-            "conditions_rejected", "partial_outcomes", "chain_depth_exceeded", "effects_emitted",
+            "conditions_rejected", "partial_outcomes", "effects_emitted",
             "actions_failed", "continuations_scheduled", "continuations_fired",
             "continuations_dropped", "ticks_time_unsynced", "pending", "timers", "rules",
             "variables",
@@ -207,8 +207,6 @@ pub(super) const UNREACHABLE: &[(usize, &str, &str, &str)] = &[
     (READINGS, "EventOption", "value", "ticks and runs carry no event"),
     (VALUES, "literal", "unevaluable", "a literal is a value"),
     (VALUES, "clock bound", "unevaluable", "a clock bound is a minute"),
-    (TRIGGERS, "*", "reason 3", "chain depth is 0 for ticks and runs"),
-    (COUNTERS, "chain_depth_exceeded", "moved", "chain depth is 0 for ticks and runs"),
     (SET_BACKS, "0 minutes", "sun missed", "no minute has passed"),
     (SET_BACKS, "0 minutes", "wall start", "no minute has passed"),
     (SET_BACKS, "1 minute", "sun missed", "a clock set back counts nothing"),

@@ -8,12 +8,12 @@ use super::Coverage;
 use crate::generate::probe::{Probe, Shows};
 use crate::house::{Answer, Call, House, Outcome};
 
-const DROPPED: usize = 11;
-const FIRED: usize = 10;
-const PENDING: usize = 13;
-const TIMERS: usize = 14;
-const RULES: usize = 15;
-const VARIABLES: usize = 16;
+const DROPPED: usize = 10;
+const FIRED: usize = 9;
+const PENDING: usize = 12;
+const TIMERS: usize = 13;
+const RULES: usize = 14;
+const VARIABLES: usize = 15;
 const LOG: u32 = 11;
 const MINUTES_BACK: u32 = 5_040;
 
@@ -117,7 +117,7 @@ fn has_wall(call: &Call) -> bool {
 /// Follows a history from call to call.
 #[derive(Default)]
 pub(super) struct Watcher {
-    counters: [u32; 17],
+    counters: [u32; 16],
     loaded: bool,
     time: u64,
     week_minute: Option<u32>,
@@ -179,7 +179,7 @@ impl Watcher {
         self.week_minute = Some(week_minute);
     }
 
-    fn moved(&mut self, coverage: &mut Coverage, call: &Call, answer: &Answer, now: &[u32; 17]) {
+    fn moved(&mut self, coverage: &mut Coverage, call: &Call, answer: &Answer, now: &[u32; 16]) {
         for (row, (before, after)) in self.counters.iter().zip(now).enumerate() {
             if before < after {
                 coverage.count(COUNTERS, row, 0);
@@ -207,7 +207,7 @@ impl Watcher {
         }
     }
 
-    fn ticked(&self, coverage: &mut Coverage, list: &[Outcome], now: &[u32; 17]) {
+    fn ticked(&self, coverage: &mut Coverage, list: &[Outcome], now: &[u32; 16]) {
         if !self.loaded {
             event(coverage, "tick without a set");
         }
@@ -226,7 +226,7 @@ impl Watcher {
         dropped_at_32(coverage, list, now, &self.counters);
     }
 
-    fn ran(&self, coverage: &mut Coverage, list: &[Outcome], now: &[u32; 17]) {
+    fn ran(&self, coverage: &mut Coverage, list: &[Outcome], now: &[u32; 16]) {
         if list.is_empty() {
             event(coverage, "run without outcome");
         }
@@ -241,7 +241,7 @@ fn event(coverage: &mut Coverage, name: &str) {
     coverage.count_named(EVENTS, name, 0);
 }
 
-fn full(coverage: &mut Coverage, now: &[u32; 17]) {
+fn full(coverage: &mut Coverage, now: &[u32; 16]) {
     for (place, most, name) in [
         (PENDING, 32, "32 pending"),
         (TIMERS, 16, "16 timers"),
@@ -253,7 +253,7 @@ fn full(coverage: &mut Coverage, now: &[u32; 17]) {
     }
 }
 
-fn dropped_at_32(coverage: &mut Coverage, list: &[Outcome], now: &[u32; 17], before: &[u32; 17]) {
+fn dropped_at_32(coverage: &mut Coverage, list: &[Outcome], now: &[u32; 16], before: &[u32; 16]) {
     let dropped = now[DROPPED] > before[DROPPED];
     if dropped && now[PENDING] == 32 && list.iter().any(|outcome| outcome.reason == 2) {
         event(coverage, "wait or after dropped, 32 pending");

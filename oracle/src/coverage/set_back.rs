@@ -4,20 +4,20 @@ use super::cells::SET_BACKS;
 use super::Coverage;
 use crate::house::{Answer, Call, House};
 
-const FIRED: usize = 10;
-const UNSYNCED: usize = 12;
+const FIRED: usize = 9;
+const UNSYNCED: usize = 11;
 const AT_TIME: u32 = 3;
 
 /// What is known before a call.
 pub(super) struct Clock {
     behind: Option<u32>,
-    counters: [u32; 17],
+    counters: [u32; 16],
 }
 
-fn counters(house: &mut House) -> [u32; 17] {
+fn counters(house: &mut House) -> [u32; 16] {
     match house.call(&Call::Counters) {
         Answer::Counters(counters) => counters,
-        _ => [0; 17],
+        _ => [0; 16],
     }
 }
 

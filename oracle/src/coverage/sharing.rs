@@ -5,17 +5,17 @@ use super::Coverage;
 use crate::check;
 use crate::house::{Answer, Call, House};
 
-const SCHEDULED: usize = 9;
-const FIRED: usize = 10;
-const DROPPED: usize = 11;
-const PENDING: usize = 13;
+const SCHEDULED: usize = 8;
+const FIRED: usize = 9;
+const DROPPED: usize = 10;
+const PENDING: usize = 12;
 const MOST_PENDING: u32 = 32;
 
 #[derive(Default)]
 pub(super) struct Watcher {
     /// Whether the loaded set is one of these.
     shared: bool,
-    counters: [u32; 17],
+    counters: [u32; 16],
 }
 
 impl Watcher {

@@ -19,8 +19,8 @@ const STORE_WORDS: u32 = 16_384;
 const OUTCOME_WORDS: u32 = 6 * 4_096;
 const EFFECT_WORDS: u32 = 5 * 65_536;
 /// Places of the next sequence number in the store (docs/STORE.md).
-const NEXT_LOW: u32 = 13_691;
-const NEXT_HIGH: u32 = 13_692;
+const NEXT_LOW: u32 = 13_659;
+const NEXT_HIGH: u32 = 13_660;
 
 /// How many names of each sort a history uses, and how long its lists are.
 #[derive(Clone, Debug)]

@@ -5,8 +5,8 @@ use crate::image::Tables;
 use crate::names::Book;
 use crate::schema::{Sort, Table, EVERY};
 use crate::store::{
-    Counted, Pending, State, ACTIVATIONS, BITS, COUNTED, IMAGE, LISTS, LOADED, PENDING, POSITIONS, RULES, SLOTS, STEPS, TIMERS, UNUSED,
-    VARIABLES, WEEK_MINUTE, WORDS,
+    Counted, Pending, State, ACTIVATIONS, BITS, COUNTED, IMAGE, LISTS, LOADED, PENDING, PENDING_WORDS, POSITIONS, RULES, SLOTS, STEPS, TIMERS,
+    UNUSED, VARIABLES, WEEK_MINUTE, WORDS,
 };
 
 use super::{Finding, Refusal};
@@ -90,11 +90,11 @@ impl Look<'_> {
             self.ask(tag <= 1, place + 1, "bits, tags and marks are 0 or 1", format!("tag of variable {row}: {tag}"));
         }
         for row in 0..pending {
-            let place = PENDING + 1 + row * 14;
+            let place = PENDING + 1 + row * PENDING_WORDS;
             self.marked(place + 7, 3, "jump of a pending record");
             let trigger = self.store[place + 11];
             self.ask(trigger <= 4, place + 11, "a pending record's trigger is 0 to 4", format!("it is {trigger}"));
-            self.zeros(place + 12, place + 14, "its depth and event words are 0", "depth or event of a pending record");
+            self.zeros(place + 12, place + PENDING_WORDS, "its event word is 0", "event of a pending record");
         }
     }
 
@@ -205,7 +205,7 @@ impl Look<'_> {
     }
 
     fn pending(&mut self, row: usize, held: &Pending, names: &[u32], lists: &[Lists], budget: u32) {
-        let place = PENDING + 1 + row * 14;
+        let place = PENDING + 1 + row * PENDING_WORDS;
         let Some(rule) = names.iter().position(|name| *name == held.rule) else {
             return self.ask(false, place + 4, "a pending record's rule is loaded", format!("rule {}", held.rule));
         };
@@ -226,7 +226,7 @@ impl Look<'_> {
     fn numbers(&mut self, state: &State<'_>) {
         let numbers: Vec<u64> = state.pending().map(|held| held.number).collect();
         for (row, number) in numbers.iter().enumerate() {
-            let place = PENDING + 1 + row * 14;
+            let place = PENDING + 1 + row * PENDING_WORDS;
             let next = state.next_number();
             self.ask(*number < next, place, "its sequence number is below the next", format!("{number}, and the next is {next}"));
             self.ask(!numbers[..row].contains(number), place, "its sequence number is distinct", format!("a second {number}"));

@@ -58,17 +58,12 @@ returns-12 c = rw (c .before .match .keys12, c .saturating-add-u3212 .ensures)
 
 returns-13 : tie.Need-returns-13
 unfolding countersOf
-returns-13 c = rw (c .before .match .keys13, c .saturating-add-u3213 .ensures)
-
-returns-14 : tie.Need-returns-14
-unfolding countersOf
-returns-14 c = sym (set-out _ _ _ (past 13 (c .before .args .which) (c .match .rest)))
+returns-13 c = sym (set-out _ _ _ (past 12 (c .before .args .which) (c .match .rest)))
 
 pub count-spec : {M : Type 1} → statement M
 count-spec =
     tie.close
     (tie.spec
-    (λ c κs. search needs)
     (λ c κs. search needs)
     (λ c κs. search needs)
     (λ c κs. search needs)
@@ -93,5 +88,4 @@ count-spec =
     returns-10
     returns-11
     returns-12
-    returns-13
-    returns-14)
+    returns-13)

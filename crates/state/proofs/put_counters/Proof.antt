@@ -14,10 +14,10 @@ use Rattle.state.proofs.put_counters.Statement.{statement}
 use Rattle.state.proofs.put_counters.Tie as tie
 
 abbrev Inv-loop : tie.InvT-loop
-Inv-loop s₀ k values i₀ s i = (i ≤ 13) × (length values ≡ 13) × (length s ≡ length s₀) × (s ≡ laid s₀ k (wordsOf any (take i values)))
+Inv-loop s₀ k values i₀ s i = (i ≤ 12) × (length values ≡ 12) × (length s ≡ length s₀) × (s ≡ laid s₀ k (wordsOf any (take i values)))
 
 abbrev μ-loop : tie.MeasureT-loop
-μ-loop s₀ k values i₀ s i = 13 - i
+μ-loop s₀ k values i₀ s i = 12 - i
 
 loop-holds : tie.Need-loop-holds Inv-loop μ-loop
 unfolding countersOf

@@ -25,7 +25,7 @@ returns-2 c =
     let n = i .before in
     let s = n .before .before .before .before .before .before .before .before in
     let e = tickEnv (now (s .args .snapshot)) (now (s .args .image)) in
-    same-part 1 (model.activate e (s .args .i) (s .args .kind) 0 model.Auto) (activateIfEnabled e (s .args .kind) (s .args .i)) (is-on e (s .args .kind) (s .args .i) _ (n .is-enabled .ensures) (i .if1 .left)) (a .activate-rule .ensures)
+    same-part 1 (model.activate e (s .args .i) (s .args .kind) model.Auto) (activateIfEnabled e (s .args .kind) (s .args .i)) (is-on e (s .args .kind) (s .args .i) _ (n .is-enabled .ensures) (i .if1 .left)) (a .activate-rule .ensures)
 
 pub activate-if-enabled-spec : {M : Type 1} → statement M
 activate-if-enabled-spec =

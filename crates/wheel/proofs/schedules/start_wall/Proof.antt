@@ -23,7 +23,7 @@ returns-2 c =
     let i = a .before .before .before .before in
     let s = i .before .before .before .before .before .before .before .before in
     let e = tickEnv (now (s .args .snapshot)) (now (s .args .image)) in
-    same-part 1 (model.activate e (s .args .i) (s .args .kind .value) 0 model.Auto) (startWall (option32 (s .args .kind)) e (s .args .i)) (is-due (s .args .kind) e (s .args .i) _ (i .if1 .left)) (a .activate-rule .ensures)
+    same-part 1 (model.activate e (s .args .i) (s .args .kind .value) model.Auto) (startWall (option32 (s .args .kind)) e (s .args .i)) (is-due (s .args .kind) e (s .args .i) _ (i .if1 .left)) (a .activate-rule .ensures)
 
 pub start-wall-spec : {M : Type 1} → statement M
 start-wall-spec =

@@ -73,6 +73,12 @@ impl Engine {
             prev_week_min: vol.prev_week_min,
         }
     }
+
+    /// The greatest depth of a continuation; 0 where there is none.
+    #[must_use]
+    pub fn deepest_continuation(&self) -> u32 {
+        self.vol.continuations.iter().map(|held| held.depth).max().unwrap_or(0)
+    }
 }
 
 fn slot(slot: &super::state::EverySlot) -> KeptSlot {
