@@ -21,6 +21,7 @@ mod good_stores;
 mod kept;
 mod proved;
 mod refusals;
+mod sleeping;
 mod small_stack;
 mod speed;
 mod store;
@@ -42,7 +43,7 @@ fn numbers() -> Option<[u64; 3]> {
 
 fn main() -> ExitCode {
     let command = calls::command().or_else(telegrams::command).or_else(crontab::command).or_else(speed::command);
-    if let Some(status) = command.or_else(small_stack::command) {
+    if let Some(status) = command.or_else(small_stack::command).or_else(sleeping::command) {
         return status;
     }
     let Some([histories, sweeps, seed]) = numbers() else {

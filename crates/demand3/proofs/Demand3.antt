@@ -75,7 +75,7 @@ in-words (next-deadline x) = refl
 in-words (counters x) = refl
 
 -- A LIST OF THEM --------------------------------------------------------------------------------------------------------------------
-list-in-words : (xs : List AnyRun) → all inWords (map callOf xs) ≡ true
+pub list-in-words : (xs : List AnyRun) → all inWords (map callOf xs) ≡ true
 list-in-words [] = refl
 list-in-words (x ∷ xs) = join (in-words x) (list-in-words xs)
 
