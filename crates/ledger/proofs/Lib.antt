@@ -1,6 +1,7 @@
 pub mod RunTrace
 pub mod ListLaws
 pub mod SortLaws
+pub mod SumLaws
 pub mod Wheel
 pub mod Known
 pub mod Simulation

@@ -1,7 +1,7 @@
 // The tick and the next deadline: wheel.rs.
 mod continuations;
 pub mod deadline;
-mod minutes;
+pub mod minutes;
 mod rules;
 mod schedules;
 mod slots;
