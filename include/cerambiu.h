@@ -1,6 +1,7 @@
 /*
  * Cerambiu: a rules engine for the lighting of poultry houses, proved. This is its C interface: eight calls over words that the caller lends, one
- * that makes of a tick's effects the list to be sent on the bus, and one that reads a line of a crontab into triggers.
+ * that says what starts next by the wall clock, one that makes of a tick's effects the list to be sent on the bus, and one that reads a line of a
+ * crontab into triggers.
  *
  * Link target/staticlib/libcerambiu.a (`rt staticlib cerambiu`; 90 KiB of code and constants). The library keeps nothing between calls, allocates
  * nothing, reads no clock, calls nothing but memcpy, memmove and memset, and every call returns. All that it remembers of a house is in one store
@@ -14,7 +15,7 @@
  *             bytes.
  *   threads   Two calls may run at once if they share no store that either of them writes.
  *   stack     In bytes, at most, for every input, on x86-64: tick 37,704, load 35,208, run 30,616, next_deadline 30,552, enable 30,536,
- *             unload 30,520, counters 25,608, crontab 616, telegrams 88, new 40. The gate computes them from the machine code. The return address is in;
+ *             unload 30,520, counters 25,608, next_start 25,608, crontab 616, telegrams 88, new 40. The gate computes them from the machine code. The return address is in;
  *             not in: what memcpy, memmove and memset use, the arguments that the caller pushes, the dynamic linker, interrupts
  *             (docs/PERFORMANCE.md, "Stack").
  *   refusals  Each call returns 0, or the number of a refusal: the lowest that applies. A refused call has changed nothing: the store is as
@@ -69,6 +70,7 @@ extern "C" {
 #define CERAMBIU_RUN_VALUES 2       /* the same */
 #define CERAMBIU_DEADLINE_VALUES 3  /* mark, low word, high word; all 0 where there is no deadline */
 #define CERAMBIU_COUNTERS_VALUES 16 /* see enum cerambiu_counter */
+#define CERAMBIU_NEXT_START_VALUES 3 /* see enum cerambiu_next_start_mark; minutes, rule */
 #define CERAMBIU_TELEGRAMS_VALUES 2 /* number of effects kept, low word and high word */
 #define CERAMBIU_CRONTAB_VALUES 1   /* number of triggers */
 
@@ -91,7 +93,7 @@ enum cerambiu_refusal {
     CERAMBIU_IMAGE_STEPS = 16,   /* over 2,048 flat steps, after bodies shared by the copies of a Repeat once, or over 65,536 actions taken */
     CERAMBIU_IMAGE_COUNT = 17,   /* over 64 rules, blocks or Every slots */
 
-    /* the bus driver: tick and run */
+    /* the bus driver: tick, run and next_start */
     CERAMBIU_SNAPSHOT_SIZE = 20,  /* under 14 words, or not as counted */
     CERAMBIU_SNAPSHOT_FIELD = 21, /* field or count out of range, or a missing field's value not 0 */
     CERAMBIU_SNAPSHOT_ROWS = 22,  /* two rows of one table with equal address */
@@ -341,6 +343,13 @@ enum cerambiu_counter {
     CERAMBIU_VARIABLES_NOW = 15
 };
 
+/* The first value of the next start. */
+enum cerambiu_next_start_mark {
+    CERAMBIU_START_NONE = 0,          /* no rule that is on has a wall trigger that will be due */
+    CERAMBIU_START_AHEAD = 1,         /* minutes, 1 to 10,080, and the rule's name follow; else they are 0 */
+    CERAMBIU_START_CLOCK_UNKNOWN = 2  /* the snapshot has no wall clock */
+};
+
 /* CALLS ------------------------------------------------------------------------------------------------------------------------------ */
 
 /* Makes a store new at this time, whatever its words were: no set, no memory. Refusal: 1. */
@@ -375,6 +384,14 @@ uint32_t cerambiu_next_deadline(const uint32_t *store, size_t store_words, uint3
 
 /* Answer: the 16 words of enum cerambiu_counter. Refusals: 1, 2. */
 uint32_t cerambiu_counters(const uint32_t *store, size_t store_words, uint32_t *answer, size_t answer_words);
+
+/* What starts next by the wall clock: the fewest minutes ahead of the snapshot's minute, 1 to 10,080, at which a rule that is on has an AtTime or
+ * AtSolar trigger due, and the lowest name of the rules due then. The present minute is not ahead: what was due in it is due again in a day or a week.
+ * The sun's minutes count as the same on every day; without a sun an AtSolar trigger has no start. Cooldowns, conditions, the minute of the last tick
+ * and its time are not asked, nor are timers, Every and what waits: cerambiu_next_deadline has these. Nothing changes. Answer: mark (enum
+ * cerambiu_next_start_mark), minutes, rule; the last two are 0 where there is no start. Refusals: 1, 2, 20 to 22. */
+uint32_t cerambiu_next_start(const uint32_t *store, size_t store_words, const uint32_t *snapshot, size_t snapshot_words, uint32_t *answer,
+                             size_t answer_words);
 
 /* The list to be sent on the bus for a tick's effects, into `list`: the shortest that leaves every lamp the same. A level (kind 12) is left out
  * where a later level has the same target and only levels and Logs (11) stand between; everything else is copied in its order. Each kind 0 to

@@ -1,4 +1,4 @@
-//! The eight proved calls, the list of telegrams and the reader of crontab lines over word slices: `include/cerambiu.h`, which says what the words mean, in safe Rust.
+//! The eight proved calls, the next start, the list of telegrams and the reader of crontab lines over word slices: `include/cerambiu.h`, which says what the words mean, in safe Rust.
 //!
 //! The functions of this module give Rust values. Those of [`words`] are the C functions as they are, with the lent words of the answer.
 
@@ -19,6 +19,15 @@ pub struct Refused(pub u32);
 pub struct Handled {
     pub outcomes: u32,
     pub effects: u32,
+}
+
+/// What starts next by the wall clock.
+#[derive(Clone, Copy, Debug, PartialEq, Eq)]
+pub enum NextStart {
+    None,
+    ClockUnknown,
+    /// In so many minutes, 1 to 10,080, this rule, the lowest name of those that start then.
+    Start { minutes: u32, rule: u32 },
 }
 
 fn accepted<T>(number: u32, value: T) -> Result<T, Refused> {
@@ -86,6 +95,18 @@ pub fn counters(store: &[u32]) -> Result<[u32; COUNTERS], Refused> {
     accepted(number, answer)
 }
 
+/// What starts next by the wall clock, in the world of a snapshot. Nothing changes.
+pub fn next_start(store: &[u32], snapshot: &[u32]) -> Result<NextStart, Refused> {
+    let mut answer = [0; 3];
+    let number = words::next_start(store, snapshot, &mut answer);
+    let start = match answer {
+        [0, ..] => NextStart::None,
+        [1, minutes, rule] => NextStart::Start { minutes, rule },
+        _ => NextStart::ClockUnknown,
+    };
+    accepted(number, start)
+}
+
 /// The shortest list of these effects that leaves every lamp the same. How many effects it has; the words of `list` behind them are 0.
 pub fn telegrams(effects: &[u32], list: &mut [u32]) -> Result<u64, Refused> {
     let mut answer = [0; 2];
@@ -147,6 +168,29 @@ mod tests {
         store[2] = 2;
         assert_eq!(counters(&store), Err(Refused(2)));
     }
+
+    #[test]
+    fn what_starts_next() {
+        // Rule 5 at 06:00 on day 0.
+        let image = [
+            5, 1, 0, 0, 0, 1, 0, 0, 0, 0, 0, 0, 0, 0, 0, 0, 2, 6, 0, 1, 0, 0, 0, 0, 8, 0, 1, 0, 0, 0, 16, 16, 24, 24, 24, 24, 24,
+        ];
+        let clock = |minute| [0, 0, 1, 0, minute, 0, 0, 0, 1, 0, 0, 0, 0, 0];
+        let mut store = [0; STORE_WORDS];
+        assert_eq!(new(&mut store, 0), Ok(()));
+        assert_eq!(next_start(&store, &clock(359)), Ok(NextStart::None));
+        assert_eq!(load(&mut store, 0, &image), Ok(()));
+        let before = store;
+        assert_eq!(next_start(&store, &clock(359)), Ok(NextStart::Start { minutes: 1, rule: 5 }));
+        assert_eq!(next_start(&store, &clock(360)), Ok(NextStart::Start { minutes: 10_080, rule: 5 }));
+        assert_eq!(next_start(&store, &snapshot(0)), Ok(NextStart::ClockUnknown));
+        assert_eq!(next_start(&store, &clock(1_440)), Err(Refused(21)));
+        assert_eq!(next_start(&store[1..], &[]), Err(Refused(1)));
+        assert_eq!(store, before);
+        assert_eq!(enable(&mut store, 5, false), Ok(true));
+        assert_eq!(next_start(&store, &clock(359)), Ok(NextStart::None));
+    }
+
     #[test]
     fn of_two_levels_round_a_log_the_last_is_sent() {
         let effects = [12, 1, 10, 0, 0, 11, 7, 0, 0, 0, 12, 1, 20, 0, 0];

@@ -56,6 +56,14 @@ mod c {
             answer_words: usize,
         ) -> u32;
         pub fn cerambiu_counters(store: *const u32, store_words: usize, answer: *mut u32, answer_words: usize) -> u32;
+        pub fn cerambiu_next_start(
+            store: *const u32,
+            store_words: usize,
+            snapshot: *const u32,
+            snapshot_words: usize,
+            answer: *mut u32,
+            answer_words: usize,
+        ) -> u32;
         pub fn cerambiu_crontab(
             line: *const u8,
             line_bytes: usize,
@@ -155,6 +163,21 @@ pub fn next_deadline(store: &[u32], answer: &mut [u32]) -> u32 {
 pub fn counters(store: &[u32], answer: &mut [u32]) -> u32 {
     // SAFETY: as above.
     unsafe { c::cerambiu_counters(store.as_ptr(), store.len(), answer.as_mut_ptr(), answer.len()) }
+}
+
+/// Values: a mark (0 none, 1 a start, 2 the clock is unknown), the minutes and the rule, 0 where there is no start.
+pub fn next_start(store: &[u32], snapshot: &[u32], answer: &mut [u32]) -> u32 {
+    // SAFETY: as above.
+    unsafe {
+        c::cerambiu_next_start(
+            store.as_ptr(),
+            store.len(),
+            snapshot.as_ptr(),
+            snapshot.len(),
+            answer.as_mut_ptr(),
+            answer.len(),
+        )
+    }
 }
 
 pub fn telegrams(effects: &[u32], list: &mut [u32], answer: &mut [u32]) -> u32 {

@@ -2,11 +2,12 @@
 
 use std::collections::BTreeMap;
 
-use oracle::access::{Kept, KeptPending, KeptPlace};
+use oracle::access::{Kept, KeptPending, KeptPlace, NextStart};
 use oracle::check;
 use oracle::decode::{name, number};
 use oracle::house::{self, Answer, Call, House};
 use oracle::model::{Text, VarValue};
+use oracle::next_start;
 
 use crate::store::{Pending, Slot, Store, Timer, Value, Variable};
 use crate::tables::{Tables, ACTIONS};
@@ -38,6 +39,11 @@ impl Player {
             }
         }
         answer
+    }
+
+    /// What starts next by the wall clock, by the published due test.
+    pub fn next_start(&self, snapshot: &[u32]) -> Result<NextStart, u32> {
+        next_start::next_start(&self.house, snapshot)
     }
 
     /// Whether a tick's clock was set back: from then on the house has the wheel's variant for request 5 of document 02.

@@ -50,7 +50,8 @@ impl Played {
 
     fn play(&mut self, house: &mut House, call: &Call) {
         match call {
-            Call::Lend { .. } | Call::Peek { .. } | Call::Own { .. } => return,
+            Call::Lend { .. } | Call::Peek { .. } => return,
+            Call::Own { name, .. } if *name != "start" => return,
             Call::Size { words } => {
                 house.size = *words as usize;
                 return;

@@ -1,6 +1,6 @@
 /*
  * A house in C: a new store, the rule of document 01's example, a run, two ticks; then three refusals, one for each who can cause one;
- * then what is sent on the bus for three effects.
+ * then what is sent on the bus for three effects, two lines of a crontab, and what starts next.
  *
  *   rt staticlib cerambiu
  *   cc -std=c99 -Iinclude examples/c/main.c target/staticlib/libcerambiu.a -o house && ./house
@@ -122,6 +122,37 @@ static void programme(const char *line)
     }
 }
 
+/* What starts next, in the world of a snapshot. */
+static void print_next_start(const uint32_t snapshot[CERAMBIU_SNAPSHOT_HEAD_WORDS])
+{
+    uint32_t start[CERAMBIU_NEXT_START_VALUES];
+    uint32_t refusal = cerambiu_next_start(store, COUNT(store), snapshot, CERAMBIU_SNAPSHOT_HEAD_WORDS, start, COUNT(start));
+    if (refusal != CERAMBIU_OK) {
+        printf("start refused %" PRIu32 "\n", refusal);
+    } else if (start[0] == CERAMBIU_START_AHEAD) {
+        printf("start %" PRIu32 " %" PRIu32 "\n", start[1], start[2]);
+    } else {
+        printf("start %s\n", start[0] == CERAMBIU_START_NONE ? "none" : "unknown");
+    }
+}
+
+/* The panel: rule 12 at 6:00 on every day, asked at 5:17, without a clock, and switched off. */
+static void panel(void)
+{
+    static const uint32_t daily[] = {
+        12, 1, 0, 0, 0, 1, 0, 0, 0, 0, 0, 0, 0, 0, 0, 0, CERAMBIU_AT_TIME, 6, 0, 127, 0, 0, 0, 0, 8, 0, 1, 0, 0, 0, 16, 16, 24, 24, 24, 24, 24,
+    };
+    uint32_t snapshot[CERAMBIU_SNAPSHOT_HEAD_WORDS];
+    look(snapshot, 2000);
+    printf("load %" PRIu32 "\n", cerambiu_load(store, COUNT(store), 2000, daily, COUNT(daily)));
+    print_next_start(snapshot);
+    snapshot[2] = 1;
+    snapshot[4] = 5 * 60 + 17;
+    print_next_start(snapshot);
+    printf("enable %" PRIu32 "\n", cerambiu_enable(store, COUNT(store), 12, false, NULL, 0));
+    print_next_start(snapshot);
+}
+
 int main(void)
 {
     uint32_t refusal = cerambiu_new(store, COUNT(store), 0);
@@ -153,5 +184,6 @@ int main(void)
     /* An integrator: from Monday to Friday at 5:00 and 5:30; then on the first of a month, which no trigger can say. */
     programme("0,30 5 * * 1-5 lights up");
     programme("0 5 1 * * lights up");
+    panel();
     return 0;
 }

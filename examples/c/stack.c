@@ -22,9 +22,10 @@
 #define PATTERN 0xa5
 #define OWN_BYTES 256 /* for the frame that measures */
 
-enum call { NEW, LOAD, UNLOAD, ENABLE, RUN, DRY_RUN, TICK, NEXT_DEADLINE, COUNTERS, TELEGRAMS, CRONTAB };
+enum call { NEW, LOAD, UNLOAD, ENABLE, RUN, DRY_RUN, TICK, NEXT_DEADLINE, COUNTERS, NEXT_START, TELEGRAMS, CRONTAB };
 
-static const char *const names[] = { "new", "load", "unload", "enable", "run", "dry run", "tick", "next_deadline", "counters", "telegrams", "crontab" };
+static const char *const names[] = { "new", "load", "unload", "enable", "run", "dry run", "tick", "next_deadline", "counters", "next_start",
+                                     "telegrams", "crontab" };
 
 static uint32_t store[CERAMBIU_STORE_WORDS], image[CERAMBIU_IMAGE_MAX_WORDS];
 static size_t image_words;
@@ -47,6 +48,7 @@ static void make(enum call which)
     case DRY_RUN: refusal = cerambiu_run(store, n, 5, true, snapshot, s, outcomes, os, effects, es, answer, a); break;
     case NEXT_DEADLINE: refusal = cerambiu_next_deadline(store, n, answer, a); break;
     case COUNTERS: refusal = cerambiu_counters(store, n, answer, a); break;
+    case NEXT_START: refusal = cerambiu_next_start(store, n, snapshot, s, answer, a); break;
     case TELEGRAMS: refusal = cerambiu_telegrams(effects, es, list, COUNT(list), answer, a); break;
     case CRONTAB: refusal = cerambiu_crontab(line, sizeof(line), 6, list, COUNT(list), answer, a); break;
     }
@@ -224,6 +226,7 @@ static void all_fit(void)
     fits(TICK);
     fits(NEXT_DEADLINE);
     fits(COUNTERS);
+    fits(NEXT_START);
     fits(TELEGRAMS);
     fits(CRONTAB);
     fits(UNLOAD);
@@ -246,7 +249,7 @@ int main(void)
     for (size_t which = 0; which < COUNT(names); which++) {
         printf("%-14s %12zu %12zu %12zu\n", names[which], bytes[0][which], bytes[1][which], bytes[2][which]);
     }
-    printf("on 64 KB of stack, with each image: new, load, load again, tick, enable, run, dry run, tick, next_deadline, counters, telegrams, crontab, unload .. ");
+    printf("on 64 KB of stack, with each image: new, load, load again, tick, enable, run, dry run, tick, next_deadline, counters, next_start, telegrams, crontab, unload .. ");
     fflush(stdout);
     for (size_t i = 0; i < COUNT(images); i++) {
         images[i]();

@@ -2,10 +2,10 @@
 
 use dali2rust_rules_model::limits::{self, Limits};
 use dali2rust_rules_model::{InputRef, LightTarget, TriggerKind};
-use dali2rust_rules_runtime::runtime::engine::access::Kept;
+use dali2rust_rules_runtime::runtime::engine::access::{Kept, NextStart};
 use dali2rust_rules_runtime::runtime::engine::{
     ActivationOutcome, Effect, Engine, EngineCountersSnapshot, EngineInput, LightVerb,
-    PartialReason,
+    PartialReason, WorldSnapshot,
 };
 
 use crate::script::{self, Given};
@@ -193,6 +193,12 @@ impl House {
     #[must_use]
     pub fn is_sized(&self) -> bool {
         self.size == STORE_WORDS
+    }
+
+    /// What starts next by the wall clock: `crate::next_start`.
+    #[must_use]
+    pub fn next_start(&self, world: &WorldSnapshot) -> NextStart {
+        self.engine.next_start(world)
     }
 
     fn own(&self, name: &str, given: &Given) -> Answer {

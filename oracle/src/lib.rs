@@ -8,6 +8,7 @@ pub mod decode;
 pub mod edges;
 pub mod generate;
 pub mod house;
+pub mod next_start;
 pub mod random;
 pub mod script;
 pub mod shrink;

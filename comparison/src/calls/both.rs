@@ -4,6 +4,7 @@ use oracle::house::{Answer, Call, Outcome};
 use oracle::random::Random;
 
 use super::house::{expected, House, Lent, Seen};
+use super::starts;
 use super::tally::Tally;
 use crate::kept::{Place, Player};
 use crate::store::{Store, WORDS};
@@ -68,8 +69,10 @@ impl<'a> Both<'a> {
                 let wanted = self.player.call(call);
                 return ask(found == wanted, || format!("{call:?}: proved {found:?}, Rust {wanted:?}"));
             }
-            // No call of the Rust; who adds one compares it with the oracle's own code.
-            Call::Own { .. } => {}
+            // No calls of the Rust: the next start is compared with the oracle's own code, the others elsewhere.
+            Call::Own { .. } => {
+                return starts::snapshot(call).map_or(Ok(()), |snapshot| self.start(call, snapshot));
+            }
             _ => {
                 self.call(call)?;
                 self.call(&Call::Deadline)?;
@@ -124,6 +127,16 @@ impl<'a> Both<'a> {
         Ok(())
     }
 
+    /// What starts next.
+    fn start(&mut self, call: &Call, snapshot: &[u32]) -> Result<(), Difference> {
+        let start = self.player.next_start(snapshot);
+        if let Ok(start) = &start {
+            self.tally.starts.see(start);
+        }
+        let lent = Lent { answer: self.random.below(6) as usize, ..Lent::default() };
+        self.compare(call, &starts::answer(&start), lent)
+    }
+
     /// The proved call, and what it must give.
     fn compare(&mut self, call: &Call, answer: &Answer, lent: Lent) -> Result<(), Difference> {
         let before = self.house.store.clone();
@@ -132,11 +145,11 @@ impl<'a> Both<'a> {
         self.tally.add(call, answer);
         if matches!(answer, Answer::Outcomes { .. }) && self.player.has_percent() {
             self.tally.percents += 1;
-        } else {
+        } else if starts::snapshot(call).is_none() {
             self.tally.wheel(self.player.is_set_back());
         }
         ask(seen == wanted, || first_difference(call, &seen, &wanted))?;
-        if matches!(answer, Answer::Refused(_) | Answer::Deadline(_) | Answer::Counters(_)) {
+        if matches!(answer, Answer::Refused(_) | Answer::Deadline(_) | Answer::Counters(_) | Answer::Own(_)) {
             return ask(self.house.store == before, || format!("{call:?}: the store is changed"));
         }
         self.compare_store(&before, call)

@@ -3,6 +3,7 @@
 use cerambiu::words;
 use oracle::house::{Answer, Call};
 
+use super::starts;
 use crate::store::{pair, WORDS};
 
 /// What stands in lent words before a call.
@@ -52,7 +53,7 @@ impl Default for House {
 }
 
 impl House {
-    /// One of the eight calls. A store of another size has the same words in front, and others behind.
+    /// One of the eight calls, or the next start. A store of another size has the same words in front, and others behind.
     pub fn call(&mut self, call: &Call, lent: Lent) -> Seen {
         if self.size == WORDS {
             return made(&mut self.store, call, lent);
@@ -68,7 +69,7 @@ impl House {
     }
 }
 
-/// One of the eight calls on these words, with lent words that are filled before.
+/// One of the eight calls, or the next start, on these words, with lent words that are filled before.
 pub fn made(store: &mut [u32], call: &Call, lent: Lent) -> Seen {
     let handles = usize::from(matches!(call, Call::Tick { .. } | Call::Run { .. }));
     let has_answer = usize::from(!matches!(call, Call::New { .. } | Call::Load { .. } | Call::Unload { .. }));
@@ -90,6 +91,7 @@ pub fn number(store: &mut [u32], call: &Call, answer: &mut [u32], outcomes: &mut
         Call::Run { rule, dry, snapshot } => words::run(store, *rule, *dry, snapshot, outcomes, effects, answer),
         Call::Deadline => words::next_deadline(store, answer),
         Call::Counters => words::counters(store, answer),
+        Call::Own { name: "start", given } => words::next_start(store, &given.list, answer),
         Call::Lend { .. } | Call::Size { .. } | Call::Poke { .. } | Call::Peek { .. } | Call::Own { .. } => 0,
     }
 }
@@ -127,6 +129,7 @@ fn values(answer: &Answer, effects: usize) -> Vec<u32> {
         Answer::Deadline(None) => vec![0; 3],
         Answer::Deadline(Some(time)) => [[1].as_slice(), &pair(*time)].concat(),
         Answer::Counters(counters) => counters.to_vec(),
-        Answer::Silent | Answer::Refused(_) | Answer::Word(_) | Answer::Own(_) | Answer::Unsupported(_) => Vec::new(),
+        Answer::Own(line) => starts::values(line),
+        Answer::Silent | Answer::Refused(_) | Answer::Word(_) | Answer::Unsupported(_) => Vec::new(),
     }
 }

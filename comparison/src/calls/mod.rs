@@ -1,9 +1,10 @@
-//! `comparison calls HISTORIES LENGTH VALUES SEED EDGES`: the eight proved calls beside the Rust.
+//! `comparison calls HISTORIES LENGTH VALUES SEED EDGES`: the eight proved calls and the next start beside the Rust.
 //!
 //! - Edges: every script of the folder EDGES.
 //! - Histories: so many generated ones from SEED on, valid and hostile; behind each, its store with random words.
 //! - Clocks set back: as many histories around the ticks that document 02's request 5 changes.
 //! - Sharing: as many histories, and 2,200 at least, of sets that fit only by sharing (document 02's request 8).
+//! - Next starts: as many histories of sets with wall triggers that ask for the next start (document 02's request 7), and two questions behind each history above.
 //! - Lists: every list of up to LENGTH of the small actions, as a rule.
 //! - Levels: action kind 28 on every entry and every middle of the dimming curve and their neighbours, and on values without a level.
 //! - Stores: every word of good stores to VALUES other values; a store for each rule that is broken.
@@ -18,6 +19,7 @@ pub mod house;
 mod levels;
 mod lists;
 mod sharing;
+mod starts;
 mod stores;
 mod tally;
 
@@ -57,6 +59,7 @@ pub fn command() -> Option<ExitCode> {
     calls.histories(histories, seed);
     calls.set_backs(histories, seed);
     calls.sharing(histories.max(LEAST_SHARED), seed);
+    calls.starts(histories, seed);
     calls.lists(length as u32);
     calls.levels();
     calls.stores(values as usize, seed);
@@ -117,7 +120,9 @@ impl Calls {
         let before = self.tally.calls;
         for seed in seed..seed + count {
             let name = format!("history {seed}");
-            let Some(store) = self.play(&name, seed, &generate::history(seed)) else {
+            let mut history = generate::history(seed);
+            history.extend(generate::starts::questions(seed));
+            let Some(store) = self.play(&name, seed, &history) else {
                 continue;
             };
             if let Err(rule) = store_reader::read(&store) {
@@ -145,6 +150,14 @@ impl Calls {
             self.play(&format!("shared bodies, history {seed}"), seed, &generate::sharing::history(seed));
         }
         self.part("shared bodies", count as usize, before);
+    }
+
+    fn starts(&mut self, count: u64, seed: u64) {
+        let before = self.tally.calls;
+        for seed in seed..seed + count {
+            self.play(&format!("next starts, history {seed}"), seed, &generate::starts::history(seed));
+        }
+        self.part("next starts", count as usize, before);
     }
 
     fn lists(&mut self, length: u32) {

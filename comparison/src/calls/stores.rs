@@ -2,21 +2,25 @@
 
 use std::collections::BTreeMap;
 
+use oracle::access::NextStart;
 use oracle::build::{Action, Image, Rule, World};
+use oracle::generate;
 use oracle::house::{Answer, Call};
+use oracle::next_start;
 use oracle::random::Random;
 
 use super::both::Difference;
 use super::house::{expected, made, Lent, Seen};
+use super::starts;
 use super::tally::{self, Tally};
 use crate::good_stores;
-use crate::store::WORDS;
+use crate::store::{Store, WORDS};
 use crate::store_reader::{self, Broken};
 
 const LENT: Lent = Lent { answer: 16, outcomes: 60, effects: 55 };
 
 /// The calls that look at the store's rules.
-fn seven(random: &mut Random) -> [Call; 7] {
+fn eight(random: &mut Random) -> [Call; 8] {
     let image = Image::of(vec![Rule::new(7, vec![Action::Wait(5)])]).words();
     let snapshot = World { wall: Some((3, 701)), ..World::at(80_000) }.words();
     let nth = random.below(8);
@@ -26,9 +30,10 @@ fn seven(random: &mut Random) -> [Call; 7] {
         Call::Unload { time: 80_000 },
         Call::Enable { rule, on: random.bit() == 1 },
         Call::Tick { snapshot: snapshot.clone() },
-        Call::Run { rule, dry: random.bit() == 1, snapshot },
+        Call::Run { rule, dry: random.bit() == 1, snapshot: snapshot.clone() },
         Call::Deadline,
         Call::Counters,
+        generate::starts::start(snapshot),
     ]
 }
 
@@ -38,11 +43,13 @@ pub struct Stores<'a> {
     /// The first store that was met for each rule broken; and how many of each.
     broken: BTreeMap<Broken, (Vec<u32>, u64)>,
     good: u64,
+    /// Image, bits and the Rust's next start of the store that was asked for it last: most changed words leave it as it is.
+    asked: Option<(Option<Vec<u32>>, Vec<bool>, NextStart)>,
 }
 
 impl<'a> Stores<'a> {
     pub fn new(seed: u64, tally: &'a mut Tally) -> Stores<'a> {
-        Stores { random: Random::new(seed), tally, broken: BTreeMap::new(), good: 0 }
+        Stores { random: Random::new(seed), tally, broken: BTreeMap::new(), good: 0, asked: None }
     }
 
     /// Every word of each good store to so many other values, the greatest first, one at a time; the calls take turns.
@@ -77,15 +84,15 @@ impl<'a> Stores<'a> {
             let any = self.random.word();
             words[place] = self.random.pick([0, 1, was.wrapping_add(1), was.wrapping_sub(1), u32::MAX, any]);
         }
-        let turn = self.random.below(7) as usize;
+        let turn = self.random.below(8) as usize;
         self.one(&words, turn)
     }
 
-    /// For each rule, a store that breaks it: all seven calls refuse it, and new takes it.
+    /// For each rule, a store that breaks it: all eight calls refuse it, and new takes it.
     pub fn every_rule(&mut self, mut differs: impl FnMut(Difference)) {
         for (rule, (words, _)) in self.broken.clone() {
             let told = |text| format!("{}: {text}", rule.text());
-            for turn in 0..7 {
+            for turn in 0..8 {
                 self.one(&words, turn).map_err(told).unwrap_or_else(&mut differs);
             }
             let mut store = words;
@@ -99,7 +106,7 @@ impl<'a> Stores<'a> {
     }
 
     fn one(&mut self, words: &[u32], turn: usize) -> Result<(), Difference> {
-        let call = &seven(&mut self.random)[turn % 7];
+        let call = &eight(&mut self.random)[turn % 8];
         let mut store = words.to_vec();
         let seen = made(&mut store, call, LENT);
         self.tally.count(tally::place(call), seen.number);
@@ -111,13 +118,36 @@ impl<'a> Stores<'a> {
                 fine.then_some(())
                     .ok_or_else(|| format!("{call:?}: {rule:?}, but answer {} or a word changed", seen.number))
             }
-            Ok(_) => {
+            Ok(held) => {
                 self.good += 1;
+                if let Some(snapshot) = starts::snapshot(call) {
+                    return self.start(&held, call, snapshot, &seen, store == words);
+                }
                 let fine = seen.number != 2 && store_reader::read(&store).is_ok();
                 fine.then_some(())
                     .ok_or_else(|| format!("{call:?}: a good store, but answer {} or no store after it", seen.number))
             }
         }
+    }
+
+    /// What starts next in a store that no history may have made.
+    fn start(&mut self, held: &Store, call: &Call, snapshot: &[u32], seen: &Seen, stays: bool) -> Result<(), Difference> {
+        let start = self.next_start(held, snapshot);
+        self.tally.starts.see(&start);
+        let fine = *seen == expected(call, &starts::answer(&Ok(start.clone())), LENT) && stays;
+        fine.then_some(()).ok_or_else(|| format!("{call:?}: proved {:?}, Rust {start:?}, or a word changed", seen.answer))
+    }
+
+    /// By the published due test. The snapshot is always the same.
+    fn next_start(&mut self, held: &Store, snapshot: &[u32]) -> NextStart {
+        if let Some((image, bits, start)) = &self.asked {
+            if *image == held.image && *bits == held.bits {
+                return start.clone();
+            }
+        }
+        let start = next_start::of_set(held.image.as_deref(), &held.bits, snapshot);
+        self.asked = Some((held.image.clone(), held.bits.clone(), start.clone()));
+        start
     }
 
     /// Prints the counts; whether every rule was broken by some store.

@@ -5,9 +5,11 @@ use std::collections::BTreeMap;
 use oracle::house::{Answer, Call};
 
 use super::sharing::{self, Sharing};
+use super::starts::{self, Starts};
 use crate::store::{Store, MOST_PENDING, MOST_SLOTS, MOST_TIMERS, MOST_VARIABLES, RULES};
 
-const CALLS: [&str; 8] = ["new", "load", "unload", "enable", "tick", "run", "deadline", "counters"];
+/// The eight calls, and the next start.
+const CALLS: [&str; 9] = ["new", "load", "unload", "enable", "tick", "run", "deadline", "counters", "start"];
 const EFFECTS: [&str; 13] = [
     "Light",
     "SceneRecall",
@@ -38,12 +40,13 @@ fn refusals(call: usize) -> Vec<u32> {
         "new" => return vec![0, 1],
         "load" => &[10, 11, 12, 13, 14, 15, 16, 17],
         "tick" | "run" => &[20, 21, 22, 30, 31],
+        "start" => &[20, 21, 22],
         _ => &[],
     };
     [&[0, 1, 2], more].concat()
 }
 
-/// Which of the eight calls.
+/// Which of the calls.
 pub fn place(call: &Call) -> usize {
     match call {
         Call::New { .. } => 0,
@@ -53,6 +56,7 @@ pub fn place(call: &Call) -> usize {
         Call::Tick { .. } => 4,
         Call::Run { .. } => 5,
         Call::Deadline => 6,
+        Call::Own { .. } => 8,
         _ => 7,
     }
 }
@@ -68,6 +72,7 @@ pub struct Tally {
     pub chains: u64,
     /// Sets that fit only by sharing.
     pub sharing: Sharing,
+    pub starts: Starts,
     answers: BTreeMap<(usize, u32), u64>,
     /// Of what a call said yes, no, a time or none.
     said: BTreeMap<&'static str, u64>,
@@ -161,6 +166,7 @@ impl Tally {
         empty += named_row("wheel", &WHEELS, &self.wheels);
         empty += usize::from(self.percents == 0) + usize::from(self.chains == 0);
         empty += named_row("sharing", &sharing::CELLS, &self.sharing.counts);
+        empty += named_row("starts", &starts::CELLS, &self.starts.counts);
         empty += usize::from(self.sharing.histories <= sharing::LEAST);
         let most: Vec<u64> = self.most.iter().map(|count| *count as u64).collect();
         named_row("most", &TABLES, &most);

@@ -5,6 +5,7 @@ use std::time::Duration;
 use dali2rust_rules_runtime::runtime::engine::{
     ActivationOutcome, Engine, EngineCountersSnapshot, EngineInput, WorldSnapshot,
 };
+use oracle::access::NextStart;
 use oracle::decode;
 use oracle::house::Call;
 use oracle::model::{limits, RuleSet};
@@ -32,6 +33,7 @@ enum Given {
     Run(String, bool, WorldSnapshot),
     Deadline,
     Counters,
+    NextStart(WorldSnapshot),
 }
 
 /// What a call gives, so that it is not dropped while the time runs.
@@ -42,6 +44,7 @@ enum Gave {
     Outcomes(Vec<ActivationOutcome>),
     Deadline(Option<u64>),
     Counters(EngineCountersSnapshot),
+    NextStart(NextStart),
 }
 
 fn given(call: &Call) -> Given {
@@ -57,6 +60,7 @@ fn given(call: &Call) -> Given {
         Call::Tick { snapshot } => Given::Tick(decode::world(snapshot)),
         Call::Run { rule, dry, snapshot } => Given::Run(decode::name(*rule), *dry, decode::world(snapshot)),
         Call::Deadline => Given::Deadline,
+        Call::Own { given, .. } => Given::NextStart(decode::world(&given.list)),
         _ => Given::Counters,
     }
 }
@@ -73,6 +77,8 @@ fn make(engine: &mut Engine, given: &mut Given) -> Gave {
         }
         Given::Deadline => return Gave::Deadline(engine.next_deadline_ms()),
         Given::Counters => return Gave::Counters(engine.counters()),
+        // Its due test, asked minute by minute.
+        Given::NextStart(world) => return Gave::NextStart(engine.next_start(world)),
     }
     Gave::Nothing
 }

@@ -3,6 +3,7 @@
 use oracle::build::{
     Action, Block, Bound, Condition, Device, Group, Hcl, Image, Input, Lamp, Rule, Trigger, Value, World,
 };
+use oracle::generate::starts;
 use oracle::house::Call;
 
 pub struct House {
@@ -105,6 +106,7 @@ fn usual(world: &World, image: &[u32], rule: u32) -> Vec<(&'static str, Call)> {
         ("dry run", run(world, 1_001, rule, true)),
         ("enable", Call::Enable { rule, on: true }),
         ("next deadline", Call::Deadline),
+        ("next start", starts::start(snapshot(world, 1_001, 719))),
         ("counters", Call::Counters),
         ("load", load(image)),
         ("unload", Call::Unload { time: START + 1_001 }),
@@ -183,6 +185,28 @@ pub fn timers() -> House {
     let calls = vec![("tick, 1,008 activations, 31,248 effects", tick(&world, 1_000, 719))];
     let name = "worst case of a tick: 16 timers due for 63 rules each";
     House { name, before, calls, history: Vec::new(), room: [1_184, 32_768] }
+}
+
+/// 64 rules with the same list of 380 AtTime triggers, the most that fit, and no action; each on all days.
+fn shared_triggers() -> Vec<u32> {
+    const TRIGGERS: u32 = 380;
+    let rule = |name| vec![name, 1, 0, 0, 0, TRIGGERS, 0, 0, 0, 0, 0, 0, 0, 0, 0, 0];
+    let record = |at: u32| vec![2, at / 60, at % 60, 127, 0, 0, 0, 0];
+    let mut words: Vec<u32> = (0..64).flat_map(rule).collect();
+    let triggers = words.len() as u32;
+    words.extend((0..TRIGGERS).flat_map(|at| record(at * 3)));
+    let end = words.len() as u32;
+    words.extend([256, 8, 255, 255, 255, 0, triggers, triggers, end, end, end, end, end]);
+    words
+}
+
+/// The most triggers that the next start can meet: 24,320.
+pub fn triggers() -> House {
+    let image = shared_triggers();
+    let world = world(60, 8, 16, 12, 4);
+    let calls = vec![("next deadline", Call::Deadline), ("next start", starts::start(snapshot(&world, 0, 1_300)))];
+    let name = "worst case of the next start: 64 rules share 380 triggers";
+    House { name, before: vec![load(&image), tick(&world, 0, 719)], calls, history: Vec::new(), room: [64, 64] }
 }
 
 /// An image that takes long to flatten, which every call does that checks the store.

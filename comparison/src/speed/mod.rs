@@ -48,6 +48,7 @@ pub fn command() -> Option<ExitCode> {
         houses::typical(),
         houses::large(),
         houses::timers(),
+        houses::triggers(),
         houses::flattening("worst case of flattening: 40,430 actions taken, no step", worst::accepted_actions()),
     ];
     let clock = Clock::new();

@@ -1,8 +1,9 @@
-// The C interface: the eight calls of crate `engine`, `telegrams` and `crontab` under C names, as include/cerambiu.h describes them. A slice is a pointer and a
-// length in C. A call returns document 01's number of its refusal, 0 for none, and writes its values into the lent words of the answer. A contract is one
+// The C interface: the eight calls and the next start of crate `engine`, `telegrams` and `crontab` under C names, as include/cerambiu.h describes them. A slice
+// is a pointer and a length in C. A call returns document 01's number of its refusal, 0 for none, and writes its values into the lent words of the answer. A contract is one
 // equation with the specification's call on words (model's `callOn`), for all arguments.
 use engine::Answer;
 use model::TelegramAnswer;
+use next::NextStart;
 ghost use mathlib.Core.Path.{_≡_};
 ghost use mathlib.Core.Bool.{cond};
 ghost use mathlib.Core.List.{[]};
@@ -11,7 +12,9 @@ ghost use lib.ListN.{length};
 ghost use Rattle.model.specs.Calls.{new, load, unload, enable, tick, run, deadline, counters};
 ghost use Rattle.model.specs.OnWords.{callOn};
 ghost use Rattle.model.specs.Crontab.{crontab};
+ghost use Rattle.next.specs.NextStart.{startValues};
 ghost use Rattle.engine.specs.Answers.{numberOf, valuesOf};
+ghost use Rattle.engine.specs.Asked.{nextStartOn};
 ghost use Rattle.cerambiu.specs.Called.{called, answered, lentAnswer};
 ghost use Rattle.cerambiu.specs.Told.{tells, told, telegramNumber, telegramValues, sending};
 
@@ -157,6 +160,27 @@ pub extern "C" fn cerambiu_counters(store: &[u32], answer: &mut [u32]) -> u32
     let c = engine::counters(store);
     let values = c.values;
     put_asked(answer, c.refusal, &values)
+}
+
+// A mark, the minutes and the rule.
+fn start_values(a: NextStart) -> [u32; 3]
+    ensures { λ r. ⌜ r ≡ startValues a ⌝ }
+{
+    match a {
+        NextStart::NoStart => [0, 0, 0],
+        NextStart::ClockUnknown => [2, 0, 0],
+        NextStart::Start(minutes, rule) => [1, minutes, rule],
+    }
+}
+
+#[no_mangle]
+pub extern "C" fn cerambiu_next_start(store: &[u32], snapshot: &[u32], answer: &mut [u32]) -> u32
+    ensures { λ r. ⌜ tells r (now (answer .exit)) [] ≡ told (length (now (answer .entry))) (nextStartOn (now (snapshot .entry)) (now (store .entry))) ⌝ }
+{
+    let a = engine::next_start(store, snapshot);
+    let start = a.start;
+    let values = start_values(start);
+    put_asked(answer, a.refusal, &values)
 }
 
 fn telegram_number(a: TelegramAnswer) -> u32

@@ -6,7 +6,7 @@ use mathlib.Core.Option.{Option, none, some}
 use Prim.Native.Nat.{ℕ, zero, suc}
 use native.Mathlib.Omega.{arith}
 use lib.Dec.{eqb}
-use lib.ListN.{length}
+use lib.ListN.{length, replicate}
 use borrow.Author.Tests.{ne-eqb}
 use Rattle.model.specs.Lists.{present}
 use Rattle.model.specs.Field.{unless}
@@ -20,7 +20,7 @@ use Rattle.model.specs.OnWords.{result, storeRefusal, storeAfter, outcomeWordsO
 use Rattle.model.proofs.StoreLaws.{write-read}
 use Rattle.engine.specs.Seen.{Seen, seen, refusalOf}
 use Rattle.engine.specs.Answers.{numberOf, valuesOf, shown, shownCounters}
-use Rattle.model.specs.Asked.{Asked, declined}
+use Rattle.model.specs.Asked.{Asked, declined, shownAsked}
 use Rattle.engine.specs.Asked.{lowestOf, askedOf, asked, seenAsked}
 use Rattle.engine.specs.declared.Answer.the-variants.{Refused}
 use Rattle.engine.specs.declared.Counted.{Counted}
@@ -55,6 +55,13 @@ module _ (w : List ℕ) (n other : ℕ) (q : n ≡ lowestOf (read w) w other) wh
       go none m e = ap (declined k) (sym e)
       go (some s) zero e = absurd (z e)
       go (some s) (suc m) e = ap (declined k) (sym e)
+
+  -- code that shows the number, and has cleared the words that it was lent
+  pub shown-declined : (n ≡ 0 → ⊥) → (k : ℕ) (answer : Store → Asked) (values lent : List ℕ) → lent ≡ replicate k 0 → shownAsked n values lent ≡ asked w other k answer
+  unfolding shownAsked declined
+  shown-declined z k answer values lent e =
+      let f = ne-eqb n 0 z in
+      (λ i. record { number = n; values = cond (f i) values []; lent = e i }) ∙ sym (asked-declined z k answer)
 
   pub asked-checked : n ≡ 0 → (present (read w) ≡ true) × (other ≡ 0)
   unfolding storeRefusal

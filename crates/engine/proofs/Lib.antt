@@ -7,3 +7,4 @@ pub mod HandlingLaws
 pub mod DeadlineLaws
 pub mod TickLaws
 pub mod AskedLaws
+pub mod StartLaws

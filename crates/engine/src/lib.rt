@@ -1,17 +1,22 @@
 // The eight calls: document 01, "Calls". Each is a function on lent words: the store, an image or a snapshot, and for tick and run the
 // stores of outcomes and effects. A contract is one equation with the specification's call on words (model's `callOn`), for all
-// arguments: the answer's number and values, and all lent words after the call.
+// arguments: the answer's number and values, and all lent words after the call. Beside them stand calls that only ask a store.
+use next::NextStart;
 ghost use mathlib.Core.Path.{_≡_};
 ghost use mathlib.Core.List.{[]};
 ghost use lib.ListN.{length};
 ghost use Rattle.model.specs.Calls.{new, load, unload, enable, tick, run, deadline, counters};
 ghost use Rattle.model.specs.OnWords.{callOn};
+ghost use Rattle.model.specs.Asked.{shownAsked};
+ghost use Rattle.next.specs.NextStart.{startValues};
 ghost use Rattle.engine.specs.Seen.{seen};
 ghost use Rattle.engine.specs.Answers.{shown, shownCounters};
+ghost use Rattle.engine.specs.Asked.{nextStartOn};
 
 pub mod asked;
 mod handle;
 mod sets;
+mod starts;
 mod stored;
 
 // What a call answers; all but `counters`.
@@ -33,6 +38,12 @@ pub enum Answer {
 pub struct Counted {
     pub refusal: u32,
     pub values: [u32; 16],
+}
+
+// What `next_start` answers: the refusal's number or 0, and the next start.
+pub struct Started {
+    pub refusal: u32,
+    pub start: NextStart,
 }
 
 // A new store, whatever the words were.
@@ -150,4 +161,19 @@ pub fn counters(store: &[u32]) -> Counted
         return Counted { refusal: n, values };
     }
     stored::counters(store)
+}
+
+// What starts next by the wall clock, in the world of a snapshot.
+pub fn next_start(store: &[u32], snapshot: &[u32]) -> Started
+    ensures { λ r. ⌜ shownAsked (r .refusal) (startValues (r .start)) [] ≡ nextStartOn (now (snapshot .entry)) (now (store .entry)) ⌝ }
+{
+    let n = asked::refusal(store, snapshot);
+    if n != 0 {
+        return Started {
+            refusal: n,
+            start: NextStart::NoStart,
+        };
+    }
+    let start = starts::next_start(store, snapshot);
+    Started { refusal: 0, start }
 }

@@ -39,7 +39,7 @@ pub fn refusal(store: &[u32]) -> u32
 }
 
 // How many rules are loaded.
-fn rule_count(store: &[u32]) -> usize
+pub fn rule_count(store: &[u32]) -> usize
     requires { ⌜ present (read (now store)) ≡ true ⌝ }
     ensures { λ r. ⌜ (r ≤ 64) × ((s : Store) → read (now (store .entry)) ≡ some s → r ≡ ruleCount (s .loaded)) ⌝ }
 {

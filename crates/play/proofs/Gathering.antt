@@ -10,13 +10,14 @@ use mathlib.Core.Option.{none, some}
 use lib.ListN.{length, take, drop, getD, length-drop}
 use lib.Seq.{take-append-add, take-append-le, length-take-le}
 use Rattle.words.specs.Pairs.{joined}
+use Rattle.model.specs.Text.{bytesOf}
 use Rattle.script.specs.Put.{Puts, Prints}
 use Rattle.script.specs.Scan.{part}
 use Rattle.script.specs.Print.{numbers, line, refusedLine, deadlineLine}
 use Rattle.script.proofs.Putting.{printed}
 use Rattle.play.specs.declared.Columns.{Columns}
 use Rattle.play.specs.declared.Stream.{Stream}
-use Rattle.play.specs.Printed.{unlessRefused, deadlineOf, wordsAt, rowLine, rowLines, outcomeWith, outcomeLines}
+use Rattle.play.specs.Printed.{unlessRefused, deadlineOf, startText, wordsAt, rowLine, rowLines, outcomeWith, outcomeLines}
 use Rattle.play.specs.Gathered.{Gathers}
 
 pub gathers-none : (b : List ℕ) (o : Stream) → Gathers b o [] b o
@@ -97,6 +98,20 @@ module _ (b after : List ℕ) (o r : Stream) (answer : List ℕ) where
       → Gathers b o (deadlineLine (some time)) after r → Gathers b o (deadlineOf answer) after r
   unfolding deadlineOf
   gathers-deadline time h e g = rw (ne-eqb (getD answer 0 0) 0 h, ← e) g
+
+-- the next start, by its mark
+module _ (b after : List ℕ) (o r : Stream) (answer : List ℕ) (mark : ℕ) (e : mark ≡ getD answer 0 0) where
+  pub gathers-no-start : mark ≡ 0 → Gathers b o (bytesOf " none") after r → Gathers b o (startText answer) after r
+  unfolding startText
+  gathers-no-start h g = rw (← e, eq-eqb mark 0 h) g
+
+  pub gathers-start : mark ≡ 1 → Gathers b o (numbers (wordsAt answer 1 2)) after r → Gathers b o (startText answer) after r
+  unfolding startText
+  gathers-start h g = rw (← e, h) g
+
+  pub gathers-unknown : (mark ≡ 0 → ⊥) → (mark ≡ 1 → ⊥) → Gathers b o (bytesOf " unknown") after r → Gathers b o (startText answer) after r
+  unfolding startText
+  gathers-unknown h k g = rw (← e, ne-eqb mark 0 h, ne-eqb mark 1 k) g
 
 -- the place of a record fits
 pub row-place : (width i : ℕ) → width ≤ 64 → i ≤ 8589934592 → width * i ≤ 549755813888

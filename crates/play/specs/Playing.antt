@@ -8,6 +8,7 @@ use Rattle.model.specs.Calls.{Call, new, load, unload, enable, tick, run, deadl
 use Rattle.model.specs.OnWords.{callOn}
 use Rattle.model.specs.Asked.{Asked}
 use Rattle.model.specs.Crontab.{crontab}
+use Rattle.engine.specs.Asked.{nextStartOn}
 use Rattle.cerambiu.specs.Called.{Called, answered}
 use Rattle.cerambiu.specs.Told.{told, sending}
 use Rattle.script.specs.Table.{rows}
@@ -17,7 +18,7 @@ use Rattle.script.specs.declared.Line.the-variants.{Blank, Command, Bad}
 use Rattle.script.specs.declared.Wrong.the-variants.{LineTooLong}
 use Rattle.script.specs.Print.{peekLine, wrongLine}
 use Rattle.play.specs.declared.Settings.{Settings}
-use Rattle.play.specs.Printed.{callLines, toldLines, telegramLines, triggerLines}
+use Rattle.play.specs.Printed.{callLines, toldLines, telegramLines, triggerLines, startLines}
 
 -- ONE LINE ---------------------------------------------------------------------------------------------------------------------------
 -- the store's words after a line, and what is printed for it
@@ -35,6 +36,10 @@ calling n c w = record { store = seenOn n c w .store ++ drop n w; lines = callLi
 -- a call that asks, by its number; nothing changes
 abbrev pub asking : ℕ → (List ℕ → List ℕ → List ℕ) → Asked → List ℕ → Obeyed
 asking call lines a w = record { store = w; lines = toldLines call lines (told 16 a) }
+
+-- one that asks the first n words of the store
+abbrev pub askingStore : ℕ → ℕ → (List ℕ → List ℕ → List ℕ) → (List ℕ → Asked) → List ℕ → Obeyed
+askingStore n call lines a w = asking call lines (a (take n w)) w
 
 abbrev pub quiet : List ℕ → Obeyed
 quiet w = record { store = w; lines = [] }
@@ -57,6 +62,7 @@ doings os es t list text a b c d =
     ∷ (λ w. record { store = w; lines = peekLine a (getD w a 0) })
     ∷ asking 12 telegramLines (sending (min a es) list)
     ∷ asking 13 triggerLines (crontab text a (min b es))
+    ∷ askingStore (t .size) 14 startLines (nextStartOn list)
     ∷ []
 
 -- line number k

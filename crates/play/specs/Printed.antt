@@ -96,3 +96,12 @@ unfoldable pub triggerLines : List ℕ → List ℕ → List ℕ
 triggerLines answer ws =
     line (bytesOf "crontab") (numbers (wordsAt answer 0 1))
     ++ rowLines (bytesOf "trigger") (record { width = 8; from = 1; shown = 3 }) ws 0 (getD answer 0 0)
+
+-- "start none", "start unknown", or in how many minutes and which rule, by the answer's mark
+unfoldable pub startText : List ℕ → List ℕ
+startText answer =
+    pick (eqb (getD answer 0 0) 0) (bytesOf " none")
+    (pick (eqb (getD answer 0 0) 1) (numbers (wordsAt answer 1 2)) (bytesOf " unknown"))
+
+unfoldable pub startLines : List ℕ → List ℕ → List ℕ
+startLines answer lent = line (bytesOf "start") (startText answer)

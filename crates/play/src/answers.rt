@@ -7,7 +7,7 @@ ghost use Rattle.model.specs.World.{nowOf};
 ghost use Rattle.model.specs.Text.{bytesOf};
 ghost use Rattle.script.specs.Script.{pick};
 ghost use Rattle.script.specs.Print.{numbers, line, handledLine, enabledLine, peekLine, refusedLine};
-ghost use Rattle.play.specs.Printed.{wordsAt, rowLine, rowLines, effectLines, outcomeAt, outcomeWith, outcomeLines, handledLines, deadlineOf, telegramLines, triggerLines, unlessRefused};
+ghost use Rattle.play.specs.Printed.{wordsAt, rowLine, rowLines, effectLines, outcomeAt, outcomeWith, outcomeLines, handledLines, deadlineOf, telegramLines, triggerLines, startText, unlessRefused};
 ghost use Rattle.play.specs.Gathered.{Gathers};
 use crate::Columns;
 use crate::Stream;
@@ -273,4 +273,32 @@ pub fn crontab(
     let q = output::words(p, out, answer, 0, 1);
     let r = output::end(q, out);
     triggers_of(r, out, count, triggers)
+}
+
+// None, unknown, or minutes and rule, by the mark.
+fn start_text(o: Stream, out: &mut [u8], answer: &[u32]) -> Stream
+    requires { ⌜ 1024 ≤ length (now out) ⌝ }
+    ensures { λ r. ⌜ Gathers (now (out .entry)) o (startText (now (answer .entry))) (now (out .exit)) r ⌝ }
+{
+    let mark = fields::word(answer, 0);
+    if mark == 0 {
+        return output::text(o, out, b" none");
+    }
+    if mark == 1 {
+        return output::words(o, out, answer, 1, 2);
+    }
+    output::text(o, out, b" unknown")
+}
+
+// The next start.
+pub fn start(o: Stream, out: &mut [u8], call: u32, number: u32, answer: &[u32]) -> Stream
+    requires { ⌜ 1024 ≤ length (now out) ⌝ }
+    ensures { λ r. ⌜ Gathers (now (out .entry)) o (unlessRefused call number (line (bytesOf "start") (startText (now (answer .entry))))) (now (out .exit)) r ⌝ }
+{
+    if number != 0 {
+        return refused(o, out, call, number);
+    }
+    let p = output::text(o, out, b"start");
+    let q = start_text(p, out, answer);
+    output::end(q, out)
 }

@@ -1,12 +1,13 @@
 // A line's call is made on the store, and its answer printed.
 ghost use Prim.Native.Nat.{_≤_, min};
 ghost use mathlib.Core.Path.{_≡_};
-ghost use lib.ListN.{length, getD, set};
+ghost use lib.ListN.{length, getD, take, set};
 ghost use Rattle.model.specs.Calls as Calls;
 ghost use Rattle.model.specs.Crontab as Crontab;
+ghost use Rattle.engine.specs.Asked.{nextStartOn};
 ghost use Rattle.cerambiu.specs.Told.{told, sending};
 ghost use Rattle.script.specs.Print.{peekLine, largestOf};
-ghost use Rattle.play.specs.Printed.{toldLines, telegramLines, triggerLines};
+ghost use Rattle.play.specs.Printed.{toldLines, telegramLines, triggerLines, startLines};
 ghost use Rattle.play.specs.Playing.{calling, quiet, doings, obeyed};
 ghost use Rattle.play.specs.Gathered.{Gathers, Does};
 ghost use Rattle.play.specs.Played.{Lends, Ranged};
@@ -214,6 +215,16 @@ fn crontab(
     answers::crontab(o, out, calls::CRONTAB, number, &answer, &effects[..n])
 }
 
+fn start(o: Stream, size: usize, snapshot: &[u32], store: &[u32], out: &mut [u8]) -> Stream
+    requires { ⌜ 1024 ≤ length (now out) ⌝ }
+    ensures { λ r. ⌜ Gathers (now (out .entry)) o (toldLines 14 startLines (told 16 (nextStartOn (now (snapshot .entry)) (take size (now (store .entry)))))) (now (out .exit)) r ⌝ }
+{
+    let n = within(size, store);
+    let mut answer = [0u32; 16];
+    let number = cerambiu::cerambiu_next_start(&store[..n], snapshot, &mut answer);
+    answers::start(o, out, calls::START, number, &answer)
+}
+
 // A call of the table, with its numbers, the words of its list and the bytes of its text.
 fn command(
     o: Stream,
@@ -251,6 +262,7 @@ fn command(
         calls::PEEK => peek(o, a, store, out),
         calls::TELEGRAMS => telegrams(o, a as usize, list, effects, out),
         calls::CRONTAB => crontab(o, a as u32, b as usize, text, effects, out),
+        calls::START => start(o, t.size, list, store, out),
         _ => o,
     }
 }

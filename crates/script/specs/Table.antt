@@ -104,6 +104,7 @@ rows =
     ∷ row "peek" (place ∷ []) Nothing
     ∷ row "telegrams" (room ∷ []) Words
     ∷ row "crontab" (sunday ∷ triggerWords ∷ []) Text
+    ∷ row "start" [] Words
     ∷ []
 
 abbrev pub rowOf : List Row → ℕ → Row

@@ -38,6 +38,8 @@ pub const TELEGRAMS: u32 = 12;
 
 pub const CRONTAB: u32 = 13;
 
+pub const START: u32 = 14;
+
 // The parameters, by their numbers: as in `names`.
 const TIME: u32 = 0;
 
@@ -99,6 +101,7 @@ fn row(call: u32) -> Shape
         PEEK => Shape(PLACE, NONE, NONE, NONE, Tail::Nothing),
         TELEGRAMS => Shape(ROOM, NONE, NONE, NONE, Tail::Words),
         CRONTAB => Shape(SUNDAY, TRIGGER_WORDS, NONE, NONE, Tail::Text),
+        START => Shape(NONE, NONE, NONE, NONE, Tail::Words),
         _ => Shape(NONE, NONE, NONE, NONE, Tail::Nothing),
     }
 }

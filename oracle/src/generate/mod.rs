@@ -7,6 +7,7 @@ mod parts;
 pub mod probe;
 pub mod set_back;
 pub mod sharing;
+pub mod starts;
 mod world;
 
 use crate::build::{Action, Block, Image, Limits, Rule, Trigger};

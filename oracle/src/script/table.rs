@@ -2,6 +2,7 @@
 
 use crate::crontab;
 use crate::house::{Call, House};
+use crate::next_start;
 use crate::telegrams;
 
 /// The longest image or snapshot in words.
@@ -93,6 +94,14 @@ pub const ROWS: &[Row] = &[
         params: &[Param("Sunday", WORD), Param("number of trigger words", 16_384)],
         tail: Tail::Text,
         meaning: Meaning::Own(|_, given| crontab::answer(given)),
+    },
+    Row {
+        name: "start",
+        params: &[],
+        tail: Tail::Words,
+        meaning: Meaning::Own(|house, given| {
+            next_start::next_start(house, &given.list).map(|start| next_start::line(&start))
+        }),
     },
 ];
 

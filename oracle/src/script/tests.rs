@@ -136,7 +136,7 @@ fn a_call_and_its_line_are_each_other_back() {
     let lines = [
         "new 18446744073709551615", "load 1 2 3", "unload 0", "enable 5 1", "tick 1 2", "tick",
         "run 5 1 2 3", "deadline", "counters", "lend 6 5", "size 7", "poke 1 2", "peek 3",
-        "telegrams 8192 12 1 10 0 0", "crontab 6 16 0 5 * * 1-5 # up", "crontab 7 0",
+        "telegrams 8192 12 1 10 0 0", "crontab 6 16 0 5 * * 1-5 # up", "crontab 7 0", "start 1 2", "start",
     ];
     for text in lines {
         let call = parse(text).expect("good text").expect("a call");

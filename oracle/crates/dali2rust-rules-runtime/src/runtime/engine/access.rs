@@ -11,7 +11,10 @@ use super::world::WorldSnapshot;
 use super::Engine;
 
 pub(super) mod light;
+mod next_start;
 mod set_back;
+
+pub use next_start::{next_start, NextStart};
 
 /// What a store keeps of an engine, but for the set and the counters.
 #[derive(Clone, Debug, Default, PartialEq)]
