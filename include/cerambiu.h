@@ -14,8 +14,8 @@
  *             Stores of one call do not overlap. A store that is not const is written within its words only. A text is a pointer and its number of
  *             bytes.
  *   threads   Two calls may run at once if they share no store that either of them writes.
- *   stack     In bytes, at most, for every input, on x86-64: tick 37,704, load 35,208, run 30,616, next_deadline 30,552, enable 30,536,
- *             unload 30,520, counters 25,608, next_start 25,608, crontab 616, telegrams 88, new 40. The gate computes them from the machine code. The return address is in;
+ *   stack     In bytes, at most, for every input, on x86-64: tick 39,000, load 35,480, run 30,888, next_deadline 30,824, enable 30,808,
+ *             unload 30,792, counters 25,608, next_start 25,608, crontab 616, telegrams 88, new 40. The gate computes them from the machine code. The return address is in;
  *             not in: what memcpy, memmove and memset use, the arguments that the caller pushes, the dynamic linker, interrupts
  *             (docs/PERFORMANCE.md, "Stack").
  *   refusals  Each call returns 0, or the number of a refusal: the lowest that applies. A refused call has changed nothing: the store is as
@@ -52,7 +52,7 @@ extern "C" {
 #define CERAMBIU_IMAGE_MAX_WORDS 4096    /* .. to this */
 #define CERAMBIU_SNAPSHOT_HEAD_WORDS 14  /* a snapshot without rows .. */
 #define CERAMBIU_SNAPSHOT_MAX_WORDS 4430 /* .. and with all rows that its counts allow */
-#define CERAMBIU_OUTCOME_WORDS 6         /* one outcome; a lent store of n words holds n / 6 */
+#define CERAMBIU_OUTCOME_WORDS 8         /* one outcome; a lent store of n words holds n / 8 */
 #define CERAMBIU_EFFECT_WORDS 5          /* one effect; a lent store of n words holds n / 5 */
 #define CERAMBIU_TRIGGER_WORDS 8         /* one trigger of an image; a lent store of n words holds n / 8 */
 #define CERAMBIU_CRONTAB_MAX_TRIGGERS 1440 /* a line of a crontab has at most one for each minute of a day */
@@ -101,6 +101,7 @@ enum cerambiu_refusal {
     /* the host: tick and run */
     CERAMBIU_NO_ROOM = 30,       /* more outcomes or effects than the lent stores hold */
     CERAMBIU_NO_NUMBER = 31,     /* the call's continuations would take the next sequence number past 2^64 - 1 */
+    CERAMBIU_NO_ACTIVATION_NUMBER = 32, /* the call's activations would take the last activation number past 2^64 - 1 */
 
     /* who writes the line: crontab alone */
     CERAMBIU_CRONTAB_FORM = 50,  /* the line is not of the POSIX form, or Sunday's number is above 6 */
@@ -118,7 +119,7 @@ enum cerambiu_refusal {
  * inside. A store that was changed from outside is refused with 2 unless it still keeps every store rule. Words that are all 0 keep them: they are a
  * store without rules, so that 2 does not tell a store that was never made. What it holds: the last time, the
  * loaded image and its flat steps, rule bits, last activations, cycle positions, at most 16 variables, 16 timers, 64 Every slots and 32 pending
- * continuations, the previous week minute, the next sequence number, 12 counters. Places: docs/STORE.md.
+ * continuations, the previous week minute, the next sequence number, the last activation number, 12 counters. Places: docs/STORE.md.
  *
  * RULE IMAGE -------------------------------------------------------------------------------------------------------------------------
  *
@@ -282,7 +283,13 @@ enum cerambiu_trigger {
  *
  * An outcome is one activation or one resumption of a rule, in the order in which they ran:
  *
- *   rule name, dry mark, trigger (enum cerambiu_outcome_trigger), reason (enum cerambiu_reason), first effect, number of effects
+ *   rule name, dry mark, trigger (enum cerambiu_outcome_trigger), reason (enum cerambiu_reason), first effect, number of effects,
+ *   activation number, low word, high word
+ *
+ * Every wet activation that reaches its steps has a number: 1 for the first behind cerambiu_new, then one more each; load, unload, enable and refused
+ * calls leave the last one as it is. A resumption shows the number of its own activation, however many waits and afters lie between: so the first
+ * outcome that shows a number says which press, timer or schedule is behind all others that show it. Dry runs, and conditions that could not be
+ * decided, show 0. The effects of all outcomes that show one number are at most B(B - 1)/2 + 1, B the budget of the image loaded when it was given.
  *
  * The effects of all outcomes stand one behind the other in the effect store; "first effect" counts effects, not words. An effect is its kind and
  * four words, unused ones 0.
@@ -356,17 +363,18 @@ enum cerambiu_next_start_mark {
 uint32_t cerambiu_new(uint32_t *store, size_t store_words, uint64_t time);
 
 /* Loads the rules of an image. All continuations go; rule bits are those of the image; last activations, cycle positions and Every slots of rules that
- * stay by name (slots: by place and period too) are kept, and so are variables, timers and counters. Refusals: 1, 2, 10 to 17. */
+ * stay by name (slots: by place and period too) are kept, and so are variables, timers, counters and the last activation number.
+ * Refusals: 1, 2, 10 to 17. */
 uint32_t cerambiu_load(uint32_t *store, size_t store_words, uint64_t time, const uint32_t *image, size_t image_words);
 
-/* Takes the rules out. Variables, timers and counters stay. Refusals: 1, 2. */
+/* Takes the rules out. Variables, timers, counters and the last activation number stay. Refusals: 1, 2. */
 uint32_t cerambiu_unload(uint32_t *store, size_t store_words, uint64_t time);
 
 /* Switches a rule on or off; switched off, its continuations go. Answer: 1, or 0 where no loaded rule has this name. Refusals: 1, 2. */
 uint32_t cerambiu_enable(uint32_t *store, size_t store_words, uint32_t rule, bool on, uint32_t *answer, size_t answer_words);
 
 /* Lets the time of the snapshot come: continuations, timers, Every slots, wall schedules that are due by then, in this order. Without a set only the
- * time is taken. Answer: number of outcomes, number of effects. Refusals: 1, 2, 20 to 22, 30, 31. */
+ * time is taken. Answer: number of outcomes, number of effects. Refusals: 1, 2, 20 to 22, 30 to 32. */
 uint32_t cerambiu_tick(uint32_t *store, size_t store_words, const uint32_t *snapshot, size_t snapshot_words, uint32_t *outcomes,
                        size_t outcome_words, uint32_t *effects, size_t effect_words, uint32_t *answer, size_t answer_words);
 

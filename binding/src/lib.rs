@@ -5,7 +5,7 @@
 pub mod words;
 
 pub const STORE_WORDS: usize = 16_384;
-pub const OUTCOME_WORDS: usize = 6;
+pub const OUTCOME_WORDS: usize = 8;
 pub const EFFECT_WORDS: usize = 5;
 pub const TRIGGER_WORDS: usize = 8;
 pub const COUNTERS: usize = 16;
@@ -138,12 +138,12 @@ mod tests {
 
     #[test]
     fn the_example_of_document_01() {
-        let (mut store, mut outcomes, mut effects) = ([u32::MAX; STORE_WORDS], [1; 12], [1; 10]);
+        let (mut store, mut outcomes, mut effects) = ([u32::MAX; STORE_WORDS], [1; 16], [1; 10]);
         assert_eq!(new(&mut store, 0), Ok(()));
         assert_eq!(load(&mut store, 0, &IMAGE), Ok(()));
         let ran = run(&mut store, 5, false, &snapshot(0), &mut outcomes, &mut effects);
         assert_eq!(ran, Ok(Handled { outcomes: 1, effects: 1 }));
-        assert_eq!(outcomes, [5, 0, 0, 0, 0, 1, 0, 0, 0, 0, 0, 0]);
+        assert_eq!(outcomes, [5, 0, 0, 0, 0, 1, 1, 0, 0, 0, 0, 0, 0, 0, 0, 0]);
         assert_eq!(effects, [11, 7, 0, 0, 0, 0, 0, 0, 0, 0]);
         assert_eq!(next_deadline(&store), Ok(Some(1000)));
         let early = tick(&mut store, &snapshot(999), &mut outcomes, &mut effects);

@@ -56,6 +56,14 @@ impl Player {
         self.house.shows_chain()
     }
 
+    /// The Rust's count of wet activations.
+    pub fn activations_total(&mut self) -> Option<u32> {
+        match self.house.call(&Call::Counters) {
+            Answer::Counters(counters) => Some(counters[0]),
+            _ => None,
+        }
+    }
+
     /// Whether the loaded set is one that fits only by sharing (document 02, request 8).
     pub fn fits_by_sharing(&self) -> bool {
         self.by_sharing
@@ -91,10 +99,11 @@ impl Player {
             variables: kept.vars.iter().map(|(name, value)| variable(name, value)).collect(),
             timers: kept.timers.iter().map(|(name, due)| Timer { name: number(name), due: *due }).collect(),
             slots: slots(&kept),
-            pending: kept.pending.iter().map(pending).collect(),
+            pending: kept.pending.iter().map(|held| pending(held, self.house.last_number())).collect(),
             bits: kept.enabled,
             week_minute: kept.prev_week_min,
             next,
+            last_number: self.house.last_number(),
             counters: std::array::from_fn(|place| counters[place]),
         };
         Some((store, places))
@@ -119,7 +128,8 @@ fn slots(kept: &Kept) -> Vec<Slot> {
     kept.every.iter().map(slot).collect()
 }
 
-fn pending(held: &KeptPending) -> Pending {
+/// The Rust numbers no activations: a number that was given, the first or the last.
+fn pending(held: &KeptPending, last_number: u64) -> Pending {
     let (list, place, jump) = held.places.first().map_or((u32::MAX, 0, None), place_of);
     Pending {
         seq: held.seq,
@@ -130,6 +140,7 @@ fn pending(held: &KeptPending) -> Pending {
         jump,
         budget: held.budget_left,
         trigger: house::trigger_code(held.trigger_kind),
+        number: if held.seq % 2 == 0 { last_number } else { 1 },
     }
 }
 

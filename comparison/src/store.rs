@@ -10,6 +10,7 @@ pub const MOST_VARIABLES: usize = 16;
 pub const MOST_TIMERS: usize = 16;
 pub const MOST_SLOTS: usize = 64;
 pub const MOST_PENDING: usize = 32;
+pub const PENDING_WORDS: usize = 15;
 
 #[derive(Clone, Debug, Default, PartialEq)]
 pub struct Store {
@@ -26,6 +27,8 @@ pub struct Store {
     pub pending: Vec<Pending>,
     pub week_minute: Option<u32>,
     pub next: u64,
+    /// The last activation number given.
+    pub last_number: u64,
     pub counters: [u32; 12],
 }
 
@@ -66,6 +69,8 @@ pub struct Pending {
     pub jump: Option<(u32, u32)>,
     pub budget: u32,
     pub trigger: u32,
+    /// Of its activation.
+    pub number: u64,
 }
 
 impl Store {
@@ -79,9 +84,10 @@ impl Store {
         out.counted(MOST_VARIABLES, 4, self.variables.iter().map(variable));
         out.counted(MOST_TIMERS, 3, self.timers.iter().map(timer));
         out.counted(MOST_SLOTS, 5, self.slots.iter().map(slot));
-        out.counted(MOST_PENDING, 13, self.pending.iter().map(pending));
+        out.counted(MOST_PENDING, PENDING_WORDS, self.pending.iter().map(pending));
         out.words.extend(marked(self.week_minute.map(|minute| [minute])));
         out.wide(self.next);
+        out.wide(self.last_number);
         out.words.extend(self.counters);
         out.words.resize(WORDS, 0);
         out.words
@@ -160,6 +166,8 @@ fn pending(held: &Pending) -> Vec<u32> {
     let mut row = [pair(held.seq), pair(held.due)].concat();
     row.extend([held.rule, held.list, held.place]);
     row.extend(marked(held.jump.map(|(at, to)| [at, to])));
-    row.extend([held.budget, held.trigger, 0]);
+    row.extend([held.budget, held.trigger]);
+    row.extend(pair(held.number));
+    row.push(0);
     row
 }

@@ -5,7 +5,7 @@ use oracle::check;
 use crate::flat_form::{self, Lists, Step, BRANCH};
 use crate::store::{
     list_rows, Pending, Slot, Store, Timer, Value, Variable, MOST_IMAGE, MOST_PENDING, MOST_SLOTS, MOST_STEPS,
-    MOST_TIMERS, MOST_VARIABLES, RULES, WORDS,
+    MOST_TIMERS, MOST_VARIABLES, PENDING_WORDS, RULES, WORDS,
 };
 use crate::tables::{Tables, TRIGGERS};
 
@@ -35,10 +35,11 @@ pub enum Broken {
     PendingBudget,
     SequenceTwice,
     SequenceNotBelow,
+    NumberNotGiven,
 }
 
 impl Broken {
-    pub const ALL: [Broken; 23] = [
+    pub const ALL: [Broken; 24] = [
         Broken::Size,
         Broken::Loaded,
         Broken::Count,
@@ -62,6 +63,7 @@ impl Broken {
         Broken::PendingBudget,
         Broken::SequenceTwice,
         Broken::SequenceNotBelow,
+        Broken::NumberNotGiven,
     ];
 
     /// Document 01's words.
@@ -90,6 +92,7 @@ impl Broken {
             Broken::PendingBudget => "its budget is below B",
             Broken::SequenceTwice => "its sequence number is distinct",
             Broken::SequenceNotBelow => "its sequence number is below the next",
+            Broken::NumberNotGiven => "its number is at least 1 and at most the last one given",
         }
     }
 }
@@ -114,6 +117,7 @@ pub fn read(words: &[u32]) -> Result<Store, Broken> {
         pending_fits(held, &store, &names, &lists)?;
     }
     sequence_numbers(&store)?;
+    ask(store.pending.iter().all(|held| (1..=store.last_number).contains(&held.number)), Broken::NumberNotGiven)?;
     Ok(store)
 }
 
@@ -140,6 +144,7 @@ struct Parts<'a> {
     pending: &'a [u32],
     week_minute: Option<u32>,
     next: u64,
+    last_number: u64,
     counters: &'a [u32],
 }
 
@@ -203,17 +208,18 @@ fn shape(words: &[u32]) -> Result<Parts<'_>, Broken> {
     ask(variables.chunks(4).all(|row| row[1] <= 1), Broken::Mark)?;
     let timers = cursor.counted(MOST_TIMERS, 3)?;
     let slots = cursor.counted(MOST_SLOTS, 5)?;
-    let pending = cursor.counted(MOST_PENDING, 13)?;
-    pending.chunks(13).try_for_each(pending_words_fit)?;
+    let pending = cursor.counted(MOST_PENDING, PENDING_WORDS)?;
+    pending.chunks(PENDING_WORDS).try_for_each(pending_words_fit)?;
     let week_minute = marked(cursor.take(2))?.map(|words| words[0]);
     ask(week_minute.is_none_or(|minute| minute < 10_080), Broken::WeekMinute)?;
     let next = cursor.wide();
+    let last_number = cursor.wide();
     let counters = cursor.take(12);
     ask(zeros(cursor.rest), Broken::Unused)?;
     let loaded = loaded == 1;
     Ok(Parts {
         last, loaded, image, lists, steps, bits, activations, positions, variables, timers, slots, pending, week_minute,
-        next, counters,
+        next, last_number, counters,
     })
 }
 
@@ -225,7 +231,7 @@ fn position_fits(row: &[u32]) -> Result<(), Broken> {
 fn pending_words_fit(row: &[u32]) -> Result<(), Broken> {
     marked(&row[7..10])?;
     ask(row[11] <= 4, Broken::Trigger)?;
-    ask(row[12] == 0, Broken::Event)
+    ask(row[14] == 0, Broken::Event)
 }
 
 // THE SET ------------------------------------------------------------------------------------------------------------------------
@@ -271,9 +277,10 @@ impl<'a> Parts<'a> {
             variables: self.variables.chunks(4).map(variable).collect(),
             timers: self.timers.chunks(3).map(|row| Timer { name: row[0], due: wide(&row[1..]) }).collect(),
             slots: self.slots.chunks(5).map(slot).collect(),
-            pending: self.pending.chunks(13).map(pending).collect(),
+            pending: self.pending.chunks(PENDING_WORDS).map(pending).collect(),
             week_minute: self.week_minute,
             next: self.next,
+            last_number: self.last_number,
             counters: std::array::from_fn(|place| self.counters[place]),
         })
     }
@@ -301,6 +308,7 @@ fn pending(row: &[u32]) -> Pending {
         jump: (row[7] == 1).then_some((row[8], row[9])),
         budget: row[10],
         trigger: row[11],
+        number: wide(&row[12..]),
     }
 }
 

@@ -12,12 +12,14 @@ use crate::script::{self, Given};
 use crate::{check, decode};
 
 const STORE_WORDS: u32 = 16_384;
-const OUTCOME_WORDS: u32 = 6;
+const OUTCOME_WORDS: u32 = 8;
 const EFFECT_WORDS: u32 = 5;
-/// Places of the next sequence number, low and high word (docs/STORE.md). The oracle keeps no
-/// other store word.
-const NEXT_LOW: u32 = 13_659;
-const NEXT_HIGH: u32 = 13_660;
+/// Places of the next sequence number and of the last activation number, low and high word (docs/STORE.md). The oracle keeps no other
+/// store word.
+const NEXT_LOW: u32 = 13_723;
+pub(crate) const NEXT_HIGH: u32 = 13_724;
+const LAST_LOW: u32 = 13_725;
+pub(crate) const LAST_HIGH: u32 = 13_726;
 /// The next sequence number of a new store.
 const FIRST_NUMBER: u64 = 1;
 
@@ -72,6 +74,8 @@ pub struct House {
     /// The store's next sequence number: `new` sets it, each accepted continuation adds 1, load
     /// and unload keep it.
     next: u64,
+    /// The last activation number given (document 02, request 6): 0 in a new store, each wet activation that begins adds 1.
+    last: u64,
     size: u32,
     outcome_words: u32,
     effect_words: u32,
@@ -95,8 +99,9 @@ impl House {
             engine: Engine::new(0),
             limits: Limits::NONE,
             next: FIRST_NUMBER,
+            last: 0,
             size: STORE_WORDS,
-            outcome_words: OUTCOME_WORDS * 4_096,
+            outcome_words: OUTCOME_WORDS * 3_072,
             effect_words: EFFECT_WORDS * 65_536,
             set_back: false,
             chained: false,
@@ -127,6 +132,12 @@ impl House {
     pub fn kept(&self) -> (Kept, u64) {
         limits::set(self.limits);
         (self.engine.kept(), self.next)
+    }
+
+    /// The last activation number. The Rust numbers no activations: it counts them.
+    #[must_use]
+    pub fn last_number(&self) -> u64 {
+        self.last
     }
 
     pub fn call(&mut self, call: &Call) -> Answer {
@@ -163,7 +174,7 @@ impl House {
         match call {
             Call::New { time } => {
                 self.engine = Engine::new(*time);
-                self.next = FIRST_NUMBER;
+                (self.next, self.last) = (FIRST_NUMBER, 0);
                 Answer::Silent
             }
             Call::Load { time, image } => self.load(*time, image),
@@ -219,7 +230,7 @@ impl House {
         Answer::Silent
     }
 
-    /// 30 and 31 are known only after the work, so it is done on a copy.
+    /// 30, 31 and 32 are known only after the work, so it is done on a copy.
     fn handle(&mut self, input: EngineInput<'_>, snapshot: &[u32]) -> Answer {
         if let Some(number) = check::snapshot_refusal(snapshot) {
             return Answer::Refused(number);
@@ -227,20 +238,24 @@ impl House {
         let world = decode::world(snapshot);
         limits::set(self.limits);
         let mut engine = self.engine.clone();
-        let before = engine.counters().continuations_scheduled;
+        let before = engine.counters();
         self.set_back |= engine.is_set_back(&input, &world);
         let outcomes = engine.handle_set_back(input, &world);
         self.chained = outcomes.iter().any(|outcome| outcome.partial == Some(PartialReason::ChainDepth));
-        let after = engine.counters().continuations_scheduled;
+        let after = engine.counters();
         if !self.room_for(&outcomes) {
             return Answer::Refused(30);
         }
-        let accepted = u64::from(after.saturating_sub(before));
-        let Some(next) = self.next.checked_add(accepted) else {
+        let accepted = after.continuations_scheduled.saturating_sub(before.continuations_scheduled);
+        let Some(next) = self.next.checked_add(u64::from(accepted)) else {
             return Answer::Refused(31);
         };
+        let begun = after.activations_total.saturating_sub(before.activations_total);
+        let Some(last) = self.last.checked_add(u64::from(begun)) else {
+            return Answer::Refused(32);
+        };
         self.engine = engine;
-        self.next = next;
+        (self.next, self.last) = (next, last);
         Answer::Outcomes {
             time: world.now_ms,
             list: outcomes.iter().map(outcome_words).collect(),
@@ -254,11 +269,14 @@ impl House {
     }
 
     fn poke(&mut self, place: u32, word: u32) -> Answer {
-        let (low, high) = (self.next as u32, (self.next >> 32) as u32);
-        self.next = match place {
-            NEXT_LOW => decode::pair(word, high),
-            NEXT_HIGH => decode::pair(low, word),
+        let number = match place {
+            NEXT_LOW | NEXT_HIGH => &mut self.next,
+            LAST_LOW | LAST_HIGH => &mut self.last,
             _ => return Answer::Unsupported(format!("poke {place}")),
+        };
+        *number = match place {
+            NEXT_LOW | LAST_LOW => decode::pair(word, (*number >> 32) as u32),
+            _ => decode::pair(*number as u32, word),
         };
         Answer::Silent
     }
@@ -267,6 +285,8 @@ impl House {
         match place {
             NEXT_LOW => Answer::Word(self.next as u32),
             NEXT_HIGH => Answer::Word((self.next >> 32) as u32),
+            LAST_LOW => Answer::Word(self.last as u32),
+            LAST_HIGH => Answer::Word((self.last >> 32) as u32),
             _ => Answer::Unsupported(format!("peek {place}")),
         }
     }

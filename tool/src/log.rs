@@ -108,6 +108,7 @@ pub fn refusal(number: u32) -> &'static str {
         22 => "two rows of the snapshot have one address",
         30 => "more outcomes or effects than there is room for",
         31 => "the numbers of continuations are used up",
+        32 => "the numbers of activations are used up",
         _ => "no refusal that this version knows",
     }
 }

@@ -67,13 +67,14 @@ impl<'a> Teller<'a> {
         let mut text = String::new();
         let last = self.state.last();
         let mut held: Vec<Pending> = self.state.pending().collect();
-        held.sort_by_key(|held| (held.due, held.number));
+        held.sort_by_key(|held| (held.due, held.sequence));
         for held in &held {
             let _ = writeln!(
                 text,
-                "waits: rule {} ({}), {} (at {} ms), then: {}; budget left {}",
+                "waits: rule {} ({}, activation {}), {} (at {} ms), then: {}; budget left {}",
                 self.book.name(Sort::Rule, held.rule),
                 TRIGGERS.get(held.trigger as usize).unwrap_or(&"?"),
+                held.number,
                 from_now(held.due, last),
                 held.due,
                 self.next_steps(held),

@@ -18,11 +18,12 @@ pub const VARIABLES: usize = 12_805;
 pub const TIMERS: usize = 12_870;
 pub const SLOTS: usize = 12_919;
 pub const PENDING: usize = 13_240;
-pub const PENDING_WORDS: usize = 13;
-pub const WEEK_MINUTE: usize = 13_657;
-pub const NEXT: usize = 13_659;
-pub const COUNTERS: usize = 13_661;
-pub const UNUSED: usize = 13_673;
+pub const PENDING_WORDS: usize = 15;
+pub const WEEK_MINUTE: usize = 13_721;
+pub const NEXT: usize = 13_723;
+pub const LAST_NUMBER: usize = 13_725;
+pub const COUNTERS: usize = 13_727;
+pub const UNUSED: usize = 13_739;
 
 /// A counted table: the place of its count, its most rows, the words of a row.
 #[derive(Clone, Copy)]
@@ -72,7 +73,7 @@ pub const COUNTER_NAMES: [&str; 16] = [
 
 #[derive(Clone, Copy, Debug)]
 pub struct Pending {
-    pub number: u64,
+    pub sequence: u64,
     pub due: u64,
     pub rule: u32,
     pub list: u32,
@@ -80,6 +81,8 @@ pub struct Pending {
     pub jump: Option<(u32, u32)>,
     pub budget: u32,
     pub trigger: u32,
+    /// Of the activation that it belongs to.
+    pub number: u64,
 }
 
 /// What a store holds beside its image, of one that keeps the store rules.
@@ -137,7 +140,7 @@ impl<'a> State<'a> {
 
     pub fn pending(&self) -> impl Iterator<Item = Pending> + 'a {
         self.rows(5).map(|row| Pending {
-            number: wide(row[0], row[1]),
+            sequence: wide(row[0], row[1]),
             due: wide(row[2], row[3]),
             rule: row[4],
             list: row[5],
@@ -145,6 +148,7 @@ impl<'a> State<'a> {
             jump: (row[7] == 1).then_some((row[8], row[9])),
             budget: row[10],
             trigger: row[11],
+            number: wide(row[12], row[13]),
         })
     }
 
@@ -152,8 +156,13 @@ impl<'a> State<'a> {
         (self.words[WEEK_MINUTE] == 1).then(|| self.words[WEEK_MINUTE + 1])
     }
 
-    pub fn next_number(&self) -> u64 {
+    pub fn next_sequence(&self) -> u64 {
         wide(self.words[NEXT], self.words[NEXT + 1])
+    }
+
+    /// The last activation number given.
+    pub fn last_number(&self) -> u64 {
+        wide(self.words[LAST_NUMBER], self.words[LAST_NUMBER + 1])
     }
 
     pub fn counters(&self) -> &'a [u32] {

@@ -106,7 +106,7 @@ fn a_store_is_shown_watched_and_explained() {
     let mut store = common::new_store();
     cerambiu::load(&mut store, 0, &words).expect("loaded");
     let snapshot = |now: u32, minute: u32| [now, 0, 1, 0, minute, 1, 420, 1_020, 1, 0, 0, 0, 0, 0];
-    let (mut outcomes, mut effects) = ([0; 60], [0; 60]);
+    let (mut outcomes, mut effects) = ([0; 80], [0; 60]);
     cerambiu::tick(&mut store, &snapshot(0, 299), &mut outcomes, &mut effects).expect("ticked");
     cerambiu::tick(&mut store, &snapshot(60_000, 300), &mut outcomes, &mut effects).expect("ticked");
     let path = folder.join("house.store").to_string_lossy().into_owned();
@@ -116,7 +116,7 @@ fn a_store_is_shown_watched_and_explained() {
     save(&store);
     let (status, out, _) = texts(&barn(&["watch", &path]));
     assert_eq!(status, 0);
-    assert!(out.contains("waits: rule morning (at time), in 15 min (at 960000 ms), then: `light house full`; budget left 30"), "{out}");
+    assert!(out.contains("waits: rule morning (at time, activation 1), in 15 min (at 960000 ms), then: `light house full`; budget left 30"), "{out}");
     assert!(out.contains("next start by the clock: rule morning, tuesday 05:00, in 24 h"), "{out}");
     let (status, out, _) = texts(&barn(&["show", &path]));
     assert_eq!(status, 0);

@@ -113,7 +113,7 @@ fn images_and_snapshots() {
 fn stores() {
     let mut tally = Tally::default();
     let mut random = Random::new(11);
-    let (mut outcomes, mut effects) = (vec![0; 6 * 1_184], vec![0; 5 * 65_536]);
+    let (mut outcomes, mut effects) = (vec![0; 8 * 1_184], vec![0; 5 * 65_536]);
     let mut seed = 0;
     let mut changed_and_good = 0;
     while tally.total() < STORES {

@@ -7,7 +7,7 @@ use super::house::{expected, House, Lent, Seen};
 use super::starts;
 use super::tally::Tally;
 use crate::kept::{Place, Player};
-use crate::store::{Store, WORDS};
+use crate::store::{Store, PENDING_WORDS, WORDS};
 
 /// What a fresh house of the oracle lends.
 const LARGE: Lent = Lent { answer: 0, outcomes: 24_576, effects: 327_680 };
@@ -15,8 +15,9 @@ const LARGE: Lent = Lent { answer: 0, outcomes: 24_576, effects: 327_680 };
 const VARIABLES: usize = 12_805;
 const VARIABLE_WORDS: usize = 4;
 const PENDING: usize = 13_240;
-const PENDING_WORDS: usize = 13;
-const COUNTERS: std::ops::Range<usize> = 13_661..13_673;
+const NUMBER: usize = 12;
+const LAST_NUMBER: usize = 13_725;
+const COUNTERS: std::ops::Range<usize> = 13_727..13_739;
 
 /// Why a history stops.
 pub type Difference = String;
@@ -29,6 +30,8 @@ pub struct Both<'a> {
     ahead: Vec<(u64, u64)>,
     /// What the store's counters are ahead, up to the greatest word: a history can start with counters that are nearly full.
     counted: u32,
+    /// Whether a script has written the last activation number.
+    renumbered: bool,
     random: Random,
     tally: &'a mut Tally,
     /// Whether a set was loaded that fits only by sharing.
@@ -41,7 +44,7 @@ impl<'a> Both<'a> {
         let mut random = Random::new(seed);
         let counted = if random.once_in(8) { u32::MAX - random.below(8) } else { 0 };
         let ahead = vec![(0, 0)];
-        let mut both = Both { player, house, lent: LARGE, ahead, counted, random, tally, shares: false };
+        let mut both = Both { player, house, lent: LARGE, ahead, counted, renumbered: false, random, tally, shares: false };
         both.fill_counters();
         both
     }
@@ -83,8 +86,9 @@ impl<'a> Both<'a> {
         Ok(())
     }
 
-    /// Writes a word of the next sequence number.
+    /// Writes a word of the next sequence number or of the last activation number.
     fn poke(&mut self, place: u32, word: u32) -> Result<(), Difference> {
+        self.renumbered |= place as usize >= LAST_NUMBER;
         let next = |player: &mut Player| player.store().map_or(0, |store| store.next);
         let before = next(&mut self.player);
         self.player.call(&Call::Poke { place, word });
@@ -148,7 +152,8 @@ impl<'a> Both<'a> {
         } else if starts::snapshot(call).is_none() {
             self.tally.wheel(self.player.is_set_back());
         }
-        ask(seen == wanted, || first_difference(call, &seen, &wanted))?;
+        let shown = without_numbers(&seen);
+        ask(shown == wanted, || first_difference(call, &shown, &wanted))?;
         if matches!(answer, Answer::Refused(_) | Answer::Deadline(_) | Answer::Counters(_) | Answer::Own(_)) {
             return ask(self.house.store == before, || format!("{call:?}: the store is changed"));
         }
@@ -162,12 +167,14 @@ impl<'a> Both<'a> {
         };
         if matches!(call, Call::New { .. }) {
             self.ahead = vec![(0, 0)];
+            self.renumbered = false;
         } else {
             store.counters = store.counters.map(|counter| counter.saturating_add(self.counted));
         }
         for held in &mut store.pending {
             held.seq = self.number(held.seq);
         }
+        self.numbers(call, store.last_number)?;
         let words = &self.house.store;
         self.tally.keep(&store);
         if !matches!(call, Call::New { .. }) {
@@ -183,10 +190,20 @@ impl<'a> Both<'a> {
         })
     }
 
+    /// Document 02, request 6: the Rust numbers no activations. From a new store on the last number is its count of them.
+    fn numbers(&mut self, call: &Call, last: u64) -> Result<(), Difference> {
+        if self.renumbered {
+            return Ok(());
+        }
+        self.tally.numbered += 1;
+        let counted = self.player.activations_total().map(u64::from);
+        ask(counted == Some(last), || format!("{call:?}: the last number is {last}, activations_total of the Rust {counted:?}"))
+    }
+
     /// Room for the answer: exactly what a script lends, else enough and little more.
     fn room(&mut self, answer: &Answer) -> Lent {
         let words = self.random.below(20) as usize;
-        if self.lent.outcomes < LARGE.outcomes || matches!(answer, Answer::Refused(30 | 31)) {
+        if self.lent.outcomes < LARGE.outcomes || matches!(answer, Answer::Refused(30..=32)) {
             return Lent { answer: words, ..self.lent };
         }
         let (outcomes, effects) = match answer {
@@ -213,6 +230,15 @@ impl<'a> Both<'a> {
             _ => Some(Lent { answer: 2, outcomes, effects: effects - 1 }),
         }
     }
+}
+
+/// The Rust numbers no activations: outcomes are compared without their last two words.
+fn without_numbers(seen: &Seen) -> Seen {
+    let mut shown = seen.clone();
+    for outcome in shown.outcomes.chunks_exact_mut(cerambiu::OUTCOME_WORDS) {
+        outcome[6..].fill(0);
+    }
+    shown
 }
 
 fn ask(holds: bool, text: impl FnOnce() -> Difference) -> Result<(), Difference> {
@@ -249,7 +275,7 @@ fn variable_names(words: &[u32]) -> Vec<u32> {
 }
 
 /// The Rust keeps variables by name, and the steps of a continuation in place of list, place and jump. A store has variables as they came,
-/// and of the places in the Rust's lists from which those steps are left the one that was reached.
+/// and of the places in the Rust's lists from which those steps are left the one that was reached. The numbers of activations are the store's.
 fn arrange(store: &mut Store, places: &[Vec<Place>], words: &[u32]) {
     let names = variable_names(words);
     store.variables.sort_by_key(|variable| names.iter().position(|name| *name == variable.name));
@@ -259,5 +285,6 @@ fn arrange(store: &mut Store, places: &[Vec<Place>], words: &[u32]) {
         if places.contains(&found) {
             (held.list, held.place, held.jump) = found;
         }
+        held.number = u64::from(row[NUMBER + 1]) << 32 | u64::from(row[NUMBER]);
     }
 }

@@ -96,7 +96,8 @@ pub fn number(store: &mut [u32], call: &Call, answer: &mut [u32], outcomes: &mut
     }
 }
 
-/// What the answer of a call must look like: document 01's number, its values, and zeros behind them.
+/// What the answer of a call must look like: document 01's number, its values, and zeros behind them. Outcomes have 0 for their activation
+/// number, which the Rust does not have.
 pub fn expected(call: &Call, answer: &Answer, lent: Lent) -> Seen {
     let number = match answer {
         Answer::Refused(number) => *number,
@@ -107,7 +108,7 @@ pub fn expected(call: &Call, answer: &Answer, lent: Lent) -> Seen {
         for outcome in list {
             let first = effects.len() / cerambiu::EFFECT_WORDS;
             outcomes.extend([outcome.rule, outcome.dry, outcome.trigger, outcome.reason]);
-            outcomes.extend([first as u32, outcome.effects.len() as u32]);
+            outcomes.extend([first as u32, outcome.effects.len() as u32, 0, 0]);
             effects.extend(outcome.effects.iter().flatten());
         }
     }

@@ -12,7 +12,8 @@
 //!
 //! Of each call: number, values, outcomes, effects, all words of the store, and that a refusal changed nothing and left zeros. Behind each the
 //! Rust is asked whether its memory of chains shows, in its counter, a reason or the depth of a continuation (document 02's request 9): that
-//! would be a difference too. Prints each difference, the counts, and what was met; its status is 1 if there is a difference or a cell that
+//! would be a difference too. Of the numbers of activations, which the Rust has not (request 6), the last one is held to its
+//! `activations_total`. Prints each difference, the counts, and what was met; its status is 1 if there is a difference or a cell that
 //! can be reached is empty.
 
 mod both;
@@ -193,7 +194,8 @@ impl Calls {
     fn report(&self) -> bool {
         let whole = self.tally.report() && !self.empty;
         let calls = format!("calls: {} calls, {} differences", self.tally.calls, self.differences);
-        println!("{calls}; {}; {}; {}; {}", self.tally.wheels(), self.tally.percents(), self.tally.sharing(), self.tally.chains());
+        let [wheels, percents, sharing] = [self.tally.wheels(), self.tally.percents(), self.tally.sharing()];
+        println!("{calls}; {wheels}; {percents}; {sharing}; {}; {}", self.tally.chains(), self.tally.numbered());
         whole && self.differences == 0
     }
 }

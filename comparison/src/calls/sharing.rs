@@ -2,11 +2,10 @@
 
 use oracle::house::{Answer, Call};
 
-use crate::store::MOST_PENDING;
+use crate::store::{MOST_PENDING, PENDING_WORDS};
 
 /// Places of the pending records: docs/STORE.md.
 const PENDING: usize = 13_240;
-const PENDING_WORDS: usize = 13;
 const RULE: usize = 4;
 const LIST: usize = 5;
 const PLACE: usize = 6;

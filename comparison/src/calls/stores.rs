@@ -17,7 +17,7 @@ use crate::good_stores;
 use crate::store::{Store, WORDS};
 use crate::store_reader::{self, Broken};
 
-const LENT: Lent = Lent { answer: 16, outcomes: 60, effects: 55 };
+const LENT: Lent = Lent { answer: 16, outcomes: 80, effects: 55 };
 
 /// The calls that look at the store's rules.
 fn eight(random: &mut Random) -> [Call; 8] {
@@ -78,7 +78,7 @@ impl<'a> Stores<'a> {
                 0 => self.random.below(WORDS as u32),
                 1 => self.random.below(200),
                 2 => self.random.from_to(4_100, 4_300),
-                _ => self.random.from_to(12_421, 13_672),
+                _ => self.random.from_to(12_421, 13_738),
             } as usize;
             let was = words[place];
             let any = self.random.word();

@@ -39,7 +39,7 @@ fn refusals(call: usize) -> Vec<u32> {
     let more: &[u32] = match CALLS[call] {
         "new" => return vec![0, 1],
         "load" => &[10, 11, 12, 13, 14, 15, 16, 17],
-        "tick" | "run" => &[20, 21, 22, 30, 31],
+        "tick" | "run" => &[20, 21, 22, 30, 31, 32],
         "start" => &[20, 21, 22],
         _ => &[],
     };
@@ -70,6 +70,8 @@ pub struct Tally {
     pub percents: u64,
     /// How often the Rust was asked whether it shows a chain of rules (document 02, request 9).
     pub chains: u64,
+    /// How often the last activation number was compared with the Rust's `activations_total` (document 02, request 6).
+    pub numbered: u64,
     /// Sets that fit only by sharing.
     pub sharing: Sharing,
     pub starts: Starts,
@@ -127,6 +129,10 @@ impl Tally {
         format!("the Rust asked {} times for a chain of rules", self.chains)
     }
 
+    pub fn numbered(&self) -> String {
+        format!("{} last numbers are the Rust's activations_total", self.numbered)
+    }
+
     pub fn sharing(&self) -> String {
         format!("{} histories load a set that fits only by sharing", self.sharing.histories)
     }
@@ -164,7 +170,7 @@ impl Tally {
         empty += row("said", SAID.iter().map(said));
         empty += row("outcomes", [("all".to_owned(), self.outcomes), ("dry".to_owned(), self.dry)].into_iter());
         empty += named_row("wheel", &WHEELS, &self.wheels);
-        empty += usize::from(self.percents == 0) + usize::from(self.chains == 0);
+        empty += usize::from(self.percents == 0) + usize::from(self.chains == 0) + usize::from(self.numbered == 0);
         empty += named_row("sharing", &sharing::CELLS, &self.sharing.counts);
         empty += named_row("starts", &starts::CELLS, &self.starts.counts);
         empty += usize::from(self.sharing.histories <= sharing::LEAST);

@@ -13,7 +13,7 @@ use crate::store::WORDS;
 const RULE: u32 = 5;
 const STEPS: usize = 200;
 const MOST_TIMES: f64 = 2.0;
-const LENT: Lent = Lent { answer: 2, outcomes: 6, effects: 5 * 256 };
+const LENT: Lent = Lent { answer: 2, outcomes: 8, effects: 5 * 256 };
 
 fn select(at: usize) -> Action {
     Action::PanelSelect(1, 2, Value::Literal(at as i64))

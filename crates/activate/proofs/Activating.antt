@@ -12,7 +12,7 @@ use Rattle.model.specs.Image.{budget}
 use Rattle.model.specs.Outcome.{started, resumed, aborted}
 use Rattle.model.specs.Rules.{nameOf, holdHclOf, ruleNamed}
 use Rattle.model.specs.State as model-state
-use Rattle.model.specs.State.{Env, Rest, withRest, bump, activationsDry, continuationsFired}
+use Rattle.model.specs.State.{Env, Rest, nextNumber, withRest, bump, activationsDry, continuationsFired}
 use Rattle.model.specs.Steps.{FlatStep, start}
 use Rattle.model.specs.declared.Pending.{Pending}
 use Rattle.state.specs.Meaning.{meaning}
@@ -22,14 +22,14 @@ use Rattle.exec.specs.declared.Job.{Job}
 use Rattle.activate.specs.Handled.{Handles, Activates, Resumes, modeOf}
 use Rattle.activate.specs.Outcomes.{Pushes}
 use Rattle.activate.specs.Decisions.{isDry, decisionOf, Decides}
-use Rattle.activate.specs.Executes.{Changes, NotesPartial, Starts, RunsWet, RunsDry, Executes, dryOutcome}
+use Rattle.activate.specs.Executes.{Changes, begunIn, numberedJob, NotesPartial, Starts, RunsWet, RunsDry, Executes, dryOutcome}
 use Rattle.activate.specs.Carried.{Carried, carried}
 use Rattle.activate.specs.declared.Handled.{Handled}
 use Rattle.activate.specs.declared.Mode.{Mode}
 use Rattle.activate.specs.declared.decide.Decision.{Decision}
 use Rattle.activate.specs.declared.decide.Decision.the-variants.{Begins, InCooldown, Rejected, Unevaluable}
 use Rattle.activate.proofs.Continues.{withVol}
-use Rattle.activate.proofs.Running.{changed, after-change, same-handles, refuses}
+use Rattle.activate.proofs.Running.{changed, after-change, after-start, same-handles, refuses}
 
 -- ---- `execute`
 dry-case : (e : Env) (j : actions.Job) (v : model-state.Volatile) (t : Bool) → t ≡ true → model.executeDry e j v ≡ model.execute e j t v
@@ -51,13 +51,17 @@ module _ (snapshot image part : List ℕ) (own : ℕ) (j : Job) (x : Carried) (w
       λ flat m. dryOutcome (jobOf j) (runStepsDry (budget image) (envOf snapshot image flat) (jobOf j) start [] (m .rest)) m in
       same-handles part own (j .index) _ _ x ow ew r ow′ ew′ (λ flat. dry-case (envOf snapshot image flat) (jobOf j) (meaning (x .vol)) (j .dry) t) (after-change x w _ a part own (j .index) k ow ew r ow′ ew′ h)
 
-  pub executes-wet : (b : ℕ) → j .dry ≡ false → b ≡ budget image → Starts snapshot j (x .vol) w → RunsWet snapshot image part own j start b (withVol w x) ow ew r ow′ ew′ → Executes snapshot image part own j x ow ew r ow′ ew′
-  unfolding model.executeWet
-  executes-wet b f e a h =
+  pub executes-wet : (b : ℕ) (begun : Job) → j .dry ≡ false → b ≡ budget image → Starts snapshot j (x .vol) w begun → RunsWet snapshot image part own begun start b (withVol w x) ow ew r ow′ ew′
+      → Executes snapshot image part own j x ow ew r ow′ ew′
+  unfolding model.executeWet model.numbered
+  executes-wet b begun f e a h =
+      let u : Job = numberedJob (nextNumber (meaning (x .vol) .lastNumber)) j in
       let k : List (List FlatStep) → model-state.Volatile → model.Handled =
-      λ flat m. model.finished (jobOf j) (started (j .rule)) (runSteps (budget image) (envOf snapshot image flat) (jobOf j) start m) in
+      λ flat m. model.finished (jobOf u) (started (j .rule)) (runSteps (budget image) (envOf snapshot image flat) (jobOf u) start m) in
+      let run : RunsWet snapshot image part own u start (budget image) (withVol w x) ow ew r ow′ ew′ =
+      subst (λ (n : ℕ). RunsWet snapshot image part own u start n (withVol w x) ow ew r ow′ ew′) e (subst (λ (y : Job). RunsWet snapshot image part own y start b (withVol w x) ow ew r ow′ ew′) (a .1) h) in
       same-handles part own (j .index) _ _ x ow ew r ow′ ew′ (λ flat. wet-case (envOf snapshot image flat) (jobOf j) (meaning (x .vol)) (j .dry) f)
-      (after-change x w _ a part own (j .index) k ow ew r ow′ ew′ (subst (λ (n : ℕ). RunsWet snapshot image part own j start n (withVol w x) ow ew r ow′ ew′) e h (started (j .rule))))
+      (after-start x w (begunIn snapshot j (meaning (x .vol))) (a .0) refl refl part own (j .index) k ow ew r ow′ ew′ (run .0 (started (j .rule))) (run .1))
 
 -- ---- `activate`
 module _ (snapshot image part : List ℕ) (own i kind : ℕ) (mode : Mode) (v : List ℕ) (x : Handled) (ow ew : List ℕ) where
@@ -65,7 +69,7 @@ module _ (snapshot image part : List ℕ) (own i kind : ℕ) (mode : Mode) (v : 
   rest = meaning v .rest
 
   abbrev pub jobWith : ℕ → Bool → Job
-  jobWith name dry = record { rule = name; index = i; hold = holdHclOf image i; trigger = kind; dry = dry }
+  jobWith name dry = record { rule = name; index = i; hold = holdHclOf image i; trigger = kind; dry = dry; number = 0 }
 
   abbrev job : Job
   job = jobWith (nameOf image i) (isDry mode)
@@ -102,7 +106,7 @@ module _ (snapshot image part : List ℕ) (own i kind : ℕ) (mode : Mode) (v : 
 -- ---- `resume`
 module _ (snapshot image part : List ℕ) (own i : ℕ) (c : Pending) (x : Carried) (w ow ew : List ℕ) (r : Carried) (ow′ ew′ : List ℕ) where
   abbrev resumedJob : Job
-  resumedJob = record { rule = c .rule; index = i; hold = holdHclOf image i; trigger = c .trigger; dry = false }
+  resumedJob = record { rule = c .rule; index = i; hold = holdHclOf image i; trigger = c .trigger; dry = false; number = c .number }
 
   abbrev resumedRun : List (List FlatStep) → model-state.Volatile → model.Handled
   resumedRun flat m = model.finished (jobOf resumedJob) (resumed c) (runSteps (c .budget) (envOf snapshot image flat) (jobOf resumedJob) (c .point) m)
@@ -111,11 +115,11 @@ module _ (snapshot image part : List ℕ) (own i : ℕ) (c : Pending) (x : Carri
   counted = bump continuationsFired (meaning (x .vol) .rest)
 
   is-resumed : ruleNamed image (c .rule) ≡ some i → (flat : List (List FlatStep)) → resumedRun flat (withRest counted (meaning (x .vol))) ≡ model.resume (envOf snapshot image flat) c (meaning (x .vol))
-  unfolding model.resume model.jobOf
+  unfolding model.resume model.jobOf model.numbered
   is-resumed h flat = rw h
 
   pub resumes : (j : Job) → j ≡ resumedJob → ruleNamed image (c .rule) ≡ some i → Changes (x .vol) counted w → RunsWet snapshot image part own j (c .point) (c .budget) (withVol w x) ow ew r ow′ ew′
       → Resumes snapshot image part own i c x ow ew r ow′ ew′
   resumes j e named a h =
       same-handles part own i _ _ x ow ew r ow′ ew′ (is-resumed named)
-      (after-change x w counted a part own i resumedRun ow ew r ow′ ew′ (subst (λ (k : Job). RunsWet snapshot image part own k (c .point) (c .budget) (withVol w x) ow ew r ow′ ew′) e h (resumed c)))
+      (after-change x w counted a part own i resumedRun ow ew r ow′ ew′ (subst (λ (k : Job). RunsWet snapshot image part own k (c .point) (c .budget) (withVol w x) ow ew r ow′ ew′) e h .0 (resumed c)))

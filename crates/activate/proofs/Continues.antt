@@ -57,8 +57,8 @@ pub nothing-done : (x : Carried) (ow ew : List ℕ) → Sound (x .vol) → Conti
 nothing-done x ow ew s = no-outcome x ow ew (meaning (x .vol)) x (record { says = refl; sound = s; based = refl }) refl refl
 
 -- ---- room
-pub within-none : (x r : Carried) → Sound (r .vol) → accepted (r .vol) ≡ accepted (x .vol) → r .outcomes ≡ x .outcomes → r .effects ≡ x .effects → Within 0 x r
-within-none x r s a b c = record { sound = s; accepted = omega (arith, a); outcomes = omega (arith, b); effects = omega (arith, c) }
+pub within-none : (x r : Carried) → Sound (r .vol) → accepted (r .vol) ≡ accepted (x .vol) → meaning (r .vol) .lastNumber ≡ meaning (x .vol) .lastNumber → r .outcomes ≡ x .outcomes → r .effects ≡ x .effects → Within 0 x r
+within-none x r s a n b c = record { sound = s; accepted = omega (arith, a); outcomes = omega (arith, b); effects = omega (arith, c); numbers = omega (arith, n) }
 
 pub within-then : (n m : ℕ) (x r s : Carried) → Within n x r → Within m r s → Within (n + m) x s
 within-then n m x r s a b =
@@ -67,6 +67,7 @@ within-then n m x r s a b =
       accepted = omega (arith, a .accepted, b .accepted);
       outcomes = omega (arith, a .outcomes, b .outcomes);
       effects = omega (arith, a .effects, b .effects);
+      numbers = omega (arith, a .numbers, b .numbers);
     }
 
 pub within-more : (n m : ℕ) (x r : Carried) → n ≤ m → Within n x r → Within m x r
@@ -76,6 +77,7 @@ within-more n m x r h a =
       accepted = omega (arith, a .accepted);
       outcomes = omega (arith, a .outcomes);
       effects = omega (arith, a .effects);
+      numbers = omega (arith, a .numbers);
     }
 
 pub room-left : (n m : ℕ) (x r : Carried) → Room (n + m) x → Within n x r → Room m r
@@ -85,28 +87,30 @@ room-left n m x r a b =
       accepted = omega (arith, a .accepted, b .accepted);
       outcomes = omega (arith, a .outcomes, b .outcomes);
       effects = omega (arith, a .effects, b .effects);
+      numbers = omega (arith, a .numbers, b .numbers);
     }
 
 pub room-less : (n m : ℕ) (x : Carried) → n ≤ m → Room m x → Room n x
-room-less n m x h a = record { sound = a .sound; accepted = omega (arith, a .accepted); outcomes = omega (arith, a .outcomes); effects = omega (arith, a .effects) }
+room-less n m x h a = record { sound = a .sound; accepted = omega (arith, a .accepted); outcomes = omega (arith, a .outcomes); effects = omega (arith, a .effects); numbers = omega (arith, a .numbers) }
 
 -- what the specification's parts bound, the code's do
 pub within-by : (n : ℕ) (x : Carried) (ow ew : List ℕ) (h : model.Handled) (r : Carried) (ow′ ew′ : List ℕ) → Continues x ow ew h r ow′ ew′
-    → h .vol .next ≤ meaning (x .vol) .next + n * 256 → length (h .outcomes) ≤ n → effectsOf (h .outcomes) ≤ n * 256 → Within n x r
-within-by n x ow ew h r ow′ ew′ c next os es =
+    → h .vol .next ≤ meaning (x .vol) .next + n * 256 → length (h .outcomes) ≤ n → effectsOf (h .outcomes) ≤ n * 256 → h .vol .lastNumber ≤ meaning (x .vol) .lastNumber + n → Within n x r
+within-by n x ow ew h r ow′ ew′ c next os es last =
     record {
       sound = c .state .sound;
       accepted = omega (arith, accepted-by-next (r .vol) (base (x .vol)) (h .vol) (c .state), next-is (x .vol), next);
       outcomes = omega (arith, c .outcomes, os);
       effects = omega (arith, c .effects, es);
+      numbers = omega (arith, ap (λ (m : model-state.Volatile). m .lastNumber) (c .state .says), last);
     }
 
 -- ---- the whole of a call, over words that were 0
 module _ (x : Carried) (ow ew : List ℕ) (h : model.Handled) (r : Carried) (ow′ ew′ : List ℕ) (c : Continues x ow ew h r ow′ ew′) (no : x .outcomes ≡ 0) (ne : x .effects ≡ 0) where
-  pub all-outcomes : ow ≡ replicate (length ow) 0 → r .outcomes * 6 ≤ length ow → ow′ ≡ lent (length ow) (outcomeWords 0 (h .outcomes))
+  pub all-outcomes : ow ≡ replicate (length ow) 0 → r .outcomes * 8 ≤ length ow → ow′ ≡ lent (length ow) (outcomeWords 0 (h .outcomes))
   all-outcomes z fits =
       let n : r .outcomes ≡ length (h .outcomes) = c .outcomes ∙ omega (arith, no) in
-      let f : length (h .outcomes) * 6 ≤ length ow = omega (arith, n, fits) in
+      let f : length (h .outcomes) * 8 ≤ length ow = omega (arith, n, fits) in
       c .outcomeWords ∙ rw (no, ne) (lent-outcomes ow (h .outcomes) z f)
 
   pub all-effects : ew ≡ replicate (length ew) 0 → r .effects * 5 ≤ length ew → ew′ ≡ lent (length ew) (answers.effectWords (h .outcomes))

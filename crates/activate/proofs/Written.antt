@@ -8,6 +8,7 @@ use lib.Dec.{leb}
 use lib.ListN.{length, take, drop, set, replicate, length-append, length-set, take-append-drop}
 use lib.Seq.{sets-eq, take-at, drop-at, length-take-le, drop-drop}
 use borrow.Author.Tests.{le-leb, lt-leb}
+use Rattle.words.specs.Pairs.{lowOf, highOf}
 use Rattle.model.specs.Activate as model
 use Rattle.model.specs.Answers as answers
 use Rattle.model.specs.Answers.{outcomeWords, lent}
@@ -23,32 +24,36 @@ use Rattle.activate.specs.Outcomes.{Puts}
 
 -- one outcome, where there is room and where there is none
 module _ (w : List ℕ) (n first : ℕ) (o : Outcome) where
-  abbrev pub six : List ℕ
-  six = o .rule ∷ o .dry ∷ o .trigger ∷ o .reason ∷ first ∷ length (o .effects) ∷ []
+  abbrev pub eight : List ℕ
+  eight = o .rule ∷ o .dry ∷ o .trigger ∷ o .reason ∷ first ∷ length (o .effects) ∷ lowOf (o .number) ∷ highOf (o .number) ∷ []
 
   abbrev pub written : List ℕ
-  written = set (set (set (set (set (set w (n * 6) (o .rule)) (n * 6 + 1) (o .dry)) (n * 6 + 2) (o .trigger)) (n * 6 + 3) (o .reason)) (n * 6 + 4) first) (n * 6 + 5) (length (o .effects))
+  written =
+      set (set (set (set (set (set (set (set w (n * 8) (o .rule)) (n * 8 + 1) (o .dry)) (n * 8 + 2) (o .trigger)) (n * 8 + 3) (o .reason)) (n * 8 + 4) first) (n * 8 + 5) (length (o .effects)))
+      (n * 8 + 6) (lowOf (o .number))) (n * 8 + 7) (highOf (o .number))
 
-  pub put-room : n * 6 + 6 ≤ length w → written ≡ putOutcome w n first o
+  pub put-room : n * 8 + 8 ≤ length w → written ≡ putOutcome w n first o
   unfolding putOutcome
   put-room h = rw (le-leb _ _ h)
 
-  pub put-none : length w < n * 6 + 6 → w ≡ putOutcome w n first o
+  pub put-none : length w < n * 8 + 8 → w ≡ putOutcome w n first o
   unfolding putOutcome
   put-none h = rw (lt-leb _ _ h)
 
-  pub put-words : n * 6 + 6 ≤ length w → putOutcome w n first o ≡ (take (n * 6) w ++ six) ++ drop (n * 6 + 6) w
+  pub put-words : n * 8 + 8 ≤ length w → putOutcome w n first o ≡ (take (n * 8) w ++ eight) ++ drop (n * 8 + 8) w
   put-words h =
-      let e1 : n * 6 + 1 ≡ suc (n * 6) = omega arith in
-      let e2 : n * 6 + 2 ≡ suc (suc (n * 6)) = omega arith in
-      let e3 : n * 6 + 3 ≡ suc (suc (suc (n * 6))) = omega arith in
-      let e4 : n * 6 + 4 ≡ suc (suc (suc (suc (n * 6)))) = omega arith in
-      let e5 : n * 6 + 5 ≡ suc (suc (suc (suc (suc (n * 6))))) = omega arith in
-      sym (put-room h) ∙ rw (e1, e2, e3, e4, e5) (sets-eq (o .rule ∷ o .dry ∷ o .trigger ∷ o .reason ∷ first ∷ length (o .effects) ∷ []) w (n * 6) h)
+      let e1 : n * 8 + 1 ≡ suc (n * 8) = omega arith in
+      let e2 : n * 8 + 2 ≡ suc (suc (n * 8)) = omega arith in
+      let e3 : n * 8 + 3 ≡ suc (suc (suc (n * 8))) = omega arith in
+      let e4 : n * 8 + 4 ≡ suc (suc (suc (suc (n * 8)))) = omega arith in
+      let e5 : n * 8 + 5 ≡ suc (suc (suc (suc (suc (n * 8))))) = omega arith in
+      let e6 : n * 8 + 6 ≡ suc (suc (suc (suc (suc (suc (n * 8)))))) = omega arith in
+      let e7 : n * 8 + 7 ≡ suc (suc (suc (suc (suc (suc (suc (n * 8))))))) = omega arith in
+      sym (put-room h) ∙ rw (e1, e2, e3, e4, e5, e6, e7) (sets-eq (o .rule ∷ o .dry ∷ o .trigger ∷ o .reason ∷ first ∷ length (o .effects) ∷ lowOf (o .number) ∷ highOf (o .number) ∷ []) w (n * 8) h)
 
   pub put-length : length (putOutcome w n first o) ≡ length w
   unfolding putOutcome
-  put-length = go (leb (n * 6 + 6) (length w))
+  put-length = go (leb (n * 8 + 8) (length w))
     where
       go : (t : Bool) → length (cond t written w) ≡ length w
       go true = simp length-set
@@ -56,12 +61,13 @@ module _ (w : List ℕ) (n first : ℕ) (o : Outcome) where
 
 -- what the code writes of a job
 module _ (w : List ℕ) (n : ℕ) (j : Job) (reason first count : ℕ) where
-  pub job-room : (dry : ℕ) → n * 6 + 6 ≤ length w → dry ≡ cond (j .dry) 1 0
-      → Puts w n j reason first count (set (set (set (set (set (set w (n * 6) (j .rule)) (n * 6 + 1) dry) (n * 6 + 2) (j .trigger)) (n * 6 + 3) reason) (n * 6 + 4) first) (n * 6 + 5) count)
+  pub job-room : (dry low high : ℕ) → n * 8 + 8 ≤ length w → dry ≡ cond (j .dry) 1 0 → low ≡ lowOf (j .number) → high ≡ highOf (j .number)
+      → Puts w n j reason first count
+      (set (set (set (set (set (set (set (set w (n * 8) (j .rule)) (n * 8 + 1) dry) (n * 8 + 2) (j .trigger)) (n * 8 + 3) reason) (n * 8 + 4) first) (n * 8 + 5) count) (n * 8 + 6) low) (n * 8 + 7) high)
   unfolding model.outcome
-  job-room dry h d es e = rw (d, e) (put-room w n first (model.outcome (jobOf j) es reason) h)
+  job-room dry low high h d l k es e = rw (d, e, l, k) (put-room w n first (model.outcome (jobOf j) es reason) h)
 
-  pub job-none : length w < n * 6 + 6 → Puts w n j reason first count w
+  pub job-none : length w < n * 8 + 8 → Puts w n j reason first count w
   job-none h es e = put-none w n first (model.outcome (jobOf j) es reason) h
 
 -- one after another
@@ -85,37 +91,37 @@ puts-length w n first (o ∷ os) = puts-length (putOutcome w n first o) (suc n) 
 
 -- where all fit: the old words, then the outcomes' words, then the old rest
 pub put-all :
-    (w : List ℕ) (n first : ℕ) (os : List Outcome) → (n + length os) * 6 ≤ length w
-    → putOutcomes w n first os ≡ (take (n * 6) w ++ outcomeWords first os) ++ drop ((n + length os) * 6) w
+    (w : List ℕ) (n first : ℕ) (os : List Outcome) → (n + length os) * 8 ≤ length w
+    → putOutcomes w n first os ≡ (take (n * 8) w ++ outcomeWords first os) ++ drop ((n + length os) * 8) w
 unfolding putOutcomes outcomeWords
 put-all w n first [] h =
-    let e : (n + 0) * 6 ≡ n * 6 = omega arith in
-    rw e (sym (ap (λ (l : List ℕ). l ++ drop (n * 6) w) (append-nil (take (n * 6) w)) ∙ take-append-drop (n * 6) w))
+    let e : (n + 0) * 8 ≡ n * 8 = omega arith in
+    rw e (sym (ap (λ (l : List ℕ). l ++ drop (n * 8) w) (append-nil (take (n * 8) w)) ∙ take-append-drop (n * 8) w))
 put-all w n first (o ∷ os) h =
-    let room : n * 6 + 6 ≤ length w = omega arith in
+    let room : n * 8 + 8 ≤ length w = omega arith in
     let v = putOutcome w n first o in
     let next = first + length (o .effects) in
     let s = put-words w n first o room in
-    let k : length (take (n * 6) w ++ six w n first o) ≡ suc n * 6 = simp (length-append, length-take-le (n * 6) w (omega arith)) (omega arith) in
-    let more : (suc n + length os) * 6 ≤ length v = omega (arith, put-length w n first o) in
-    let front : take (suc n * 6) v ≡ take (n * 6) w ++ six w n first o = ap (take (suc n * 6)) s ∙ take-at (take (n * 6) w ++ six w n first o) (drop (n * 6 + 6) w) (suc n * 6) k in
-    let back : drop (suc n * 6) v ≡ drop (n * 6 + 6) w = ap (drop (suc n * 6)) s ∙ drop-at (take (n * 6) w ++ six w n first o) (drop (n * 6 + 6) w) (suc n * 6) k in
-    let a : suc n * 6 + length os * 6 ≡ (suc n + length os) * 6 = omega arith in
-    let b : (n * 6 + 6) + length os * 6 ≡ (n + suc (length os)) * 6 = omega arith in
-    let far : drop ((suc n + length os) * 6) v ≡ drop ((n + suc (length os)) * 6) w =
-    sym (ap (λ (i : ℕ). drop i v) a) ∙ sym (drop-drop (length os * 6) (suc n * 6) v) ∙ ap (drop (length os * 6)) back ∙ drop-drop (length os * 6) (n * 6 + 6) w ∙ ap (λ (i : ℕ). drop i w) b in
-    put-all v (suc n) next os more ∙ ap (λ (l : List ℕ). (l ++ outcomeWords next os) ++ drop ((suc n + length os) * 6) v) front ∙ ap (λ (l : List ℕ). ((take (n * 6) w ++ six w n first o) ++ outcomeWords next os) ++ l) far ∙ ap (λ (l : List ℕ). l ++ drop ((n + suc (length os)) * 6) w) (append-assoc (take (n * 6) w) (six w n first o) (outcomeWords next os))
+    let k : length (take (n * 8) w ++ eight w n first o) ≡ suc n * 8 = simp (length-append, length-take-le (n * 8) w (omega arith)) (omega arith) in
+    let more : (suc n + length os) * 8 ≤ length v = omega (arith, put-length w n first o) in
+    let front : take (suc n * 8) v ≡ take (n * 8) w ++ eight w n first o = ap (take (suc n * 8)) s ∙ take-at (take (n * 8) w ++ eight w n first o) (drop (n * 8 + 8) w) (suc n * 8) k in
+    let back : drop (suc n * 8) v ≡ drop (n * 8 + 8) w = ap (drop (suc n * 8)) s ∙ drop-at (take (n * 8) w ++ eight w n first o) (drop (n * 8 + 8) w) (suc n * 8) k in
+    let a : suc n * 8 + length os * 8 ≡ (suc n + length os) * 8 = omega arith in
+    let b : (n * 8 + 8) + length os * 8 ≡ (n + suc (length os)) * 8 = omega arith in
+    let far : drop ((suc n + length os) * 8) v ≡ drop ((n + suc (length os)) * 8) w =
+    sym (ap (λ (i : ℕ). drop i v) a) ∙ sym (drop-drop (length os * 8) (suc n * 8) v) ∙ ap (drop (length os * 8)) back ∙ drop-drop (length os * 8) (n * 8 + 8) w ∙ ap (λ (i : ℕ). drop i w) b in
+    put-all v (suc n) next os more ∙ ap (λ (l : List ℕ). (l ++ outcomeWords next os) ++ drop ((suc n + length os) * 8) v) front ∙ ap (λ (l : List ℕ). ((take (n * 8) w ++ eight w n first o) ++ outcomeWords next os) ++ l) far ∙ ap (λ (l : List ℕ). l ++ drop ((n + suc (length os)) * 8) w) (append-assoc (take (n * 8) w) (eight w n first o) (outcomeWords next os))
 
 -- ---- words that were all 0
-outcome-words-length : (first : ℕ) (os : List Outcome) → length (outcomeWords first os) ≡ length os * 6
+outcome-words-length : (first : ℕ) (os : List Outcome) → length (outcomeWords first os) ≡ length os * 8
 unfolding outcomeWords
 outcome-words-length first [] = refl
 outcome-words-length first (o ∷ os) = let e = outcome-words-length (first + length (o .effects)) os in omega (arith, e)
 
-pub lent-outcomes : (w : List ℕ) (os : List Outcome) → w ≡ replicate (length w) 0 → length os * 6 ≤ length w → putOutcomes w 0 0 os ≡ lent (length w) (outcomeWords 0 os)
+pub lent-outcomes : (w : List ℕ) (os : List Outcome) → w ≡ replicate (length w) 0 → length os * 8 ≤ length w → putOutcomes w 0 0 os ≡ lent (length w) (outcomeWords 0 os)
 lent-outcomes w os z h =
     let e : 0 + length os ≡ length os = omega arith in
-    rw e at (put-all w 0 0 os) h ∙ ap (λ (l : List ℕ). outcomeWords 0 os ++ drop (length os * 6) l) z ∙ ap (λ (l : List ℕ). outcomeWords 0 os ++ l) (drop-zeros (length os * 6) (length w)) ∙ ap (λ (k : ℕ). outcomeWords 0 os ++ replicate (length w - k) 0) (sym (outcome-words-length 0 os))
+    rw e at (put-all w 0 0 os) h ∙ ap (λ (l : List ℕ). outcomeWords 0 os ++ drop (length os * 8) l) z ∙ ap (λ (l : List ℕ). outcomeWords 0 os ++ l) (drop-zeros (length os * 8) (length w)) ∙ ap (λ (k : ℕ). outcomeWords 0 os ++ replicate (length w - k) 0) (sym (outcome-words-length 0 os))
 
 effect-words-append : (xs ys : List Effect) → answers.wordsOfEffects (xs ++ ys) ≡ answers.wordsOfEffects xs ++ answers.wordsOfEffects ys
 unfolding answers.wordsOfEffects

@@ -5,7 +5,8 @@ use mathlib.Core.Bool.{cond}
 use mathlib.Core.List.{List, [], _∷_, _++_}
 use lib.Dec.{leb}
 use lib.ListN.{length, set, getD}
-use Rattle.words.specs.Saturating.{max32}
+use Rattle.words.specs.Pairs.{lowOf, highOf}
+use Rattle.words.specs.Saturating.{max32, max64}
 use Rattle.model.specs.Activate as model
 use Rattle.model.specs.Calls.{effectsOf}
 use Rattle.model.specs.Outcome.{Outcome}
@@ -28,8 +29,9 @@ modeOf Dry = model.Dry
 -- outcome n, whose effects begin at effect `first`, where there is room for it
 unfoldable pub putOutcome : List ℕ → ℕ → ℕ → Outcome → List ℕ
 putOutcome w n first o =
-    cond (leb (n * 6 + 6) (length w))
-    (set (set (set (set (set (set w (n * 6) (o .rule)) (n * 6 + 1) (o .dry)) (n * 6 + 2) (o .trigger)) (n * 6 + 3) (o .reason)) (n * 6 + 4) first) (n * 6 + 5) (length (o .effects)))
+    cond (leb (n * 8 + 8) (length w))
+    (set (set (set (set (set (set (set (set w (n * 8) (o .rule)) (n * 8 + 1) (o .dry)) (n * 8 + 2) (o .trigger)) (n * 8 + 3) (o .reason)) (n * 8 + 4) first) (n * 8 + 5) (length (o .effects)))
+    (n * 8 + 6) (lowOf (o .number))) (n * 8 + 7) (highOf (o .number)))
     w
 
 -- outcomes n, n + 1, ..
@@ -50,12 +52,13 @@ pub record Continues (x : Carried) (ow ew : List ℕ) (h : model.Handled) (r : C
   pub outcomeWords : ow′ ≡ putOutcomes ow (x .outcomes) (x .effects) (h .outcomes)
   pub effectWords : ew′ ≡ putEffects ew (x .effects) (allEffects (h .outcomes))
 
--- a sound state, and no more than n activations or resumptions add: each has one outcome and a budget of 256 steps at most
+-- a sound state, and no more than n activations or resumptions add: each has one outcome, a budget of 256 steps and one number at most
 pub record Within (n : ℕ) (x r : Carried) : Type 0 where
   pub sound : Sound (r .vol)
   pub accepted : accepted (r .vol) ≤ accepted (x .vol) + n * 256
   pub outcomes : r .outcomes ≤ x .outcomes + n
   pub effects : r .effects ≤ x .effects + n * 256
+  pub numbers : meaning (r .vol) .lastNumber ≤ meaning (x .vol) .lastNumber + n
 
 -- a sound state, and numbers that have room for n activations or resumptions
 pub record Room (n : ℕ) (x : Carried) : Type 0 where
@@ -63,6 +66,7 @@ pub record Room (n : ℕ) (x : Carried) : Type 0 where
   pub accepted : accepted (x .vol) + n * 256 ≤ max32
   pub outcomes : x .outcomes + n ≤ max32
   pub effects : x .effects + n * 256 ≤ max32
+  pub numbers : meaning (x .vol) .lastNumber + n ≤ max64 + max32
 
 -- one activation or resumption came to r: in every set where this part says the lists of rule i, it is what the specification gives for the set
 pub record Handles (part : List ℕ) (own i : ℕ) (h : List (List FlatStep) → model.Handled) (x : Carried) (ow ew : List ℕ) (r : Carried) (ow′ ew′ : List ℕ) : Type 0 where

@@ -9,14 +9,15 @@ use model::Jump;
 use model::Point;
 ghost use mathlib.Core.Path.{_≡_};
 ghost use mathlib.Core.Bool.{true};
-ghost use Prim.Native.Nat.{_≤_};
+ghost use Prim.Native.Nat.{_+_, _≤_, _<_};
+ghost use Rattle.words.specs.Saturating.{max64};
 ghost use Rattle.image.specs.Accepted.{Accepted};
 ghost use Rattle.image.specs.Sized.{Sized};
-ghost use Rattle.state.specs.Meaning.{Sound};
+ghost use Rattle.state.specs.Meaning.{Sound, meaning};
 ghost use Rattle.exec.specs.Lists.{FlatWords};
 ghost use Rattle.activate.specs.Carried.{carried};
 ghost use Rattle.activate.specs.Handled.{Room};
-ghost use Rattle.activate.specs.Executes.{NotesPartial, Starts, FinishesWet, RunsWet, RunsDry, Executes};
+ghost use Rattle.activate.specs.Executes.{RunRoom, NotesPartial, Starts, FinishesWet, RunsWet, RunsDry, Executes};
 
 pub fn note_wet_partial(v: &mut [u32], dry: bool)
     requires { ⌜ Sound (now v) ⌝ }
@@ -27,14 +28,16 @@ pub fn note_wet_partial(v: &mut [u32], dry: bool)
     }
 }
 
-// A wet activation is counted, and its time is kept before its steps run.
-fn start(snapshot: &[u32], v: &mut [u32], job: Job)
-    requires { ⌜ Sound (now v) ⌝ }
-    ensures { λ _. ⌜ Starts (now (snapshot .entry)) job (now (v .entry)) (now (v .exit)) ⌝ }
+// A wet activation is counted, its time is kept before its steps run, and it takes the next number: its job under that.
+fn start(snapshot: &[u32], v: &mut [u32], job: Job) -> Job
+    requires { ⌜ Sound (now v) × (meaning (now v) .lastNumber < max64 + max64) ⌝ }
+    ensures { λ r. ⌜ Starts (now (snapshot .entry)) job (now (v .entry)) (now (v .exit)) r ⌝ }
 {
     let time = world::now_ms(snapshot);
     state::bump(v, counters::ACTIVATIONS_TOTAL, 1);
     state::rules::set_last_activation(v, job.index as usize, time);
+    let number = state::last_number::take_number(v);
+    Job { number, ..job }
 }
 
 // A wet run had so many effects, and this reason.
@@ -62,7 +65,7 @@ pub fn run_wet(
     from: Point,
     most: u32,
 ) -> Handled
-    requires { ⌜ Sized (now image) × FlatWords (now part) own × (most ≤ 256) × Room 1 (carried (now v) x) ⌝ }
+    requires { ⌜ Sized (now image) × FlatWords (now part) own × (most ≤ 256) × RunRoom (carried (now v) x) ⌝ }
     ensures { λ r. ⌜ RunsWet (now (snapshot .entry)) (now (image .entry)) (now (part .entry)) own job from most (carried (now (v .entry)) x) (now (outcomes .entry)) (now (effects .entry)) (carried (now (v .exit)) r) (now (outcomes .exit)) (now (effects .exit)) ⌝ }
 {
     let run = run_steps(
@@ -135,7 +138,7 @@ pub fn execute(
         state::bump(v, counters::ACTIVATIONS_DRY, 1);
         return run_dry(snapshot, image, part, own, outcomes, effects, v, x, job);
     }
-    start(snapshot, v, job);
+    let begun = start(snapshot, v, job);
     let from = Point {
         list: 0,
         place: 0,
@@ -151,7 +154,7 @@ pub fn execute(
         effects,
         v,
         x,
-        job,
+        begun,
         from,
         most,
     )

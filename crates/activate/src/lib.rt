@@ -34,7 +34,7 @@ pub enum Mode {
 }
 
 // The words of an outcome in a lent store.
-pub const OUTCOME_WORDS: usize = 6;
+pub const OUTCOME_WORDS: usize = 8;
 
 fn is_dry(mode: Mode) -> bool
     ensures { λ r. ⌜ r ≡ isDry mode ⌝ }
@@ -46,10 +46,10 @@ fn is_dry(mode: Mode) -> bool
     }
 }
 
-// Rule `name`, at place i of the image.
-fn job_of(image: &[u32], name: u32, i: u32, kind: u32, dry: bool) -> Job
+// Rule `name`, at place i of the image, under an activation number.
+fn job_of(image: &[u32], name: u32, i: u32, kind: u32, dry: bool, number: u64) -> Job
     requires { ⌜ Sized (now image) ⌝ }
-    ensures { λ r. ⌜ r ≡ record { rule = name; index = i; hold = holdHclOf (now (image .entry)) i; trigger = kind; dry = dry } ⌝ }
+    ensures { λ r. ⌜ r ≡ record { rule = name; index = i; hold = holdHclOf (now (image .entry)) i; trigger = kind; dry = dry; number = number } ⌝ }
 {
     let hold = image::rule::hold_hcl_of(image, i);
     Job {
@@ -58,6 +58,7 @@ fn job_of(image: &[u32], name: u32, i: u32, kind: u32, dry: bool) -> Job
         hold,
         trigger: kind,
         dry,
+        number,
     }
 }
 
@@ -80,7 +81,7 @@ pub fn activate(
     ensures { λ r. ⌜ Activates (now (snapshot .entry)) (now (image .entry)) (now (part .entry)) own i kind mode (carried (now (v .entry)) x) (now (outcomes .entry)) (now (effects .entry)) (carried (now (v .exit)) r) (now (outcomes .exit)) (now (effects .exit)) ⌝ }
 {
     let dry = is_dry(mode);
-    let job = job_of(image, image::rule::name_of(image, i), i, kind, dry);
+    let job = job_of(image, image::rule::name_of(image, i), i, kind, dry, 0);
     match decide::decide(snapshot, image, v, i, mode) {
         Decision::Begins => execute::execute(
             snapshot,
@@ -114,7 +115,7 @@ pub fn activate(
     }
 }
 
-// A continuation of rule i goes on where it stood. `part` and `own` as for `activate`.
+// A continuation of rule i goes on where it stood, under its own number. `part` and `own` as for `activate`.
 pub fn resume(
     snapshot: &[u32],
     image: &[u32],
@@ -132,7 +133,7 @@ pub fn resume(
     ensures { λ r. ⌜ Resumes (now (snapshot .entry)) (now (image .entry)) (now (part .entry)) own i c (carried (now (v .entry)) x) (now (outcomes .entry)) (now (effects .entry)) (carried (now (v .exit)) r) (now (outcomes .exit)) (now (effects .exit)) ⌝ }
 {
     let from = c.point;
-    let job = job_of(image, c.rule, i, c.trigger, false);
+    let job = job_of(image, c.rule, i, c.trigger, false, c.number);
     state::bump(v, counters::CONTINUATIONS_FIRED, 1);
     execute::run_wet(
         snapshot,

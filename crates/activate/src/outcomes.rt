@@ -16,18 +16,22 @@ fn dry_word(dry: bool) -> u32
 }
 
 // Outcome n, of a job, with `count` effects from effect `first` on.
-fn put_outcome(words: &mut [u32], n: u32, job: Job, reason: u32, first: u32, count: u32)
-    ensures { λ r. ⌜ Puts (now (words .entry)) n job reason first count (now (words .exit)) ⌝ }
+fn put_outcome(lent: &mut [u32], n: u32, job: Job, reason: u32, first: u32, count: u32)
+    ensures { λ r. ⌜ Puts (now (lent .entry)) n job reason first count (now (lent .exit)) ⌝ }
 {
     let k = n as usize * OUTCOME_WORDS;
     let dry = dry_word(job.dry);
-    if k + OUTCOME_WORDS <= words.len() {
-        words[k] = job.rule;
-        words[k + 1] = dry;
-        words[k + 2] = job.trigger;
-        words[k + 3] = reason;
-        words[k + 4] = first;
-        words[k + 5] = count;
+    let low = words::low_word(job.number);
+    let high = words::high_word(job.number);
+    if k + OUTCOME_WORDS <= lent.len() {
+        lent[k] = job.rule;
+        lent[k + 1] = dry;
+        lent[k + 2] = job.trigger;
+        lent[k + 3] = reason;
+        lent[k + 4] = first;
+        lent[k + 5] = count;
+        lent[k + 6] = low;
+        lent[k + 7] = high;
     }
 }
 

@@ -27,7 +27,7 @@ use Rattle.demand3.specs.Demand3.{seenOn, Demand3OfCalls}
 
 -- ONE RUN ---------------------------------------------------------------------------------------------------------------------------
 -- the eight contracts
-equation : (x : AnyRun) → shownBy x ≡ seen (callOn (callOf x) (before x))
+pub equation : (x : AnyRun) → shownBy x ≡ seen (callOn (callOf x) (before x))
 equation (new x) = x .ensured
 equation (load x ws) = x .ensured
 equation (unload x) = x .ensured
@@ -52,7 +52,7 @@ seen-store : (r : Result) → seen r .store ≡ r .store
 unfolding seen
 seen-store r = refl
 
-after-is : (x : AnyRun) → after x ≡ callOn (callOf x) (before x) .store
+pub after-is : (x : AnyRun) → after x ≡ callOn (callOf x) (before x) .store
 after-is x = sym (shown-store x) ∙ ap (λ (o : Seen). o .store) (equation x) ∙ seen-store (callOn (callOf x) (before x))
 
 -- what the arguments' types hold

@@ -5,3 +5,4 @@ pub mod Play
 pub mod SetBack
 pub mod Sharing
 pub mod Crontab
+pub mod Numbers

@@ -73,7 +73,7 @@ unfoldable pub night : List ℕ
 night = imageOf 8 (rule 5 0 0 0 0 1 0 1 ∷ []) [] ((0 ∷ 0 ∷ 1 ∷ []) ∷ []) (logs 1) ((0 ∷ 22 ∷ 0 ∷ []) ∷ (0 ∷ 6 ∷ 0 ∷ []) ∷ [])
 
 unfoldable pub runAtMinute : ℕ → Call
-runAtMinute minute = run 5 false (snapshot 0 (1 ∷ 0 ∷ minute ∷ []) absent) 54 45
+runAtMinute minute = run 5 false (snapshot 0 (1 ∷ 0 ∷ minute ∷ []) absent) 72 45
 
 -- rule 5 runs in the minute at an offset from sunrise; the sun rises at minute 10 and sets at 1,000
 unfoldable pub atSunrise : ℕ → List ℕ
@@ -86,7 +86,7 @@ unfoldable pub sunriseEarlier : List ℕ
 sunriseEarlier = atSunrise (minus 900000)
 
 unfoldable pub runInSun : ℕ → Call
-runInSun minute = run 5 false (snapshot 0 (1 ∷ 0 ∷ minute ∷ []) (1 ∷ 10 ∷ 1000 ∷ [])) 54 45
+runInSun minute = run 5 false (snapshot 0 (1 ∷ 0 ∷ minute ∷ []) (1 ∷ 10 ∷ 1000 ∷ [])) 72 45
 
 unfoldable pub table : List Edge
 table =

@@ -64,7 +64,7 @@ narrow outcomes effects = run 5 false (snapshot 0 absent absent) outcomes effect
 
 -- a store whose next sequence number is the last one
 unfoldable pub late : Store → Store
-late s = record { now = s .now; loaded = s .loaded; vol = record { rest = s .vol .rest; pending = s .vol .pending; next = 2 ^ 64 - 1 } }
+late s = record { now = s .now; loaded = s .loaded; vol = record { rest = s .vol .rest; pending = s .vol .pending; next = 2 ^ 64 - 1; lastNumber = s .vol .lastNumber } }
 
 unfoldable pub examples : List Edge
 examples =
@@ -109,7 +109,7 @@ examples =
     edge (map seen (answers (fresh 0) (map (λ (a : List ℕ). load 0 (unmet a)) (percent 1 2 0 ∷ (29 ∷ []) ∷ percent 1 3 0 ∷ percent 1 2 1 ∷ (28 ∷ 1 ∷ 2 ∷ 0 ∷ 1 ∷ []) ∷ []))))
     ([] ∷ ((13 ∷ []) ∷ []) ∷ ((13 ∷ []) ∷ []) ∷ ((14 ∷ []) ∷ []) ∷ ((13 ∷ []) ∷ []) ∷ []) ∷
     -- 30: more outcomes or effects than the lent stores hold
-    edge (history (doing 8 2 (logs 2)) (narrow 5 10 ∷ narrow 6 9 ∷ narrow 6 10 ∷ [])) ([] ∷ ((30 ∷ []) ∷ []) ∷ ((30 ∷ []) ∷ []) ∷ ((5 ∷ 0 ∷ 7 ∷ 7 ∷ []) ∷ []) ∷ []) ∷
+    edge (history (doing 8 2 (logs 2)) (narrow 7 10 ∷ narrow 8 9 ∷ narrow 8 10 ∷ [])) ([] ∷ ((30 ∷ []) ∷ []) ∷ ((30 ∷ []) ∷ []) ∷ ((5 ∷ 0 ∷ 7 ∷ 7 ∷ []) ∷ []) ∷ []) ∷
     -- 31: the next sequence number past 2^64 - 1
     edge (map seen (answers (late ((call (load 0 notDue) (fresh 0)) .store)) (runWet 5 0 ∷ []))) (((31 ∷ []) ∷ []) ∷ []) ∷
     []

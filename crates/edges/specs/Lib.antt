@@ -4,3 +4,4 @@ pub mod Examples
 pub mod Play
 pub mod SetBack
 pub mod Sharing
+pub mod Numbers

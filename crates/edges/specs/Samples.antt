@@ -71,17 +71,17 @@ absent = 0 ∷ 0 ∷ 0 ∷ []
 -- CALLS, with room for nine outcomes and nine effects --------------------------------------------------------------------------------
 -- a tick at a time, and one at a minute of a weekday
 unfoldable pub tickAt : ℕ → Call
-tickAt now = tick (snapshot now absent absent) 54 45
+tickAt now = tick (snapshot now absent absent) 72 45
 
 unfoldable pub tickAtMinute : ℕ → ℕ → ℕ → Call
-tickAtMinute now day minute = tick (snapshot now (1 ∷ day ∷ minute ∷ []) absent) 54 45
+tickAtMinute now day minute = tick (snapshot now (1 ∷ day ∷ minute ∷ []) absent) 72 45
 
 -- a wet and a dry run of a rule
 unfoldable pub runWet : ℕ → ℕ → Call
-runWet r now = run r false (snapshot now absent absent) 54 45
+runWet r now = run r false (snapshot now absent absent) 72 45
 
 unfoldable pub runDry : ℕ → ℕ → Call
-runDry r now = run r true (snapshot now absent absent) 54 45
+runDry r now = run r true (snapshot now absent absent) 72 45
 
 -- WHAT IS COMPARED ---------------------------------------------------------------------------------------------------------------------
 -- of an outcome: rule, reason, and the first word of each effect (of a Log, its text)

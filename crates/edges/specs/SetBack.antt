@@ -64,7 +64,7 @@ table =
     -- a tick without a clock counts and forgets, and no set-back is seen behind it
     edge (history solar (tickIn 300 ∷ tickAt 1 ∷ tickIn 299 ∷ counters ∷ [])) ([] ∷ [] ∷ [] ∷ [] ∷ unsynced 1 ∷ []) ∷
     -- runs do not remember: behind 300 and a run at 299, the tick at 301 makes up for 301 alone
-    edge (history (daily (300 ∷ 301 ∷ [])) (tickIn 300 ∷ run 301 false (snapshot 1 (1 ∷ 0 ∷ 299 ∷ []) absent) 54 45 ∷ tickIn 301 ∷ []))
+    edge (history (daily (300 ∷ 301 ∷ [])) (tickIn 300 ∷ run 301 false (snapshot 1 (1 ∷ 0 ∷ 299 ∷ []) absent) 72 45 ∷ tickIn 301 ∷ []))
     (starting ([] ∷ (301 ∷ []) ∷ (301 ∷ []) ∷ [])) ∷
     -- nor does a tick without a set
     edge (force (daily (300 ∷ 301 ∷ [])) (λ again. history again (tickIn 300 ∷ unload 1 ∷ tickIn 299 ∷ load 1 again ∷ tickIn 301 ∷ [])))

@@ -7,7 +7,7 @@ use Prim.Native.Nat.{ℕ, zero, suc, _+_, _^_, _≤_, _<_}
 use native.Mathlib.Omega.{arith}
 use lib.ListN.{length, getD, drop, length-drop, length-map}
 use borrow.Author.Tests.{lt-ltb, le-leb}
-use Rattle.words.specs.Saturating.{max32}
+use Rattle.words.specs.Saturating.{max32, max64}
 use Rattle.model.specs.declared.Pending.{Pending}
 use Rattle.model.specs.Lists.{all}
 use Rattle.model.specs.Codec.{wide}
@@ -52,7 +52,8 @@ use Rattle.store.proofs.RecordRules.{found-none, found-at}
 
 -- the same value, by what it says itself
 pub itself : {v : List ℕ} {m : model.Volatile} → AllNumbered v m → AllNumbered v (meaning v)
-itself a = record { says = refl; sound = a .sound; stored = a .stored; noneAccepted = a .noneAccepted }
+itself a =
+    record { says = refl; sound = a .sound; stored = a .stored; noneAccepted = a .noneAccepted; lastFits = subst (λ (x : model.Volatile). x .lastNumber ≤ max64) (sym (a .says)) (a .lastFits) }
 
 pub says-wrote : (v : List ℕ) (m : model.Volatile) (w w′ : List ℕ) → AllNumbered v m → Wrote w (meaning v) w′ → Wrote w m w′
 says-wrote v m w w′ a h = subst (λ (x : model.Volatile). Wrote w x w′) (a .says) h
@@ -133,20 +134,25 @@ none-left : (ps : List Pending) → Below 0 ps → length ps ≡ 0
 none-left [] b = refl
 none-left (p ∷ ps) b = absurd (omega (arith, b .0))
 
-pub same-numbers : (v : List ℕ) (b : ℕ) (m : model.Volatile) → Means v b m → m .next ≡ b → AllNumbered v m
+pub same-numbers : (v : List ℕ) (b : ℕ) (m : model.Volatile) → Means v b m → m .next ≡ b → m .lastNumber ≤ max64 → AllNumbered v m
 unfolding accepted storedCount pendingCount
-same-numbers v b m h e =
+same-numbers v b m h e f =
     let l = recordsIn (cut partSizes v) in
     let k = storedIn (cut partSizes v) in
     let z : accepted v ≡ 0 = omega (arith, accepted-by-next v b m h, e) in
     let n = none-left (drop k l) (subst (λ (x : ℕ). Below x (drop k l)) z (h .sound .parts .offsets)) in
     let c = holds-count pendingRow pending-laws 32 (part pendingPart v) l (table-part pendingRow pending-laws pendingPart 32 (omega arith) refl v (h .sound)) in
-    record { says = h .says; sound = h .sound; stored = omega (arith, h .sound .parts .stored, c, n, length-drop k l); noneAccepted = z }
+    record { says = h .says; sound = h .sound; stored = omega (arith, h .sound .parts .stored, c, n, length-drop k l); noneAccepted = z; lastFits = f }
 
 flipped-next : (rule i : ℕ) (on : Bool) (m : model.Volatile) → flipped rule i on m .next ≡ m .next
 unfolding strike
 flipped-next rule i true m = refl
 flipped-next rule i false m = refl
+
+flipped-last : (rule i : ℕ) (on : Bool) (m : model.Volatile) → flipped rule i on m .lastNumber ≡ m .lastNumber
+unfolding strike
+flipped-last rule i true m = refl
+flipped-last rule i false m = refl
 
 pub next-is : (v : List ℕ) (m : model.Volatile) → AllNumbered v m → m .next ≡ base v
 next-is v m a =
@@ -157,7 +163,7 @@ pub flipped-numbers : (v u : List ℕ) (s : Store) (rule i : ℕ) (on : Bool) �
     → AllNumbered u (flipped rule i on (s .vol))
 flipped-numbers v u s rule i on a h =
     let h′ : Means u (base v) (flipped rule i on (s .vol)) = subst (λ (m : model.Volatile). Means u (base v) (flipped rule i on m)) (a .says) h in
-    same-numbers u (base v) (flipped rule i on (s .vol)) h′ (flipped-next rule i on (s .vol) ∙ next-is v (s .vol) a)
+    same-numbers u (base v) (flipped rule i on (s .vol)) h′ (flipped-next rule i on (s .vol) ∙ next-is v (s .vol) a) (omega (arith, flipped-last rule i on (s .vol), a .lastFits))
 
 pub enable-on : (rule : ℕ) (on : Bool) (w : List ℕ) → OnStore (enable rule on) w
 unfolding callOn

@@ -146,7 +146,7 @@ set-taken img t s v v₁ v₂ v₃ old slots n q o e m₁ m₂ m₃ =
     let f : slots ≡ rebuildEvery img (meaning v .rest .every) t = e ∙ ap (λ (x : List EverySlot). rebuildEvery img x t) o in
     let z : model.Volatile → List EverySlot → model.Volatile = λ (m : model.Volatile) (x : List EverySlot). withRest (rulesOf img s (emptied (withRest (withEvery x (m .rest)) m) .rest)) (emptied (withRest (withEvery x (m .rest)) m)) in
     let r : Means v₃ (base v) (cleared (restWith img t s) (s .vol)) = subst (Means v₃ (base v)) (ap (z (meaning v)) f ∙ ap (λ (m : model.Volatile). z m (rebuildEvery img (m .rest .every) t)) (sym q)) l in
-    same-numbers v₃ (base v) (cleared (restWith img t s) (s .vol)) r (ap (λ (m : model.Volatile). m .next) q ∙ next-is v (meaning v) n)
+    same-numbers v₃ (base v) (cleared (restWith img t s) (s .vol)) r (ap (λ (m : model.Volatile). m .next) q ∙ next-is v (meaning v) n) (omega (arith, ap (λ (m : model.Volatile). m .lastNumber) q, n .lastFits))
 
 pub set-left : (s : Store) (v v₁ v₂ v₃ : List ℕ) → AllNumbered v (meaning v) → s .vol ≡ meaning v
     → Means v₁ (base v) (emptied (meaning v)) → Means v₂ (base v₁) (withRest (withEvery [] (meaning v₁ .rest)) (meaning v₁))
@@ -157,4 +157,4 @@ set-left s v v₁ v₂ v₃ n q m₁ m₂ m₃ =
     let l = follows (λ (m : model.Volatile). withRest (unsetRules 0 (m .rest)) m) v₂ v₃ (base v) _ k m₃ in
     let z : model.Volatile → model.Volatile = λ (m : model.Volatile). withRest (unsetRules 0 (withEvery [] (emptied m .rest))) (emptied m) in
     let r : Means v₃ (base v) (cleared (restWithout s) (s .vol)) = subst (Means v₃ (base v)) (ap z (sym q)) l in
-    same-numbers v₃ (base v) (cleared (restWithout s) (s .vol)) r (ap (λ (m : model.Volatile). m .next) q ∙ next-is v (meaning v) n)
+    same-numbers v₃ (base v) (cleared (restWithout s) (s .vol)) r (ap (λ (m : model.Volatile). m .next) q ∙ next-is v (meaning v) n) (omega (arith, ap (λ (m : model.Volatile). m .lastNumber) q, n .lastFits))

@@ -36,7 +36,7 @@ fn refuse(outcomes: &mut [u32], effects: &mut [u32], number: u32) -> Answer
     Answer::Refused(number)
 }
 
-// The call has come to x: it is refused with 30 or 31, or the store is written.
+// The call has come to x: it is refused with 30, 31 or 32, or the store is written.
 fn commit(
     store: &mut [u32],
     outcomes: &mut [u32],
@@ -56,6 +56,9 @@ fn commit(
     }
     if !state::sequence::next_fits(v) {
         return refuse(outcomes, effects, 31);
+    }
+    if !state::last_number::last_fits(v) {
+        return refuse(outcomes, effects, 32);
     }
     state::sequence::assign_numbers(v);
     store::volatile::put_state(store, v);

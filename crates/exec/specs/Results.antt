@@ -30,7 +30,7 @@ effectOption Nothing = none
 effectOption (One x) = some x
 
 abbrev pub jobOf : Job → model.Job
-jobOf j = record { rule = j .rule; index = j .index; hold = j .hold; trigger = j .trigger; dry = j .dry }
+jobOf j = record { rule = j .rule; index = j .index; hold = j .hold; trigger = j .trigger; dry = j .dry; number = j .number }
 
 -- who disables a rule also strikes its continuations
 abbrev pub struck : Option ℕ → model-state.Volatile → model-state.Volatile

@@ -17,13 +17,14 @@ use model::Effect;
 use model::Point;
 use model::Step;
 
-// What a run knows of its rule: name, place in the image, hold_hcl; and the trigger for the outcome.
+// What a run knows of its rule: name, place in the image, hold_hcl; and the trigger and the activation number for the outcome, 0 for none.
 pub struct Job {
     pub rule: u32,
     pub index: u32,
     pub hold: u32,
     pub trigger: u32,
     pub dry: bool,
+    pub number: u64,
 }
 
 // A step gives at most one effect.

@@ -66,7 +66,7 @@ fn wait(snapshot: &[u32], v: &mut [u32], job: Job, left: u32, sp: Point, ms: u32
 {
     let to = advance(sp, 0);
     let time = world::now_ms(snapshot);
-    let reason = state::pending::schedule(v, time, job.rule, job.trigger, left, ms, to);
+    let reason = state::pending::schedule(v, time, job.rule, job.trigger, job.number, left, ms, to);
     StepResult {
         effect: MaybeEffect::Nothing,
         reason,
@@ -81,7 +81,16 @@ fn after(snapshot: &[u32], v: &mut [u32], job: Job, left: u32, sp: Point, ms: u3
 {
     let body = body_start(sp);
     let time = world::now_ms(snapshot);
-    let reason = state::pending::schedule(v, time, job.rule, job.trigger, left, ms, body);
+    let reason = state::pending::schedule(
+        v,
+        time,
+        job.rule,
+        job.trigger,
+        job.number,
+        left,
+        ms,
+        body,
+    );
     let to = advance(sp, 0);
     StepResult {
         effect: MaybeEffect::Nothing,

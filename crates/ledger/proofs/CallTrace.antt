@@ -16,11 +16,11 @@ use Rattle.model.specs.declared.Effect.{Effect}
 use Rattle.model.specs.Outcome.{Outcome, Item, started, resumed, aborted, paid}
 use Rattle.model.specs.declared.Pending.{Pending}
 use Rattle.model.specs.declared.Point.{Point}
-use Rattle.model.specs.State.{Env, Rest, Volatile, RuleSet, Store, withRest, isEnabled, bump, continuationsFired, suppressedCooldown}
+use Rattle.model.specs.State.{nextNumber, Env, Rest, Volatile, RuleSet, Store, withRest, isEnabled, bump, continuationsFired, suppressedCooldown}
 use Rattle.model.specs.Eval.{conditionsHold}
 use Rattle.model.specs.Actions.{Job, conditionUnevaluable}
 use Rattle.model.specs.Exec.{RunOutput, runSteps}
-use Rattle.model.specs.Activate.{Mode, Auto, Manual, isDry, isAuto, Handled, noOutcome, andThen, outcome, jobOf, inCooldown, Decision, begins, suppressed, unevaluable, verdict, decide, finished, executeWet, execute, decided, activate, resume}
+use Rattle.model.specs.Activate.{Mode, Auto, Manual, isDry, isAuto, Handled, noOutcome, andThen, outcome, jobOf, numbered, inCooldown, Decision, begins, suppressed, unevaluable, verdict, decide, finished, executeWet, execute, decided, activate, resume}
 use Rattle.model.specs.Steps.{start}
 use Rattle.model.specs.Wheel.{dueNow, resumeAll, fireContinuations, serviceTick}
 use Rattle.model.specs.Calls.{Call, new, load, unload, enable, tick, run, deadline, counters, Done, overflow, loading, callLoad, callUnload, enabling, ruleIn, callEnable, committing, committed, tickWith, runRule, runWith, given, refuse, call}
@@ -37,7 +37,7 @@ pub data PartOf (set : RuleSet) : List Pending → List Item → List Outcome �
   behind : {ms : List Item} {os : List Outcome} → ActivationsOf set ms os → PartOf set [] ms os
   first : {c : Pending} {cs : List Pending} {reason : ℕ} {ms rest : List Item} {os : List Outcome}
       → RunOf set (orElse 0 (ruleNamed (set .image) (c .rule))) (c .budget) (c .point) ms reason → PartOf set cs rest os
-      → PartOf set (c ∷ cs) (resumed c ∷ (ms ++ rest)) (wetOutcome (c .rule) (c .trigger) reason ms ∷ os)
+      → PartOf set (c ∷ cs) (resumed c ∷ (ms ++ rest)) (wetOutcome (c .rule) (c .trigger) reason (c .number) ms ∷ os)
 
 trace-of : {set : RuleSet} {cs : List Pending} {ms : List Item} {os : List Outcome} → PartOf set cs ms os → TraceOf set ms os
 trace-of (behind p) = activations p
@@ -65,15 +65,15 @@ part-resumes (first {c = c} {rest = rest} w p) = ap (λ cs. c ∷ cs) (run-resum
 -- one part behind another
 activations-append : {set : RuleSet} {a b : List Item} {os bs : List Outcome} → ActivationsOf set a os → ActivationsOf set b bs → ActivationsOf set (a ++ b) (os ++ bs)
 activations-append no-more q = q
-activations-append {set} {b = b} {bs = bs} (activation {i = i} {kind = kind} {reason = reason} {ms = ms} {rest = rest} {os = os} w p) q =
-    subst (λ zs. ActivationsOf set (started (nameOf (set .image) i) ∷ zs) (wetOutcome (nameOf (set .image) i) kind reason ms ∷ (os ++ bs))) (sym (append-assoc ms rest b))
+activations-append {set} {b = b} {bs = bs} (activation {i = i} {kind = kind} {reason = reason} {number = number} {ms = ms} {rest = rest} {os = os} w p) q =
+    subst (λ zs. ActivationsOf set (started (nameOf (set .image) i) ∷ zs) (wetOutcome (nameOf (set .image) i) kind reason number ms ∷ (os ++ bs))) (sym (append-assoc ms rest b))
     (activation w (activations-append p q))
 activations-append (trace.unevaluable i p) q = trace.unevaluable i (activations-append p q)
 
 part-append : {set : RuleSet} {cs : List Pending} {a b : List Item} {os bs : List Outcome} → PartOf set cs a os → ActivationsOf set b bs → PartOf set cs (a ++ b) (os ++ bs)
 part-append (behind p) q = behind (activations-append p q)
 part-append {set} {b = b} {bs = bs} (first {c = c} {cs = cs} {reason = reason} {ms = ms} {rest = rest} {os = os} w p) q =
-    subst (λ zs. PartOf set (c ∷ cs) (resumed c ∷ zs) (wetOutcome (c .rule) (c .trigger) reason ms ∷ (os ++ bs))) (sym (append-assoc ms rest b)) (first w (part-append p q))
+    subst (λ zs. PartOf set (c ∷ cs) (resumed c ∷ zs) (wetOutcome (c .rule) (c .trigger) reason (c .number) ms ∷ (os ++ bs))) (sym (append-assoc ms rest b)) (first w (part-append p q))
 
 pub record Faithful (set : RuleSet) (cs : List Pending) (x : Handled) : Type 0 where
   pub part : PartOf set cs (x .trace) (x .outcomes)
@@ -87,10 +87,10 @@ module _ (e : Env) where
 
   -- the outcome of a wet job tells its rule, its trigger and the run's effects and reason
   wet-outcome : (w : Job) (name : ℕ) (effects : List Effect) (reason : ℕ) (ms : List Item) → w .dry ≡ false → w .rule ≡ name → effects ≡ effectsIn ms
-      → outcome w effects reason ≡ wetOutcome name (w .trigger) reason ms
+      → outcome w effects reason ≡ wetOutcome name (w .trigger) reason (w .number) ms
   unfolding outcome
   wet-outcome w name effects reason ms wet er y =
-      λ i. record { rule = er i; dry = cond (wet i) 1 0; trigger = w .trigger; reason = reason; effects = y i }
+      λ i. record { rule = er i; dry = cond (wet i) 1 0; trigger = w .trigger; reason = reason; effects = y i; number = w .number }
 
   -- a wet activation of the rule at the job's place
   starts : (w : Job) (r : RunOutput) → w .dry ≡ false → w .rule ≡ nameOf (e .set .image) (w .index)
@@ -98,36 +98,37 @@ module _ (e : Env) where
       → Faithful (e .set) [] (finished w (started (w .rule)) r)
   starts w r wet er z y =
       let name = nameOf (e .set .image) (w .index) in
-      let a : ActivationsOf (e .set) (started name ∷ (r .trace ++ [])) (wetOutcome name (w .trigger) (r .reason) (r .trace) ∷ []) = activation z no-more in
-      let b = subst (λ ms. ActivationsOf (e .set) (started name ∷ ms) (wetOutcome name (w .trigger) (r .reason) (r .trace) ∷ [])) (append-nil (r .trace)) a in
-      let c = subst (λ n. ActivationsOf (e .set) (started n ∷ r .trace) (wetOutcome name (w .trigger) (r .reason) (r .trace) ∷ [])) (sym er) b in
+      let a : ActivationsOf (e .set) (started name ∷ (r .trace ++ [])) (wetOutcome name (w .trigger) (r .reason) (w .number) (r .trace) ∷ []) = activation z no-more in
+      let b = subst (λ ms. ActivationsOf (e .set) (started name ∷ ms) (wetOutcome name (w .trigger) (r .reason) (w .number) (r .trace) ∷ [])) (append-nil (r .trace)) a in
+      let c = subst (λ n. ActivationsOf (e .set) (started n ∷ r .trace) (wetOutcome name (w .trigger) (r .reason) (w .number) (r .trace) ∷ [])) (sym er) b in
       record {
         part = behind (subst (λ o. ActivationsOf (e .set) (started (w .rule) ∷ r .trace) (o ∷ [])) (sym (wet-outcome w name (r .effects) (r .reason) (r .trace) wet er y)) c);
       }
 
-  aborts : (w : Job) (v : Volatile) → w .dry ≡ false → w .rule ≡ nameOf (e .set .image) (w .index)
+  aborts : (w : Job) (v : Volatile) → w .number ≡ 0 → w .dry ≡ false → w .rule ≡ nameOf (e .set .image) (w .index)
       → Faithful (e .set) [] (record { vol = v; outcomes = outcome w [] conditionUnevaluable ∷ []; trace = aborted (w .rule) ∷ [] })
-  aborts w v wet er =
+  aborts w v en wet er =
       let name = nameOf (e .set .image) (w .index) in
-      let a : ActivationsOf (e .set) (aborted name ∷ []) (wetOutcome name (w .trigger) conditionUnevaluable [] ∷ []) = trace.unevaluable (w .index) no-more in
-      let b = subst (λ n. ActivationsOf (e .set) (aborted n ∷ []) (wetOutcome name (w .trigger) conditionUnevaluable [] ∷ [])) (sym er) a in
-      record { part = behind (subst (λ o. ActivationsOf (e .set) (aborted (w .rule) ∷ []) (o ∷ [])) (sym (wet-outcome w name [] conditionUnevaluable [] wet er refl)) b) }
+      let a : ActivationsOf (e .set) (aborted name ∷ []) (wetOutcome name (w .trigger) conditionUnevaluable 0 [] ∷ []) = trace.unevaluable (w .index) no-more in
+      let b = subst (λ n. ActivationsOf (e .set) (aborted n ∷ []) (wetOutcome name (w .trigger) conditionUnevaluable 0 [] ∷ [])) (sym er) a in
+      record { part = behind (subst (λ o. ActivationsOf (e .set) (aborted (w .rule) ∷ []) (o ∷ [])) (sym (wet-outcome w name [] conditionUnevaluable [] wet er refl ∙ ap (λ n. wetOutcome name (w .trigger) conditionUnevaluable n []) en)) b) }
 
   wet-execute : (w : Job) (d : Bool) (v : Volatile) → d ≡ false → w .dry ≡ false → w .rule ≡ nameOf (e .set .image) (w .index) → Faithful (e .set) [] (execute e w d v)
-  unfolding executeWet
+  unfolding executeWet numbered
   wet-execute w true v t wet er = absurd (true≢false t)
   wet-execute w false v t wet er =
-      starts w _ wet er (run-trace (budget (e .set .image)) e w wet start _) ((run-effects (budget (e .set .image)) e w start _) .effects)
+      let u = numbered (nextNumber (v .lastNumber)) w in
+      starts u _ wet er (run-trace (budget (e .set .image)) e u wet start _) ((run-effects (budget (e .set .image)) e u start _) .effects)
 
-  decides : (w : Job) (d : Decision) (v : Volatile) → w .dry ≡ false → w .rule ≡ nameOf (e .set .image) (w .index) → Faithful (e .set) [] (decided d e w v)
-  decides w (begins s) v wet er = wet-execute w (w .dry) (withRest s v) wet wet er
-  decides w (suppressed s) v wet er = no-outcome (withRest s v)
-  decides w (unevaluable s) v wet er = aborts w (withRest s v) wet er
+  decides : (w : Job) (d : Decision) (v : Volatile) → w .number ≡ 0 → w .dry ≡ false → w .rule ≡ nameOf (e .set .image) (w .index) → Faithful (e .set) [] (decided d e w v)
+  decides w (begins s) v en wet er = wet-execute w (w .dry) (withRest s v) wet wet er
+  decides w (suppressed s) v en wet er = no-outcome (withRest s v)
+  decides w (unevaluable s) v en wet er = aborts w (withRest s v) en wet er
 
   activates : (i kind : ℕ) (m : Mode) (v : Volatile) → isDry m ≡ false → Faithful (e .set) [] (activate e i kind m v)
   unfolding activate jobOf
   activates i kind m v wet =
-      decides (jobOf e (nameOf (e .set .image) i) i kind (isDry m)) (decide e i m (v .rest)) v wet refl
+      decides (jobOf e (nameOf (e .set .image) i) i kind (isDry m)) (decide e i m (v .rest)) v refl wet refl
 
   -- behind the resumptions there are activations only
   trace-laws : WheelLaws e (List Pending) (λ i. Unit {0}) (λ cs. Unit {0}) (λ cs v. cs ≡ []) (Faithful (e .set))
@@ -149,10 +150,10 @@ module _ (e : Env) where
       }
 
   resumes : (cs : List Pending) (v : Volatile) → Faithful (e .set) cs (resumeAll e cs v)
-  unfolding resumeAll resume jobOf
+  unfolding resumeAll resume jobOf numbered
   resumes [] v = no-outcome v
   resumes (c ∷ cs) v =
-      let w : Job = jobOf e (c .rule) (orElse 0 (ruleNamed (e .set .image) (c .rule))) (c .trigger) false in
+      let w : Job = numbered (c .number) (jobOf e (c .rule) (orElse 0 (ruleNamed (e .set .image) (c .rule))) (c .trigger) false) in
       let s = withRest (bump continuationsFired (v .rest)) v in
       let r = runSteps (c .budget) e w (c .point) s in
       let ih = resumes cs ((resume e c v) .vol) in

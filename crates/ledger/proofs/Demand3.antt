@@ -14,7 +14,7 @@ use Rattle.ledger.specs.Sets.{setAfter}
 use Rattle.ledger.specs.FlatForm.{FlatForm}
 use Rattle.ledger.specs.Demand3.{inWords, Demand3}
 use Rattle.ledger.proofs.ListLaws.{and-l, and-r}
-use Rattle.ledger.proofs.History.{ledger-follows, tells-dropped, numbers-alike}
+use Rattle.ledger.proofs.History.{ledger-follows, tells-dropped, numbers-alike, numbers-shown}
 use Rattle.ledger.proofs.EffectBound.{effects-bounded}
 use Rattle.ledger.proofs.Resumptions.{dropped, accepted, resumes-once, start-once, all-leave}
 use Rattle.ledger.proofs.CallTrace.{call-conforms}
@@ -61,6 +61,7 @@ demand3 s k cs w =
       flat = λ xs ys set e f. set-flat s k xs ys set (subst (λ ds. all inWords ds ≡ true) e w) f;
       dry = λ xs ys r snap os es e. dry-run r snap os es (finalStore s xs);
       numbered = λ xs ys c e n. numbers-alike s g xs c n;
+      numbers = λ xs ys c e. numbers-shown s g xs c;
       loaded = set-after s cs;
       keeps = keeps-after s k cs w;
     }

@@ -18,16 +18,16 @@ use Rattle.model.specs.declared.Step.{Step}
 use Rattle.model.specs.declared.Point.{Point}
 use Rattle.model.specs.Outcome.{Outcome, started, resumed, aborted, paid}
 use Rattle.model.specs.declared.Pending.{Pending}
-use Rattle.model.specs.State.{Rest, Env, Volatile, RuleSet, Store, withRest, withLastActivation, isEnabled, bump, activationsTotal, continuationsFired}
+use Rattle.model.specs.State.{nextNumber, Rest, Env, Volatile, RuleSet, Store, withRest, withLastActivation, isEnabled, bump, activationsTotal, continuationsFired}
 use Rattle.model.specs.Flat.{Flattened, flattenRule, flattenRules, setOf, stepAt}
 use Rattle.model.specs.Steps.{start}
 use Rattle.model.specs.Actions.{Job}
 use Rattle.model.specs.Exec.{StepResult, exec, RunOutput, continueRun, withStep, runSteps}
-use Rattle.model.specs.Activate.{Mode, Auto, Manual, isDry, Handled, noOutcome, andThen, jobOf, Decision, begins, suppressed, unevaluable, decide, executeWet, execute, decided, activate, resume}
+use Rattle.model.specs.Activate.{Mode, Auto, Manual, isDry, Handled, noOutcome, andThen, jobOf, numbered, withNumber, Decision, begins, suppressed, unevaluable, decide, executeWet, execute, decided, activate, resume}
 use Rattle.model.specs.Wheel.{dueNow, notDue, resumeAll, fireContinuations, serviceTick}
 use Rattle.model.specs.Rules.{nameOrder}
 use Rattle.model.specs.Calls.{Call, new, load, unload, enable, tick, run, deadline, counters, Done, refuse, fresh, loading, callLoad, callUnload, enabling, ruleIn, callEnable, overflow, committing, committed, tickWith, runRule, runWith, given, call}
-use Rattle.ledger.specs.Ledger.{cleared, disabled, ticked, ran, Activation, Posting, Ledger, leavesBefore, leaving, staying, resumedPayer, postItem, postItems, post, postAll, eventsOf, entryOf, isRefused, budgetOf, startLedger, notices, postCall, finalLedger}
+use Rattle.ledger.specs.Ledger.{made, cleared, disabled, ticked, ran, Activation, Posting, Ledger, leavesBefore, leaving, staying, resumedPayer, postItem, postItems, post, postAll, eventsOf, entryOf, isRefused, budgetOf, startLedger, notices, postCall, finalLedger}
 use Rattle.ledger.specs.Effects.{sameActivation, from, onlyIf, effectsFrom}
 use Rattle.ledger.proofs.Sound.{Sound}
 use Rattle.ledger.proofs.ListLaws.{and-l, and-r, and-i, by}
@@ -115,12 +115,13 @@ module _ (ρ : Activation) where
 
   module _ (e : Env) (ok : flatOk (e .set) ≡ true) where
     executes : (w : Job) (b : Bool) (v : Volatile) (l : Ledger) → b ≡ false → l .budget ≡ image.budget (e .set .image) → Within l → BoundKept l (execute e w b v)
-    unfolding executeWet postItem
+    unfolding executeWet numbered postItem
     executes w true v l wet eb h = absurd (true≢false wet)
     executes w false v l wet eb h =
-        let u = withRest (withLastActivation (set (v .rest .lastActivation) (w .index) (some (e .world .now))) (bump activationsTotal (v .rest))) v in
-        let x = runs-bound ρ (image.budget (e .set .image)) e w start u (postItem (started (w .rule)) l) ok eb in
-        let y = runs-unchanged (image.budget (e .set .image)) e w start u (postItem (started (w .rule)) l) in
+        let n = nextNumber (v .lastNumber) in
+        let u = withNumber (suc (v .lastNumber)) (withRest (withLastActivation (set (v .rest .lastActivation) (w .index) (some (e .world .now))) (bump activationsTotal (v .rest))) v) in
+        let x = runs-bound ρ (image.budget (e .set .image)) e (numbered n w) start u (postItem (started (w .rule)) l) ok eb in
+        let y = runs-unchanged (image.budget (e .set .image)) e (numbered n w) start u (postItem (started (w .rule)) l) in
         let z = starts-bound (l .count) (l .budget) (amortized ρ l) (h .within) in
         let q = ap (λ n. onlyIf (sameActivation ρ (record { number = l .count; budget = l .budget })) (most n)) eb in
         let c = ap cap (y .count) in
@@ -169,11 +170,11 @@ module _ (ρ : Activation) where
 
     resumes : (j k : ℕ) (cs : List Pending) (hs : List Posting) (v : Volatile) (l : Ledger) → map (agedPending k) cs ≡ map (agedPosting j) hs → l .due ≡ hs
         → Resumed l (postItems ((resumeAll e cs v) .trace) l) hs
-    unfolding resumeAll resume jobOf postItem entryOf
+    unfolding resumeAll resume jobOf numbered postItem entryOf
     resumes j k [] hs v l m d = record { spent = omega arith; count = refl; budget = refl }
     resumes j k (c ∷ cs) [] v l m d = absurd (cons≢nil m)
     resumes j k (c ∷ cs) (h ∷ hs) v l m d =
-        let w : Job = jobOf e (c .rule) (orElse 0 (ruleNamed (e .set .image) (c .rule))) (c .trigger) false in
+        let w : Job = numbered (c .number) (jobOf e (c .rule) (orElse 0 (ruleNamed (e .set .image) (c .rule))) (c .trigger) false) in
         let u = withRest (bump continuationsFired (v .rest)) v in
         let a : agedPending k c ≡ agedPosting j h = head-eq-of-cons-eq m in
         let el : (resumedPayer (c .rule) (l .due)) .left ≡ c .budget = ap (λ ds. (resumedPayer (c .rule) ds) .left) d ∙ sym (ap (λ (x : Aged). x .entry .budget) a) in
@@ -293,7 +294,7 @@ module _ (ρ : Activation) where
 
   call-bound : (c : Call) (s : Store) (l : Ledger) → Agree s l → flatsOk (s .loaded) ≡ true → Within l → Stays c l (call c s)
   unfolding call callLoad callUnload callEnable eventsOf post fresh
-  call-bound (new t) s l a ok h = record { ok = refl; within = less l (post (cleared 0) l) (omega arith) refl h }
+  call-bound (new t) s l a ok h = record { ok = refl; within = less l (post made l) (omega arith) refl h }
   call-bound (load t img) s l a ok h = loads (imageRefusalWith img (flattenRules img)) t img s l ok h
   call-bound (unload t) s l a ok h = record { ok = refl; within = less l (post (cleared 0) l) (omega arith) refl h }
   call-bound (enable r b) s l a ok h = enables (ruleIn (s .loaded) r) r b s l ok h
@@ -310,7 +311,7 @@ module _ (ρ : Activation) where
       let b = call-bound c s l a ok h in
       history-bound ((call c s) .store) (postAll (eventsOf (isRefused ((call c s) .answer)) c ((call c s) .trace)) l) cs ((follows c s l a) .agree) (b .ok) (b .within)
 
-  start-sum : (cs : List Pending) → potentialOf ρ (map (λ (c : Pending). record { entry = entryOf c; age = c .seq; origin = none }) cs) ≡ 0
+  start-sum : (cs : List Pending) → potentialOf ρ (map (λ (c : Pending). record { entry = entryOf c; age = c .seq; number = c .number; origin = none }) cs) ≡ 0
   start-sum [] = refl
   start-sum (c ∷ cs) = let ih = start-sum cs in omega arith
 

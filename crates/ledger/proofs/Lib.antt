@@ -1,5 +1,6 @@
 pub mod RunTrace
 pub mod ListLaws
+pub mod NextNumber
 pub mod SortLaws
 pub mod SumLaws
 pub mod Wheel
@@ -28,6 +29,7 @@ pub mod WheelRules
 pub mod LoadRules
 pub mod Room
 pub mod KeepsParts
+pub mod LastNumbers
 pub mod CallRules
 pub mod Potential
 pub mod RunBound
@@ -40,3 +42,9 @@ pub mod FlatForms
 pub mod FlatOnce
 pub mod Demand3
 pub mod OnWords
+pub mod Numbers
+pub mod Origins
+pub mod Logs
+pub mod LogsOnWords
+pub mod LogWords
+pub mod SeenLines

@@ -19,7 +19,7 @@ use Rattle.model.specs.State.{Store}
 use Rattle.model.specs.Calls.{Call, new, load, unload, enable, tick, run, deadline, counters}
 use Rattle.model.proofs.Bools.{all-append}
 use Rattle.ledger.proofs.Sound.{Sound}
-use Rattle.ledger.specs.Ledger.{Event, cleared, disabled, ticked, ran, traced, Posting, Standing, Ledger, leavesBefore, leaving, staying, struck, accept, postReport, postItem, post, postAll, entryOf, startLedger, Notice, eventsOf, leavingAt, leavingAtEach, notices, postCall}
+use Rattle.ledger.specs.Ledger.{Event, made, cleared, disabled, ticked, ran, traced, Posting, Standing, Ledger, leavesBefore, leaving, staying, struck, accept, postReport, postItem, post, postAll, entryOf, startLedger, Notice, eventsOf, leavingAt, leavingAtEach, notices, postCall}
 use Rattle.ledger.specs.Resumptions.{allEvents, changeAt, tickNumber, ticksIn, expected, leavingOn, allLeaving, ofAge, resumptionsOf, continuation}
 use Rattle.ledger.proofs.ListLaws.{all-keep, and-l, and-r, and-i, by}
 use Rattle.ledger.proofs.Distinct.{distinctBy}
@@ -49,6 +49,7 @@ module _ (n : ℕ) where
   -- an age is given to one entry only
   next-post : (m : Event) (l : Ledger) → n < l .standing .next → n < (post m l) .standing .next
   unfolding post postItem postReport
+  next-post made l h = h
   next-post (cleared b) l h = h
   next-post (disabled q) l h = h
   next-post (ticked t) l h = h
@@ -63,6 +64,7 @@ module _ (n : ℕ) where
   -- an entry that has left or was struck does not come back
   none-post : (m : Event) (l : Ledger) → n < l .standing .next → ofAge n (l .standing .postings) ≡ [] → ofAge n ((post m l) .standing .postings) ≡ []
   unfolding post postItem postReport struck staying
+  none-post made l h e = refl
   none-post (cleared b) l h e = refl
   none-post (disabled q) l h e = pick-struck q (l .standing .postings) ∙ ap (struck q) e
   none-post (ticked t) l h e = pick-staying t (l .standing .postings) ∙ ap (staying t) e
@@ -76,6 +78,7 @@ module _ (n : ℕ) where
 
   none-leaves : (m : Event) (l : Ledger) → ofAge n (l .standing .postings) ≡ [] → ofAge n (leavingOn m l) ≡ []
   unfolding leavingOn leaving
+  none-leaves made l e = refl
   none-leaves (cleared b) l e = refl
   none-leaves (disabled q) l e = refl
   none-leaves (ticked t) l e =
@@ -121,6 +124,7 @@ module _ (n : ℕ) where
       → resumptionsOf n i ms l ≡ expected (h .entry) i ms
   unfolding changeAt leavingOn post postItem postReport
   stands [] i l h b e = refl
+  stands (made ∷ ms) i l h b e = gone ms i _ b refl
   stands (cleared x ∷ ms) i l h b e = gone ms i _ b refl
   stands (disabled q ∷ ms) i l h b e =
       by (eqb (h .entry .rule) q)
@@ -168,6 +172,7 @@ below-accept h s e b =
 
 below-post : (m : Event) (l : Ledger) → below l ≡ true → below (post m l) ≡ true
 unfolding post postItem postReport struck staying
+below-post made l h = refl
 below-post (cleared b) l h = refl
 below-post (disabled q) l h = all-keep _ _ (l .standing .postings) h
 below-post (ticked t) l h = all-keep _ _ (l .standing .postings) h
@@ -184,7 +189,7 @@ below-posts [] l h = h
 below-posts (m ∷ ms) l h = below-posts ms (post m l) (below-post m l h)
 
 below-start : (cs : List Pending) (n : ℕ) → all (λ (c : Pending). ltb (c .seq) n) cs ≡ true
-    → all (λ (h : Posting). ltb (h .age) n) (map (λ (c : Pending). record { entry = entryOf c; age = c .seq; origin = none }) cs) ≡ true
+    → all (λ (h : Posting). ltb (h .age) n) (map (λ (c : Pending). record { entry = entryOf c; age = c .seq; number = c .number; origin = none }) cs) ≡ true
 below-start [] n h = refl
 below-start (c ∷ cs) n h = and-i (ltb (c .seq) n) _ (and-l _ _ h) (below-start cs n (and-r (ltb (c .seq) n) _ h))
 
@@ -198,7 +203,7 @@ accepted-once : (x : Step) (d : Bool) (ms : ℕ) (sp : Point) (g : Option Effect
 unfolding post postItem postReport accept continuation
 accepted-once x d ms sp g l behind i b f =
     let n = l .standing .next in
-    let h : Posting = record { entry = continuation ms sp l; age = n; origin = l .payer .origin } in
+    let h : Posting = record { entry = continuation ms sp l; age = n; number = l .payer .number; origin = l .payer .origin } in
     let e : ofAge n (l .standing .postings ++ (h ∷ [])) ≡ h ∷ [] =
     keep-append (λ (x : Posting). eqb (x .age) n) (l .standing .postings) (h ∷ []) ∙ rw (none-of-next n (l .standing .postings) b, eq-eqb n n refl) in
     stands n behind i (post (traced (paid x (defers d ms sp) g)) l) h (rw f (omega arith)) (rw f e)
@@ -206,6 +211,7 @@ accepted-once x d ms sp g l behind i b f =
 -- an age that is not given out yet leaves nowhere
 next-mono : (m : Event) (l : Ledger) → l .standing .next ≤ (post m l) .standing .next
 unfolding post postItem postReport
+next-mono made l = omega arith
 next-mono (cleared b) l = omega arith
 next-mono (disabled q) l = omega arith
 next-mono (ticked t) l = omega arith
@@ -258,7 +264,7 @@ module _ (s : Store) (g : Sound s) (cs : List Call) (before behind : List Event)
   pub accepted : eqb (length ((postAll before (startLedger s)) .standing .postings)) 32 ≡ false
       → (post (traced (paid x (defers d ms sp) effect)) (postAll before (startLedger s))) .standing .postings
       ≡ (postAll before (startLedger s)) .standing .postings
-      ++ (record { entry = continuation ms sp (postAll before (startLedger s)); age = (postAll before (startLedger s)) .standing .next; origin = (postAll before (startLedger s)) .payer .origin } ∷ [])
+      ++ (record { entry = continuation ms sp (postAll before (startLedger s)); age = (postAll before (startLedger s)) .standing .next; number = (postAll before (startLedger s)) .payer .number; origin = (postAll before (startLedger s)) .payer .origin } ∷ [])
   unfolding post postItem postReport accept continuation
   accepted room = rw room
 
@@ -283,7 +289,7 @@ module _ (s : Store) (g : Sound s) (cs : List Call) (before behind : List Event)
 
 -- WHAT IS PENDING AT THE START -------------------------------------------------------------------------------------------------------------
 abbrev startPosting : Pending → Posting
-startPosting c = record { entry = entryOf c; age = c .seq; origin = none }
+startPosting c = record { entry = entryOf c; age = c .seq; number = c .number; origin = none }
 
 eqb-sym-false : (a b : ℕ) → not (eqb a b) ≡ true → eqb b a ≡ false
 eqb-sym-false a b h = ne-eqb b a (λ e. let z : true ≡ false = cc (eq-eqb a b (sym e)) in absurd (true≢false z))

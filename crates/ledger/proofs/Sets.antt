@@ -59,7 +59,7 @@ run-leaves : (b : Bool) (r : ℕ) (dry : Bool) (snap : List ℕ) (os es : ℕ) (
 run-leaves true r dry snap os es o = refl
 run-leaves false r dry snap os es o = refl
 
-call-leaves : (c : Call) (s : Store) → Leaves c s (call c s)
+pub call-leaves : (c : Call) (s : Store) → Leaves c s (call c s)
 unfolding call callLoad callUnload callEnable fresh
 call-leaves (new t) s = refl
 call-leaves (load t img) s = load-leaves (imageRefusalWith img (flattenRules img)) t img s

@@ -13,7 +13,7 @@ use Rattle.model.specs.declared.Pending.{Pending}
 use Rattle.model.specs.State.{Store}
 use Rattle.model.specs.Calls.{Call, call}
 use Rattle.ledger.proofs.Sound.{Sound}
-use Rattle.ledger.specs.Ledger.{Event, cleared, disabled, ticked, ran, traced, Posting, Standing, Ledger, struck, staying, accept, postReport, postItem, post, postAll, eventsOf, entryOf, isRefused, startLedger}
+use Rattle.ledger.specs.Ledger.{Event, made, cleared, disabled, ticked, ran, traced, Posting, Standing, Ledger, struck, staying, accept, postReport, postItem, post, postAll, eventsOf, entryOf, isRefused, startLedger}
 use Rattle.ledger.proofs.Distinct.{distinctBy, distinct-keep, distinct-snoc, all-map, distinct-map}
 use Rattle.ledger.proofs.Simulation.{Aged, agedPending, agedPosting}
 use Rattle.ledger.proofs.TickSimulation.{ltb-shift}
@@ -33,6 +33,7 @@ distinct-accept h s e b d =
 
 distinct-post : (m : Event) (l : Ledger) → below l ≡ true → distinctBy ageOf (l .standing .postings) ≡ true → distinctBy ageOf ((post m l) .standing .postings) ≡ true
 unfolding post postItem postReport struck staying
+distinct-post made l b d = refl
 distinct-post (cleared x) l b d = refl
 distinct-post (disabled q) l b d = distinct-keep ageOf _ (l .standing .postings) d
 distinct-post (ticked t) l b d = distinct-keep ageOf _ (l .standing .postings) d
@@ -71,7 +72,7 @@ numbers-kept s l a b d =
 start-distinct : (s : Store) → Sound s → distinctBy ageOf ((startLedger s) .standing .postings) ≡ true
 unfolding startLedger
 start-distinct s g =
-    distinct-map (λ (c : Pending). record { entry = entryOf c; age = c .seq; origin = none }) ageOf (λ (c : Pending). c .seq) 0 (λ c. omega arith) (s .vol .pending)
+    distinct-map (λ (c : Pending). record { entry = entryOf c; age = c .seq; number = c .number; origin = none }) ageOf (λ (c : Pending). c .seq) 0 (λ c. omega arith) (s .vol .pending)
     ∙ g .distinct
 
 -- the store rules hold after every call
@@ -82,4 +83,4 @@ call-sound c s g =
     let ms = eventsOf (isRefused ((call c s) .answer)) c ((call c s) .trace) in
     let b = sound-below s g in
     let n = numbers-kept ((call c s) .store) (postAll ms (startLedger s)) (f .agree) (below-posts ms (startLedger s) b) (distinct-posts ms (startLedger s) b (start-distinct s g)) in
-    record { ok = call-ok c s g; few = f .agree .sim .few; known = f .agree .sim .known; below = n .0; distinct = n .1 }
+    record { ok = call-ok c s g; few = f .agree .sim .few; known = f .agree .sim .known; below = n .0; distinct = n .1; given = f .agree .sim .given }

@@ -12,7 +12,7 @@ use Rattle.model.specs.Rows.{rules}
 use Rattle.model.specs.Rules.{nameOf, ruleNamed}
 use Rattle.model.specs.State.{Env, Volatile, withRest, isEnabled}
 use Rattle.model.specs.Actions.{Job}
-use Rattle.model.specs.Activate.{Mode, Manual, isDry, Decision, begins, suppressed, unevaluable, decide, outcome, jobOf, executeWet, executeDry, execute, decided, activate}
+use Rattle.model.specs.Activate.{Mode, Manual, isDry, Decision, begins, suppressed, unevaluable, decide, outcome, jobOf, numbered, executeWet, executeDry, execute, decided, activate}
 use Rattle.model.specs.Calls.{runRule}
 use Rattle.ledger.specs.Trace.{OnlyOf}
 use Rattle.ledger.proofs.ListLaws.{by}
@@ -33,7 +33,7 @@ name-of-rule img r i e = eqb-true (nameOf img i) r (position-passes (λ k. eqb (
 
 module _ (e : Env) (r : ℕ) where
   one-outcome : (w : Job) (d : Decision) (v : Volatile) → w .rule ≡ r → w .trigger ≡ 0 → OnlyOf r ((decided d e w v) .outcomes)
-  unfolding executeDry executeWet outcome
+  unfolding executeDry executeWet outcome numbered
   one-outcome w (begins s) v name kind = go (w .dry)
     where
       go : (dry : Bool) → OnlyOf r ((execute e w dry (withRest s v)) .outcomes)

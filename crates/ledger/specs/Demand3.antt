@@ -17,7 +17,7 @@ use Rattle.model.specs.State.{Store, Rest, RuleSet}
 use Rattle.model.specs.Store.{Keeps}
 use Rattle.model.specs.Calls.{Call, new, load, unload, enable, tick, run, deadline, counters, call}
 use Rattle.ledger.specs.Ledger.{Event, traced, Activation, Posting, Ledger, post, postAll, entryOf, isNew, startLedger, notices, resumedAtEach, finalStore, leavingAtEach, finalLedger}
-use Rattle.ledger.specs.Effects.{effectsFrom, shownOver}
+use Rattle.ledger.specs.Effects.{effectsFrom, shownOver, ShowsNumbers}
 use Rattle.ledger.specs.Sets.{setAfter}
 use Rattle.ledger.specs.FlatForm.{FlatForm}
 use Rattle.ledger.specs.Resumptions.{allEvents, ticksIn, expected, allLeaving, resumptionsOf, continuation}
@@ -55,6 +55,7 @@ pub record SameButCounters (s s′ : Store) : Type 0 where
   pub rest : SameRest (s .vol .rest) (s′ .vol .rest)
   pub pending : s′ .vol .pending ≡ s .vol .pending
   pub next : s′ .vol .next ≡ s .vol .next
+  pub lastNumber : s′ .vol .lastNumber ≡ s .vol .lastNumber
 
 -- THE CLAIM -----------------------------------------------------------------------------------------------------------------
 module _ (s : Store) (cs : List Call) where
@@ -95,7 +96,7 @@ pub record Demand3 (s : Store) (cs : List Call) : Type 0 where
   pub accepted : (before behind : List Event) (x : Step) (ms : ℕ) (sp : Point) (g : Option Effect) → Executes s cs before (paid x (defers false ms sp) g) behind
       → standingIn (post (traced (paid x (defers false ms sp) g)) (ledgerAfter s cs before))
       ≡ standingIn (ledgerAfter s cs before)
-      ++ (record { entry = continuation ms sp (ledgerAfter s cs before); age = (ledgerAfter s cs before) .standing .next; origin = (ledgerAfter s cs before) .payer .origin } ∷ [])
+      ++ (record { entry = continuation ms sp (ledgerAfter s cs before); age = (ledgerAfter s cs before) .standing .next; number = (ledgerAfter s cs before) .payer .number; origin = (ledgerAfter s cs before) .payer .origin } ∷ [])
   -- .. that resumes exactly once, with its stored budget, in the first later tick whose time has reached its due time, unless its rule
   -- was disabled, its set replaced or unloaded, or the store made new in between, then never
   pub once : (before behind : List Event) (x : Step) (ms : ℕ) (sp : Point) (g : Option Effect) → Executes s cs before (paid x (defers false ms sp) g) behind
@@ -117,6 +118,9 @@ pub record Demand3 (s : Store) (cs : List Call) : Type 0 where
   -- each call but a new gives out a sequence number for each entry that is accepted in it, struck again in the same call or not
   pub numbered : (xs ys : List Call) (c : Call) → cs ≡ xs ++ (c ∷ ys) → isNew c ≡ false
       → (call c (finalStore s xs)) .store .vol .next + (ledgerAtEnd s xs) .standing .next ≡ (finalStore s xs) .vol .next + (ledgerAtEnd s (xs ++ (c ∷ []))) .standing .next
+  -- the outcomes of each call show the numbers of the ledger, which started with those of the store: an activation the next one, a resumption
+  -- that of its entry, a dry run and what does not start none
+  pub numbers : (xs ys : List Call) (c : Call) → cs ≡ xs ++ (c ∷ ys) → ShowsNumbers c (ledgerAtEnd s xs) (call c (finalStore s xs))
   -- the set at the end is the one that was loaded last
   pub loaded : (finalStore s cs) .loaded ≡ setAfter (s .loaded) (notices s cs)
   -- the store rules hold at the end

@@ -14,7 +14,7 @@ use Rattle.model.specs.declared.Point.{Point}
 use Rattle.model.specs.declared.Effect.{Effect}
 use Rattle.model.specs.Outcome.{Report, plain, disables, defers, Item, started, resumed, aborted, paid}
 use Rattle.model.specs.declared.Pending.{Pending}
-use Rattle.model.specs.State.{RuleSet, Store}
+use Rattle.model.specs.State.{RuleSet, Store, nextNumber}
 use Rattle.model.specs.Calls.{Call, new, load, unload, enable, tick, run, deadline, counters, Answer, done, refused, enabled, handled, due, counted, Done, call}
 
 -- WHAT IT IS TOLD ------------------------------------------------------------------------------------------------------------
@@ -26,7 +26,8 @@ pub record Notice : Type 0 where
 
 -- what changes the ledger: the arguments of a call, and the items of its trace
 pub data Event : Type 0 where
-  cleared : ℕ → Event  -- a new, load or unload: the budget B of the set from now on
+  made : Event  -- a new: the activation numbers start again
+  cleared : ℕ → Event  -- a load or unload: the budget B of the set from now on
   disabled : ℕ → Event  -- a call that disables this rule
   ticked : ℕ → Event  -- a tick at this time
   ran : ℕ → Event  -- a wet run at this time
@@ -35,7 +36,7 @@ pub data Event : Type 0 where
 -- "Refused or dry call, next deadline, counters: nothing"
 unfoldable pub eventsOf : Bool → Call → List Item → List Event
 eventsOf true c tr = []
-eventsOf false (new t) tr = cleared 0 ∷ []
+eventsOf false (new t) tr = made ∷ []
 eventsOf false (load t img) tr = cleared (image.budget img) ∷ []
 eventsOf false (unload t) tr = cleared 0 ∷ []
 eventsOf false (enable r true) tr = []
@@ -59,21 +60,24 @@ pub record Activation : Type 0 where
   pub number : ℕ
   pub budget : ℕ
 
--- an entry with its age and its origin, the activation that it comes from: none for what was pending at the start
+-- an entry with its age, its activation number and its origin, the activation that it comes from: none for what was pending at the start
 pub record Posting : Type 0 where
   pub entry : Entry
   pub age : ℕ
+  pub number : ℕ
   pub origin : Option Activation
 
--- the entries that stand, in order, and the age of the next
+-- the entries that stand, in order, the age of the next, and the last activation number given
 pub record Standing : Type 0 where
   pub postings : List Posting
   pub next : ℕ
+  pub lastNumber : ℕ
 
--- the activation or resumption to which the steps at hand belong: its rule, the budget that it has left, its origin
+-- the activation or resumption to which the steps at hand belong: its rule, the budget that it has left, its number, its origin
 pub record Payer : Type 0 where
   pub rule : ℕ
   pub left : ℕ
+  pub number : ℕ
   pub origin : Option Activation
 
 pub record Ledger : Type 0 where
@@ -102,23 +106,24 @@ struck q hs = keep (λ (h : Posting). not (eqb (h .entry .rule) q)) hs
 
 -- "a new last entry, or dropped if 32 stand"
 unfoldable pub accept : Posting → Standing → Standing
-accept h s = cond (eqb (length (s .postings)) 32) s (record { postings = s .postings ++ (h ∷ []); next = suc (s .next) })
+accept h s = cond (eqb (length (s .postings)) 32) s (record { postings = s .postings ++ (h ∷ []); next = suc (s .next); lastNumber = s .lastNumber })
 
 -- what a step reports, once it is paid; whether the engine says that it drops a wait or an after is not asked; the due time is the "call's time plus its milliseconds, saturating"
 unfoldable pub postReport : Report → ℕ → Payer → Standing → Standing
 postReport plain now u s = s
-postReport (disables q) now u s = record { postings = struck q (s .postings); next = s .next }
+postReport (disables q) now u s = record { postings = struck q (s .postings); next = s .next; lastNumber = s .lastNumber }
 postReport (defers d ms sp) now u s =
     accept
     (record {
       entry = record { rule = u .rule; point = sp; due = saturatingAdd max64 now ms; budget = u .left };
       age = s .next;
+      number = u .number;
       origin = u .origin;
     }) s
 
 -- "A paid step takes one from the budget"
 abbrev pub pay : Payer → Payer
-pay u = record { rule = u .rule; left = pred (u .left); origin = u .origin }
+pay u = record { rule = u .rule; left = pred (u .left); number = u .number; origin = u .origin }
 
 -- "and gives at most one effect": it is counted for its origin
 abbrev pub countEffect : Option Effect → Option Activation → List Activation → List Activation
@@ -128,8 +133,12 @@ countEffect (some x) (some a) before = a ∷ before
 
 -- a resumption goes on with the budget and the origin of the first entry that is still to resume; of the record only the rule is asked
 abbrev pub resumedPayer : ℕ → List Posting → Payer
-resumedPayer r [] = record { rule = r; left = 0; origin = none }
-resumedPayer r (h ∷ hs) = record { rule = r; left = h .entry .budget; origin = h .origin }
+resumedPayer r [] = record { rule = r; left = 0; number = 0; origin = none }
+resumedPayer r (h ∷ hs) = record { rule = r; left = h .entry .budget; number = h .number; origin = h .origin }
+
+-- nothing runs
+abbrev pub nobody : Payer
+nobody = record { rule = 0; left = 0; number = 0; origin = none }
 
 -- POSTING --------------------------------------------------------------------------------------------------------------------
 unfoldable pub postItem : Item → Ledger → Ledger
@@ -137,9 +146,9 @@ postItem (started r) l =
     record {
       now = l .now;
       budget = l .budget;
-      standing = l .standing;
+      standing = record { postings = l .standing .postings; next = l .standing .next; lastNumber = suc (l .standing .lastNumber) };
       due = l .due;
-      payer = record { rule = r; left = l .budget; origin = some (record { number = l .count; budget = l .budget }) };
+      payer = record { rule = r; left = l .budget; number = nextNumber (l .standing .lastNumber); origin = some (record { number = l .count; budget = l .budget }) };
       count = suc (l .count);
       effects = l .effects;
     }
@@ -155,12 +164,14 @@ postItems (i ∷ is) l = postItems is (postItem i l)
 
 -- "New, load or unload strikes all"; "Tick: first all entries due by its time leave"
 unfoldable pub post : Event → Ledger → Ledger
+post made l =
+    record { now = l .now; budget = 0; standing = record { postings = []; next = l .standing .next; lastNumber = 0 }; due = []; payer = nobody; count = l .count; effects = l .effects }
 post (cleared b) l =
-    record { now = l .now; budget = b; standing = record { postings = []; next = l .standing .next }; due = []; payer = l .payer; count = l .count; effects = l .effects }
+    record { now = l .now; budget = b; standing = record { postings = []; next = l .standing .next; lastNumber = l .standing .lastNumber }; due = []; payer = nobody; count = l .count; effects = l .effects }
 post (disabled q) l =
-    record { now = l .now; budget = l .budget; standing = record { postings = struck q (l .standing .postings); next = l .standing .next }; due = l .due; payer = l .payer; count = l .count; effects = l .effects }
+    record { now = l .now; budget = l .budget; standing = record { postings = struck q (l .standing .postings); next = l .standing .next; lastNumber = l .standing .lastNumber }; due = l .due; payer = l .payer; count = l .count; effects = l .effects }
 post (ticked t) l =
-    record { now = t; budget = l .budget; standing = record { postings = staying t (l .standing .postings); next = l .standing .next }; due = leaving t (l .standing .postings); payer = l .payer; count = l .count; effects = l .effects }
+    record { now = t; budget = l .budget; standing = record { postings = staying t (l .standing .postings); next = l .standing .next; lastNumber = l .standing .lastNumber }; due = leaving t (l .standing .postings); payer = l .payer; count = l .count; effects = l .effects }
 post (ran t) l =
     record { now = t; budget = l .budget; standing = l .standing; due = []; payer = l .payer; count = l .count; effects = l .effects }
 post (traced i) l = postItem i l
@@ -197,11 +208,12 @@ startLedger s =
       now = s .now;
       budget = budgetOf (s .loaded);
       standing = record {
-        postings = map (λ (c : Pending). record { entry = entryOf c; age = c .seq; origin = none }) (s .vol .pending);
+        postings = map (λ (c : Pending). record { entry = entryOf c; age = c .seq; number = c .number; origin = none }) (s .vol .pending);
         next = s .vol .next;
+        lastNumber = s .vol .lastNumber;
       };
       due = [];
-      payer = record { rule = 0; left = 0; origin = none };
+      payer = nobody;
       count = 0;
       effects = [];
     }

@@ -8,7 +8,7 @@ use Rattle.model.specs.Lists.{keep}
 use Rattle.words.specs.Saturating.{saturatingAdd, max64}
 use Rattle.model.specs.declared.Point.{Point}
 use Rattle.model.specs.Outcome.{plain, disables, defers, started, resumed, aborted, paid}
-use Rattle.ledger.specs.Ledger.{Event, cleared, disabled, ticked, ran, traced, Entry, Posting, Ledger, Notice, eventsOf, leaving, post}
+use Rattle.ledger.specs.Ledger.{Event, made, cleared, disabled, ticked, ran, traced, Entry, Posting, Ledger, Notice, eventsOf, leaving, post}
 
 -- all that changes the ledger, in one list
 abbrev pub allEvents : List Notice → List Event
@@ -20,6 +20,7 @@ pub data Change : Type 0 where
 
 -- what an event does to an entry of this rule and due time
 unfoldable pub changeAt : Entry → Event → Change
+changeAt e made = struckOut
 changeAt e (cleared b) = struckOut
 changeAt e (disabled q) = cond (eqb (e .rule) q) struckOut stays
 changeAt e (ticked t) = cond (leb (e .due) t) leaves stays
@@ -37,6 +38,7 @@ pub record Resumption : Type 0 where
   pub entry : Entry
 
 abbrev pub tickNumber : Event → ℕ → ℕ
+tickNumber made i = i
 tickNumber (cleared b) i = i
 tickNumber (disabled q) i = i
 tickNumber (ticked t) i = suc i
@@ -63,6 +65,7 @@ expected e i (m ∷ ms) = resumptionsBy (changeAt e m) (record { tick = i; entry
 
 -- the entries that leave at an event
 unfoldable pub leavingOn : Event → Ledger → List Posting
+leavingOn made l = []
 leavingOn (cleared b) l = []
 leavingOn (disabled q) l = []
 leavingOn (ticked t) l = leaving t (l .standing .postings)

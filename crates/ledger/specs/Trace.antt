@@ -101,25 +101,25 @@ pub data RunOf (set : RuleSet) (i : ℕ) : ℕ → Point → List Item → ℕ �
   continues : {b r : ℕ} {sp to : Point} {x : Step} {s : Report} {g : Option Effect} {ms : List Item} (q : ℕ) → stepAt set i sp ≡ some x → Reports set x sp s g q → Leads x sp to
       → RunOf set i b to ms r → RunOf set i (suc b) sp (paid x s g ∷ ms) (firstReason q r)
 
--- what a wet run's outcome tells: the rule, the trigger, the reason, and the effects of these paid steps
-abbrev pub wetOutcome : ℕ → ℕ → ℕ → List Item → Outcome
-wetOutcome rule kind reason ms = record { rule = rule; dry = 0; trigger = kind; reason = reason; effects = effectsIn ms }
+-- what a wet run's outcome tells: the rule, the trigger, the reason, the number, and the effects of these paid steps
+abbrev pub wetOutcome : ℕ → ℕ → ℕ → ℕ → List Item → Outcome
+wetOutcome rule kind reason number ms = record { rule = rule; dry = 0; trigger = kind; reason = reason; effects = effectsIn ms; number = number }
 
 -- activations one after the other, each with its outcome: a run of a rule's list from its start with the set's budget; or none, where the
 -- conditions cannot be evaluated
 pub data ActivationsOf (set : RuleSet) : List Item → List Outcome → Type 0 where
   no-more : ActivationsOf set [] []
-  activation : {i kind reason : ℕ} {ms rest : List Item} {os : List Outcome} → RunOf set i (budget (set .image)) start ms reason → ActivationsOf set rest os
-      → ActivationsOf set (started (nameOf (set .image) i) ∷ (ms ++ rest)) (wetOutcome (nameOf (set .image) i) kind reason ms ∷ os)
+  activation : {i kind reason number : ℕ} {ms rest : List Item} {os : List Outcome} → RunOf set i (budget (set .image)) start ms reason → ActivationsOf set rest os
+      → ActivationsOf set (started (nameOf (set .image) i) ∷ (ms ++ rest)) (wetOutcome (nameOf (set .image) i) kind reason number ms ∷ os)
   unevaluable : {kind : ℕ} {rest : List Item} {os : List Outcome} (i : ℕ) → ActivationsOf set rest os
-      → ActivationsOf set (aborted (nameOf (set .image) i) ∷ rest) (wetOutcome (nameOf (set .image) i) kind conditionUnevaluable [] ∷ os)
+      → ActivationsOf set (aborted (nameOf (set .image) i) ∷ rest) (wetOutcome (nameOf (set .image) i) kind conditionUnevaluable 0 [] ∷ os)
 
 -- first resumptions, each with its outcome: a run of the record's rule from its point on with its budget; then activations
 pub data TraceOf (set : RuleSet) : List Item → List Outcome → Type 0 where
   activations : {ms : List Item} {os : List Outcome} → ActivationsOf set ms os → TraceOf set ms os
   resumption : {c : Pending} {reason : ℕ} {ms rest : List Item} {os : List Outcome}
       → RunOf set (orElse 0 (ruleNamed (set .image) (c .rule))) (c .budget) (c .point) ms reason → TraceOf set rest os
-      → TraceOf set (resumed c ∷ (ms ++ rest)) (wetOutcome (c .rule) (c .trigger) reason ms ∷ os)
+      → TraceOf set (resumed c ∷ (ms ++ rest)) (wetOutcome (c .rule) (c .trigger) reason (c .number) ms ∷ os)
 
 -- A CALL: its trace and its outcomes, given the set in the store that it finds --------------------------------------------------------
 abbrev pub outcomesOf : Done → List Outcome

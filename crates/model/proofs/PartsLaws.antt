@@ -32,7 +32,7 @@ jump-laws = as-row-laws jumpIs (maybe-laws (⊗-laws any-laws any-laws) (⊗-bla
 pub pending-laws : RowLaws pendingRow
 pending-laws =
     as-row-laws pendingIs
-    (⊗-laws wide-laws (⊗-laws wide-laws (⊗-laws any-laws (⊗-laws any-laws (⊗-laws any-laws (⊗-laws jump-laws (⊗-laws any-laws (⊗-laws (word-laws 4) (pad-laws 1)))))))))
+    (⊗-laws wide-laws (⊗-laws wide-laws (⊗-laws any-laws (⊗-laws any-laws (⊗-laws any-laws (⊗-laws jump-laws (⊗-laws any-laws (⊗-laws (word-laws 4) (⊗-laws wide-laws (pad-laws 1))))))))))
 
 pub loaded-laws : CodecLaws loadedPart
 unfolding loadedPart
@@ -52,11 +52,12 @@ changing-laws =
     (then-laws (most-laws 64 slot-laws)
     (then-laws (most-laws 32 pending-laws)
     (then-laws (one-laws (maybe-laws (word-laws 10079) (word-blank 10079)))
-    (then-laws (one-laws wide-laws) (all-laws 12 any-laws))))))))))
+    (then-laws (one-laws wide-laws)
+    (then-laws (one-laws wide-laws) (all-laws 12 any-laws)))))))))))
 
 pub layout-laws : CodecLaws layout
 unfolding layout
-layout-laws = as-parts-laws partsIs (then-laws (one-laws wide-laws) (then-laws loaded-laws (then-laws changing-laws (unused-laws 2711))))
+layout-laws = as-parts-laws partsIs (then-laws (one-laws wide-laws) (then-laws loaded-laws (then-laws changing-laws (unused-laws 2645))))
 
 -- 16,384 words
 pub size : sizes (layout .parts) ≡ 16384

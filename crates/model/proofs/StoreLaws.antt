@@ -17,7 +17,7 @@ use Rattle.model.specs.World.{isOne}
 use Rattle.model.specs.State.{NamedTimer, Variable, VarValue, Int, Text, Pending, RuleSet, Rest, Volatile, Store}
 use Rattle.model.specs.Codec.{allGood, decode, word, wide, maybe}
 use Rattle.model.specs.Parts.{Loaded, Changing, Parts, layout, loadedPart, changingPart, bit, variableRow}
-use Rattle.model.specs.Store.{filled, bitOf, loadedOf, variableRowOf, changingOf, partsOf, setIn, variableOf, volatileIn, storeIn, listRows, samePair, sameRow, sameList, flatForm, textShort, unusedPast, wordsHold, partsFit, ruleCount, oneForEach, passesLoad, distinct, pendingFits, sameSlots, slotsOf, rulesHold, read, write, FlatFormOf, textFits, Keeps}
+use Rattle.model.specs.Store.{filled, bitOf, loadedOf, variableRowOf, changingOf, partsOf, setIn, variableOf, volatileIn, storeIn, listRows, samePair, sameRow, sameList, flatForm, textShort, unusedPast, wordsHold, partsFit, ruleCount, oneForEach, isGiven, passesLoad, distinct, pendingFits, sameSlots, slotsOf, rulesHold, read, write, FlatFormOf, textFits, Keeps}
 use Rattle.model.proofs.Bools.{both, join}
 use Rattle.model.proofs.CodecLaws.{Holds, decode-put, put-decode}
 use Rattle.model.proofs.PartsLaws.{layout-laws}
@@ -217,6 +217,7 @@ module _ (m : Changing) (g : changingPart .good m ≡ true) where
         pending = m .pending;
         prevWeekMin = m .prevWeekMin;
         next = m .next;
+        lastNumber = m .lastNumber;
         counters = m .counters;
       }
 
@@ -282,6 +283,7 @@ module _ (n : ℕ) (v : Volatile) (o : oneForEach n (v .rest) ≡ true) where
         };
         pending = v .pending;
         next = v .next;
+        lastNumber = v .lastNumber;
       }
 
   unused-zero : unusedPast n (changingOf v) ≡ true
@@ -300,7 +302,8 @@ one-for-each s h =
     let (_, d) = both (all (pendingFits (s .loaded)) (s .vol .pending)) _ c in
     let (_, e) = both (distinct (map (λ (c : Pending). c .seq) (s .vol .pending))) _ d in
     let (_, f) = both (all (λ (c : Pending). ltb (c .seq) (s .vol .next)) (s .vol .pending)) _ e in
-    both (oneForEach (ruleCount (s .loaded)) (s .vol .rest)) (sameSlots (s .vol .rest .every) (slotsOf (s .loaded))) f .0
+    let (_, g) = both (all (isGiven (s .vol .lastNumber)) (s .vol .pending)) _ f in
+    both (oneForEach (ruleCount (s .loaded)) (s .vol .rest)) (sameSlots (s .vol .rest .every) (slotsOf (s .loaded))) g .0
 
 pub store-back : (s : Store) → Keeps s → storeIn (partsOf s) ≡ s
 unfolding storeIn partsOf

@@ -26,6 +26,7 @@ pub record Job : Type 0 where
   pub hold : ℕ
   pub trigger : ℕ
   pub dry : Bool
+  pub number : ℕ  -- of the activation; 0 for none
 
 -- what an action did: the rest after it, its effect, the rule that it disabled, the reason that it notes
 pub record PrimResult : Type 0 where

@@ -1,5 +1,5 @@
 -- One activation: activate.rs, and `resume` of wheel.rs.
-use Prim.Native.Nat.{ℕ, _-_}
+use Prim.Native.Nat.{ℕ, suc, _-_}
 use mathlib.Core.Bool.{Bool, true, false, cond, not, _&&_}
 use mathlib.Core.List.{List, [], _∷_, _++_}
 use mathlib.Core.Option.{Option, none, some}
@@ -10,7 +10,7 @@ use Rattle.model.specs.Image.{budget}
 use Rattle.model.specs.Rules.{nameOf, holdHclOf, cooldownOf, conditionsOfRule, ruleNamed}
 use Rattle.model.specs.Steps.{Point, start}
 use Rattle.model.specs.Outcome.{Effect, Outcome, Item, started, resumed, aborted}
-use Rattle.model.specs.State.{Env, Rest, Volatile, Pending, withRest, withLastActivation, bump, bumpBy, lastActivationAt, activationsTotal, activationsDry, suppressedCooldown, conditionsRejected, partialOutcomes, effectsEmitted, continuationsFired}
+use Rattle.model.specs.State.{Env, Rest, Volatile, Pending, withRest, nextNumber, withLastActivation, bump, bumpBy, lastActivationAt, activationsTotal, activationsDry, suppressedCooldown, conditionsRejected, partialOutcomes, effectsEmitted, continuationsFired}
 use Rattle.model.specs.Eval.{conditionsHold}
 use Rattle.model.specs.Actions.{Job, conditionUnevaluable}
 use Rattle.model.specs.Exec.{RunOutput, runSteps}
@@ -42,11 +42,17 @@ abbrev pub andThen : Handled → (Volatile → Handled) → Handled
 andThen x k = let y = k (x .vol) in record { vol = y .vol; outcomes = x .outcomes ++ y .outcomes; trace = x .trace ++ y .trace }
 
 unfoldable pub outcome : Job → List Effect → ℕ → Outcome
-outcome j effects reason = record { rule = j .rule; dry = cond (j .dry) 1 0; trigger = j .trigger; reason = reason; effects = effects }
+outcome j effects reason = record { rule = j .rule; dry = cond (j .dry) 1 0; trigger = j .trigger; reason = reason; effects = effects; number = j .number }
 
--- the rule of this name, at place i of the image
+-- the rule of this name, at place i of the image; it has no number yet
 unfoldable pub jobOf : Env → ℕ → ℕ → ℕ → Bool → Job
-jobOf e name i kind dry = record { rule = name; index = i; hold = holdHclOf (e .set .image) i; trigger = kind; dry = dry }
+jobOf e name i kind dry = record { rule = name; index = i; hold = holdHclOf (e .set .image) i; trigger = kind; dry = dry; number = 0 }
+
+unfoldable pub numbered : ℕ → Job → Job
+numbered n j = record { rule = j .rule; index = j .index; hold = j .hold; trigger = j .trigger; dry = j .dry; number = n }
+
+abbrev pub withNumber : ℕ → Volatile → Volatile
+withNumber n v = record { rest = v .rest; pending = v .pending; next = v .next; lastNumber = n }
 
 -- `in_cooldown`
 abbrev pub within : ℕ → ℕ → Option ℕ → Bool
@@ -81,11 +87,12 @@ abbrev pub finished : Job → Item → RunOutput → Handled
 finished j item r =
     record { vol = finishWet (r .effects) (r .reason) (r .vol); outcomes = outcome j (r .effects) (r .reason) ∷ []; trace = item ∷ r .trace }
 
--- `execute`: the last activation is written before the steps run, and only of a wet run
+-- `execute`: the last activation is written before the steps run, and only of a wet run; it takes the next number
 unfoldable pub executeWet : Env → Job → Volatile → Handled
 executeWet e j v =
     let s = withLastActivation (set (v .rest .lastActivation) (j .index) (some (e .world .now))) (bump activationsTotal (v .rest)) in
-    finished j (started (j .rule)) (runSteps (budget (e .set .image)) e j start (withRest s v))
+    let w = numbered (nextNumber (v .lastNumber)) j in
+    finished w (started (j .rule)) (runSteps (budget (e .set .image)) e w start (withNumber (suc (v .lastNumber)) (withRest s v)))
 
 unfoldable pub executeDry : Env → Job → Volatile → Handled
 executeDry e j v =
@@ -105,8 +112,8 @@ decided (unevaluable s) e j v = record { vol = withRest s v; outcomes = outcome 
 unfoldable pub activate : Env → ℕ → ℕ → Mode → Volatile → Handled
 activate e i kind m v = decided (decide e i m (v .rest)) e (jobOf e (nameOf (e .set .image) i) i kind (isDry m)) v
 
--- a continuation goes on where it stood; its rule is loaded
+-- a continuation goes on where it stood, under its own number; its rule is loaded
 unfoldable pub resume : Env → Pending → Volatile → Handled
 resume e c v =
-    let j = jobOf e (c .rule) (orElse 0 (ruleNamed (e .set .image) (c .rule))) (c .trigger) false in
+    let j = numbered (c .number) (jobOf e (c .rule) (orElse 0 (ruleNamed (e .set .image) (c .rule))) (c .trigger) false) in
     finished j (resumed c) (runSteps (c .budget) e j (c .point) (withRest (bump continuationsFired (v .rest)) v))

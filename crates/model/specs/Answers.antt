@@ -7,12 +7,12 @@ use lib.ListN.{length, replicate}
 use Rattle.words.specs.Pairs.{lowOf, highOf}
 use Rattle.model.specs.Calls.{Answer, done, refused, enabled, handled, due, counted, Outcome, Effect, effectsOf}
 
--- rule, dry, trigger, reason, first effect, count
+-- rule, dry, trigger, reason, first effect, count, number
 unfoldable pub outcomeWords : ℕ → List Outcome → List ℕ
 outcomeWords first [] = []
 outcomeWords first (o ∷ os) =
     let n = length (o .effects) in
-    o .rule ∷ o .dry ∷ o .trigger ∷ o .reason ∷ first ∷ n ∷ outcomeWords (first + n) os
+    o .rule ∷ o .dry ∷ o .trigger ∷ o .reason ∷ first ∷ n ∷ lowOf (o .number) ∷ highOf (o .number) ∷ outcomeWords (first + n) os
 
 -- kind, four words of fields
 unfoldable pub wordsOfEffects : List Effect → List ℕ
@@ -51,7 +51,7 @@ numberOf (handled os) = 0
 numberOf (due t) = 0
 numberOf (counted cs) = 0
 
--- its values, as words: yes 1 or no 0; the numbers of outcomes and effects; a mark and a time; the 17 counters. "a refusal returns its
+-- its values, as words: yes 1 or no 0; the numbers of outcomes and effects; a mark and a time; the 16 counters. "a refusal returns its
 -- number only"
 unfoldable pub valuesOf : Answer → List ℕ
 valuesOf done = []

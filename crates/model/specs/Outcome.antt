@@ -15,6 +15,7 @@ pub record Outcome : Type 0 where
   pub trigger : ℕ
   pub reason : ℕ
   pub effects : List Effect
+  pub number : ℕ  -- of the wet activation that it comes from; 0 for none
 
 -- what a paid step says
 pub data Report : Type 0 where

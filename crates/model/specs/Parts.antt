@@ -61,8 +61,8 @@ jumpIs = record { to = jumpOf; from = ofJump; there = elim [ NoJump ↦ refl | J
 abbrev pub jumpRow : Row Jump
 jumpRow = as-row jumpIs (maybe (any ⊗ any))
 
--- sequence number, due time, rule, list, place, jump, budget, trigger; its event word is 0
-abbrev pub pendingIs : Same (ℕ × (ℕ × (ℕ × (ℕ × (ℕ × (Jump × (ℕ × (ℕ × Unit {0})))))))) Pending
+-- sequence number, due time, rule, list, place, jump, budget, trigger, activation number; its event word is 0
+abbrev pub pendingIs : Same (ℕ × (ℕ × (ℕ × (ℕ × (ℕ × (Jump × (ℕ × (ℕ × (ℕ × Unit {0}))))))))) Pending
 pendingIs =
     record {
       to =
@@ -74,16 +74,17 @@ pendingIs =
             budget = x .1 .1 .1 .1 .1 .1 .0;
             trigger = x .1 .1 .1 .1 .1 .1 .1 .0;
             seq = x .0;
+            number = x .1 .1 .1 .1 .1 .1 .1 .1 .0;
           };
       from =
           λ p.
-          (p .seq, (p .due, (p .rule, (p .point .list, (p .point .place, (p .point .jump, (p .budget, (p .trigger, tt))))))));
+          (p .seq, (p .due, (p .rule, (p .point .list, (p .point .place, (p .point .jump, (p .budget, (p .trigger, (p .number, tt)))))))));
       there = λ p. refl;
       back = λ x. refl;
     }
 
 abbrev pub pendingRow : Row Pending
-pendingRow = as-row pendingIs (wide ⊗ (wide ⊗ (any ⊗ (any ⊗ (any ⊗ (jumpRow ⊗ (any ⊗ (word 4 ⊗ pad 1))))))))
+pendingRow = as-row pendingIs (wide ⊗ (wide ⊗ (any ⊗ (any ⊗ (any ⊗ (jumpRow ⊗ (any ⊗ (word 4 ⊗ (wide ⊗ pad 1)))))))))
 
 -- PARTS ---------------------------------------------------------------------------------------------------------------------------
 -- the loaded word, the image, the rules' lists and the flat steps
@@ -104,6 +105,7 @@ pub record Changing : Type 0 where
   pub pending : List Pending
   pub prevWeekMin : Option ℕ
   pub next : ℕ
+  pub lastNumber : ℕ
   pub counters : List ℕ
 
 pub record Parts : Type 0 where
@@ -123,7 +125,7 @@ loadedIs =
 unfoldable pub loadedPart : Codec Loaded
 loadedPart = as-parts loadedIs (one bit then (most 4096 any then (all 64 listRow then most 2048 stepRow)))
 
-abbrev pub changingIs : Same (List ℕ × (List (Option ℕ) × (List (Option ℕ) × (List (ℕ × (ℕ × ℕ)) × (List NamedTimer × (List EverySlot × (List Pending × (Option ℕ × (ℕ × List ℕ))))))))) Changing
+abbrev pub changingIs : Same (List ℕ × (List (Option ℕ) × (List (Option ℕ) × (List (ℕ × (ℕ × ℕ)) × (List NamedTimer × (List EverySlot × (List Pending × (Option ℕ × (ℕ × (ℕ × List ℕ)))))))))) Changing
 changingIs =
     record {
       to =
@@ -138,11 +140,12 @@ changingIs =
             pending = x .1 .1 .1 .1 .1 .1 .0;
             prevWeekMin = x .1 .1 .1 .1 .1 .1 .1 .0;
             next = x .1 .1 .1 .1 .1 .1 .1 .1 .0;
-            counters = x .1 .1 .1 .1 .1 .1 .1 .1 .1;
+            lastNumber = x .1 .1 .1 .1 .1 .1 .1 .1 .1 .0;
+            counters = x .1 .1 .1 .1 .1 .1 .1 .1 .1 .1;
           };
       from =
           λ m.
-          (m .bits, (m .activations, (m .positions, (m .variables, (m .timers, (m .slots, (m .pending, (m .prevWeekMin, (m .next, m .counters)))))))));
+          (m .bits, (m .activations, (m .positions, (m .variables, (m .timers, (m .slots, (m .pending, (m .prevWeekMin, (m .next, (m .lastNumber, m .counters))))))))));
       there = λ m. refl;
       back = λ x. refl;
     }
@@ -159,7 +162,8 @@ changingPart =
     then (most 32 pendingRow
     then (one (maybe (word 10079))
     then (one wide
-    then all 12 any)))))))))
+    then (one wide
+    then all 12 any))))))))))
 
 abbrev pub partsIs : Same (ℕ × (Loaded × (Changing × Unit {0}))) Parts
 partsIs =
@@ -170,6 +174,6 @@ partsIs =
       back = λ x. refl;
     }
 
--- 16,384 words: the last 2,711 are unused
+-- 16,384 words: the last 2,645 are unused
 unfoldable pub layout : Codec Parts
-layout = as-parts partsIs (one wide then (loadedPart then (changingPart then unused 2711)))
+layout = as-parts partsIs (one wide then (loadedPart then (changingPart then unused 2645)))

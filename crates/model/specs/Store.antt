@@ -97,6 +97,10 @@ slotsOf (some set) = rebuildEvery (set .image) [] 0
 abbrev pub oneForEach : ℕ → Rest → Bool
 oneForEach n s = eqb (length (s .enabled)) n && (eqb (length (s .lastActivation)) n && eqb (length (s .cyclePos)) n)
 
+-- the number of an activation that was begun
+abbrev pub isGiven : ℕ → Pending → Bool
+isGiven last c = leb 1 (c .number) && leb (c .number) last
+
 unfoldable pub rulesHold : Store → Bool
 rulesHold s =
     passesLoad (s .loaded)
@@ -105,8 +109,9 @@ rulesHold s =
     && (all (pendingFits (s .loaded)) (s .vol .pending)
     && (distinct (map (λ (c : Pending). c .seq) (s .vol .pending))
     && (all (λ (c : Pending). ltb (c .seq) (s .vol .next)) (s .vol .pending)
+    && (all (isGiven (s .vol .lastNumber)) (s .vol .pending)
     && (oneForEach (ruleCount (s .loaded)) (s .vol .rest)
-    && sameSlots (s .vol .rest .every) (slotsOf (s .loaded))))))))
+    && sameSlots (s .vol .rest .every) (slotsOf (s .loaded)))))))))
 
 -- WHAT THE PARTS SAY ----------------------------------------------------------------------------------------------------------------
 -- a list, filled up to n entries
@@ -147,6 +152,7 @@ changingOf v =
       pending = v .pending;
       prevWeekMin = v .rest .prevWeekMin;
       next = v .next;
+      lastNumber = v .lastNumber;
       counters = v .rest .counters;
     }
 
@@ -175,6 +181,7 @@ volatileIn n m =
       };
       pending = m .pending;
       next = m .next;
+      lastNumber = m .lastNumber;
     }
 
 unfoldable pub storeIn : Parts → Store

@@ -37,7 +37,7 @@ dueNow now ps = sort dueBefore (keep (λ (c : Pending). leb (c .due) now) ps)
 
 -- the store without what is due
 unfoldable pub notDue : ℕ → Volatile → Volatile
-notDue now v = record { rest = v .rest; pending = keep (λ (c : Pending). not (leb (c .due) now)) (v .pending); next = v .next }
+notDue now v = record { rest = v .rest; pending = keep (λ (c : Pending). not (leb (c .due) now)) (v .pending); next = v .next; lastNumber = v .lastNumber }
 
 unfoldable pub resumeAll : Env → List Pending → Volatile → Handled
 resumeAll e [] v = noOutcome v

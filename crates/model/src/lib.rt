@@ -358,7 +358,7 @@ pub struct EverySlot {
     pub due: u64,
 }
 
-// A continuation: where it goes on, when, with what budget, and under which trigger and sequence number.
+// A continuation: where it goes on, when, with what budget, and under which trigger, sequence number and activation number.
 pub struct Pending {
     pub rule: u32,
     pub point: Point,
@@ -366,6 +366,7 @@ pub struct Pending {
     pub budget: u32,
     pub trigger: u32,
     pub seq: u64,
+    pub number: u64,
 }
 
 // Kind 0 to 11 in `Effect` order, 12 a level, and four words of fields: document 01, "Outcomes and effects".

@@ -35,11 +35,11 @@ effectLines es first n = rowLines (bytesOf "effect") (record { width = 5; from =
 
 -- "a line of the word rule, its first four fields and its count"
 unfoldable pub outcomeAt : List ℕ → ℕ → List ℕ
-outcomeAt os i = line (bytesOf "rule") (numbers (wordsAt os (6 * i) 4) ++ numbers (wordsAt os (6 * i + 5) 1))
+outcomeAt os i = line (bytesOf "rule") (numbers (wordsAt os (8 * i) 4) ++ numbers (wordsAt os (8 * i + 5) 1))
 
 -- "followed by a line for each of its effects"
 unfoldable pub outcomeWith : List ℕ → List ℕ → ℕ → List ℕ
-outcomeWith os es i = outcomeAt os i ++ effectLines es (getD os (6 * i + 4) 0) (getD os (6 * i + 5) 0)
+outcomeWith os es i = outcomeAt os i ++ effectLines es (getD os (8 * i + 4) 0) (getD os (8 * i + 5) 0)
 
 unfoldable pub outcomeLines : List ℕ → List ℕ → ℕ → List ℕ
 outcomeLines os es zero = []

@@ -15,13 +15,13 @@ use Rattle.model.specs.World.{worldOf}
 use Rattle.model.specs.Outcome.{Item}
 use Rattle.model.specs.declared.Effect.{Effect}
 use Rattle.model.specs.declared.Pending.{Pending}
-use Rattle.model.specs.State.{Env, Rest, RuleSet, Volatile, Store, withRest, bump, activationsDry, isEnabled}
+use Rattle.model.specs.State.{nextNumber, Env, Rest, RuleSet, Volatile, Store, withRest, bump, activationsDry, isEnabled}
 use Rattle.model.specs.Store.{read}
 use Rattle.model.specs.Eval.{conditionsHold}
 use Rattle.model.specs.Actions.{Job}
 use Rattle.model.specs.Exec.{RunOutput}
 use Rattle.model.specs.Dry.{runStepsDry}
-use Rattle.model.specs.Activate.{Mode, Auto, Manual, Dry, Handled, noOutcome, andThen, outcome, isAuto, isDry, inCooldown, verdict, decide, finished, execute, executeWet, executeDry, decided, activate, resume}
+use Rattle.model.specs.Activate.{Mode, Auto, Manual, Dry, Handled, noOutcome, andThen, outcome, numbered, isAuto, isDry, inCooldown, verdict, decide, finished, execute, executeWet, executeDry, decided, activate, resume}
 use Rattle.model.specs.Wheel.{dueNow, notDue, resumeAll, fireContinuations, serviceTick}
 use Rattle.model.specs.Calls.{Call, new, load, unload, enable, tick, run, deadline, counters, Done, loading, callLoad, callUnload, enabling, ruleIn, callEnable, overflow, committing, committed, tickWith, runRule, runWith, given, call, answers}
 use Rattle.model.proofs.Bools.{all-append}
@@ -50,7 +50,7 @@ module _ (e : Env) where
   executed true j v =
       let r = runStepsDry (budget (e .set .image)) e j start [] (bump activationsDry (v .rest)) in
       told j (r .effects) (r .reason) (dry-known e j (budget (e .set .image)) start [] (bump activationsDry (v .rest)))
-  executed false j v = told j _ _ (run-known e j (budget (e .set .image)) start _)
+  executed false j v = let n = numbered (nextNumber (v .lastNumber)) j in told n _ _ (run-known e n (budget (e .set .image)) start _)
 
   judged : (o : Option Bool) (b : Bool) (j : Job) (s : Rest) (v : Volatile) → Tells (decided (verdict o b s) e j v)
   judged (some true) b j s v = executed (j .dry) j (withRest s v)

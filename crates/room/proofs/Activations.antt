@@ -1,6 +1,6 @@
 -- One activation and one resumption: an outcome at the most, and the effects of one run.
 use mathlib.Core.Path.{_≡_, sym, subst}
-use Prim.Native.Nat.{ℕ, _-_, min, _≤_}
+use Prim.Native.Nat.{ℕ, suc, _-_, min, _≤_}
 use native.Mathlib.Omega.{arith}
 use mathlib.Core.Bool.{Bool, true, false}
 use mathlib.Core.List.{[]}
@@ -12,9 +12,9 @@ use Rattle.model.specs.Rules.{nameOf, ruleNamed}
 use Rattle.model.specs.Steps.{FlatStep, start}
 use Rattle.model.specs.declared.Pending.{Pending}
 use Rattle.model.specs.Flat.{listIn, everyCopy}
-use Rattle.model.specs.State.{Env, Volatile, withRest, withLastActivation, bump, activationsTotal, activationsDry, continuationsFired}
+use Rattle.model.specs.State.{Env, Volatile, withRest, nextNumber, withLastActivation, bump, activationsTotal, activationsDry, continuationsFired}
 use Rattle.model.specs.Actions.{Job}
-use Rattle.model.specs.Activate.{Mode, Auto, Manual, Dry, isDry, Handled, jobOf, outcome, Decision, begins, suppressed, unevaluable, decide, executeWet, executeDry, execute, decided, activate, resume}
+use Rattle.model.specs.Activate.{Mode, Auto, Manual, Dry, isDry, Handled, jobOf, numbered, withNumber, outcome, Decision, begins, suppressed, unevaluable, decide, executeWet, executeDry, execute, decided, activate, resume}
 use Rattle.model.specs.Calls.{effectsOf}
 use Rattle.ledger.proofs.SetRules.{SetOk, listOf}
 use Rattle.ledger.proofs.RunRules.{pendingOk, Continues, continues}
@@ -39,10 +39,10 @@ module _ (e : Env) (ok : SetOk (e .set)) where
   ofMode false i = wetOf i
 
   wet-single : (j : Job) (v : Volatile) → Single (wetOf (j .index)) (executeWet e j v)
-  unfolding executeWet outcome listIn
+  unfolding executeWet numbered outcome listIn
   wet-single j v =
       let s = withLastActivation (set (v .rest .lastActivation) (j .index) (some (e .world .now))) (bump activationsTotal (v .rest)) in
-      let a = run-few (budget (e .set .image)) e j start (withRest s v) tt in
+      let a = run-few (budget (e .set .image)) e (numbered (nextNumber (v .lastNumber)) j) start (withNumber (suc (v .lastNumber)) (withRest s v)) tt in
       let b = length-map (getD (e .set .flat) (j .index) []) (λ (x : FlatStep). x .step) in
       record { outcomes = omega arith; effects = omega arith }
 
@@ -77,14 +77,14 @@ module _ (e : Env) (ok : SetOk (e .set)) where
 
   -- a resumption: one of the lists of its rule
   pub resume-single : (m : ℕ) (c : Pending) (v : Volatile) → ((i n : ℕ) → length (listOf (e .set) i n) ≤ m) → pendingOk (e .set) c ≡ true → Single (min (budget (e .set .image) - 1) m) (resume e c v)
-  unfolding resume jobOf outcome
+  unfolding resume jobOf numbered outcome
   resume-single m c v short k = go (continues (e .set) c k)
     where
       go : (i : ℕ) × Continues (e .set) c i → Single (min (budget (e .set .image) - 1) m) (resume e c v)
       go (i, z) =
           let n = orElse 0 (ruleNamed (e .set .image) (c .rule)) in
           let on : Onward (c .point .jump) = subst Onward (sym (z .at .fits .jump)) (from-onward 0 (listOf (e .set) i (c .point .list)) (c .point .place)) in
-          let a = run-few (c .budget) e (jobOf e (c .rule) n (c .trigger) false) (c .point) (withRest (bump continuationsFired (v .rest)) v) on in
+          let a = run-few (c .budget) e (numbered (c .number) (jobOf e (c .rule) n (c .trigger) false)) (c .point) (withRest (bump continuationsFired (v .rest)) v) on in
           let b = z .budget in
           let s = short n (c .point .list) in
           record { outcomes = omega arith; effects = omega arith }

@@ -217,17 +217,17 @@ module _ (s : Store) (keeps : Keeps s) (set : RuleSet) (loaded : s .loaded ≡ s
   run-room rule dry = run-within env set-ok (world-ok snap words fine) flat-form (ruleNamed (set .image) rule) dry (s .vol)
 
 -- NEVER 30 ----------------------------------------------------------------------------------------------------------------------------
+other : (b : Bool) (n rest m : ℕ) → (n ≡ m → ⊥) → (rest ≡ m → ⊥) → unless b n rest ≡ m → ⊥
+other true n rest m h k e = k e
+other false n rest m h k e = h e
+
 -- the lent stores hold what the call did
 room-held : (os es : ℕ) (x : Handled) → length (x .outcomes) ≤ outcomeRoom os → effectsOf (x .outcomes) ≤ effectRoom es → overflow os es x ≡ 30 → ⊥
 unfolding overflow
 room-held os es x h k e =
     let o : leb (length (x .outcomes)) (outcomeRoom os) ≡ true = le-leb (length (x .outcomes)) (outcomeRoom os) h in
     let f : leb (effectsOf (x .outcomes)) (effectRoom es) ≡ true = le-leb (effectsOf (x .outcomes)) (effectRoom es) k in
-    go (leb (x .vol .next) max64) (rw (o, f) at e)
-  where
-    go : (b : Bool) → unless b 31 0 ≡ 30 → ⊥
-    go true z = omega arith
-    go false z = omega arith
+    other (leb (x .vol .next) max64) 31 _ 30 (λ z. omega arith) (other (leb (x .vol .lastNumber) max64) 32 0 30 (λ z. omega arith) (λ z. omega arith)) (rw (o, f) at e)
 
 lent-held : (image : List ℕ) (os es : ℕ) (x : Handled) → Within image x → Lent (outcomesNeeded image) (effectsNeeded image) os es → overflow os es x ≡ 30 → ⊥
 lent-held image os es x h l = room-held os es x (le-trans (h .outcomes) (l .outcomes)) (le-trans (h .effects) (l .effects))
@@ -235,10 +235,6 @@ lent-held image os es x h l = room-held os es x (le-trans (h .outcomes) (l .outc
 committing-30 : (n now : ℕ) (x : Handled) (s : Store) → (n ≡ 30 → ⊥) → (committing n now x s) .answer ≡ refused 30 → ⊥
 committing-30 zero now x s h e = let z : _≡_ {A = ℕ} 0 1 = cc in omega arith
 committing-30 (suc n) now x s h e = h (cc)
-
-other : (b : Bool) (n rest m : ℕ) → (n ≡ m → ⊥) → (rest ≡ m → ⊥) → unless b n rest ≡ m → ⊥
-other true n rest m h k e = k e
-other false n rest m h k e = h e
 
 -- a snapshot is refused with 20 to 22
 snapshot-30 : (snap : List ℕ) → snapshotRefusal snap ≡ 30 → ⊥

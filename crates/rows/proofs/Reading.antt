@@ -111,20 +111,21 @@ module _ (w : List ℕ) (k m a b : ℕ) (p : m ≡ rowAt any w k) (q : a ≡ row
   unfolding rowAt
   jump-is z = ap jumpOf (given m (a, b) z ∙ behind-mark)
 
-pub pending-is : (w : List ℕ) (k s d r l p : ℕ) (j : Jump) (b t : ℕ)
+pub pending-is : (w : List ℕ) (k s d r l p : ℕ) (j : Jump) (b t n : ℕ)
     → s ≡ rowAt wide w k → d ≡ rowAt wide w (k + 2) → r ≡ rowAt any w (k + 4) → l ≡ rowAt any w (k + 5) → p ≡ rowAt any w (k + 6)
-    → j ≡ rowAt jumpRow w (k + 7) → b ≡ rowAt any w (k + 10) → t ≡ rowAt any w (k + 11)
-    → record { rule = r; point = record { list = l; place = p; jump = j }; due = d; budget = b; trigger = t; seq = s } ≡ rowAt pendingRow w k
+    → j ≡ rowAt jumpRow w (k + 7) → b ≡ rowAt any w (k + 10) → t ≡ rowAt any w (k + 11) → n ≡ rowAt wide w (k + 12)
+    → record { rule = r; point = record { list = l; place = p; jump = j }; due = d; budget = b; trigger = t; seq = s; number = n } ≡ rowAt pendingRow w k
 unfolding rowAt
-pending-is w k s d r l p j b t es ed er el ep ej eb et =
-    let c₈ = pair-is w (word 4) (pad 2) (k + 11) (k + 12) t tt (omega arith) et refl in
-    let c₇ = pair-is w any (word 4 ⊗ pad 2) (k + 10) (k + 11) b (t, tt) (omega arith) eb c₈ in
-    let c₆ = pair-is w jumpRow (any ⊗ (word 4 ⊗ pad 2)) (k + 7) (k + 10) j (b, (t, tt)) (omega arith) ej c₇ in
-    let c₅ = pair-is w any (jumpRow ⊗ (any ⊗ (word 4 ⊗ pad 2))) (k + 6) (k + 7) p (j, (b, (t, tt))) (omega arith) ep c₆ in
-    let c₄ = pair-is w any (any ⊗ (jumpRow ⊗ (any ⊗ (word 4 ⊗ pad 2)))) (k + 5) (k + 6) l (p, (j, (b, (t, tt)))) (omega arith) el c₅ in
-    let c₃ = pair-is w any (any ⊗ (any ⊗ (jumpRow ⊗ (any ⊗ (word 4 ⊗ pad 2))))) (k + 4) (k + 5) r (l, (p, (j, (b, (t, tt))))) (omega arith) er c₄ in
-    let c₂ = pair-is w wide (any ⊗ (any ⊗ (any ⊗ (jumpRow ⊗ (any ⊗ (word 4 ⊗ pad 2)))))) (k + 2) (k + 4) d (r, (l, (p, (j, (b, (t, tt)))))) (omega arith) ed c₃ in
-    ap (pendingIs .to) (pair-is w wide (wide ⊗ (any ⊗ (any ⊗ (any ⊗ (jumpRow ⊗ (any ⊗ (word 4 ⊗ pad 2))))))) k (k + 2) s (d, (r, (l, (p, (j, (b, (t, tt))))))) refl es c₂)
+pending-is w k s d r l p j b t n es ed er el ep ej eb et en =
+    let c₉ = pair-is w wide (pad 1) (k + 12) (k + 14) n tt (omega arith) en refl in
+    let c₈ = pair-is w (word 4) (wide ⊗ pad 1) (k + 11) (k + 12) t (n, tt) (omega arith) et c₉ in
+    let c₇ = pair-is w any (word 4 ⊗ (wide ⊗ pad 1)) (k + 10) (k + 11) b (t, (n, tt)) (omega arith) eb c₈ in
+    let c₆ = pair-is w jumpRow (any ⊗ (word 4 ⊗ (wide ⊗ pad 1))) (k + 7) (k + 10) j (b, (t, (n, tt))) (omega arith) ej c₇ in
+    let c₅ = pair-is w any (jumpRow ⊗ (any ⊗ (word 4 ⊗ (wide ⊗ pad 1)))) (k + 6) (k + 7) p (j, (b, (t, (n, tt)))) (omega arith) ep c₆ in
+    let c₄ = pair-is w any (any ⊗ (jumpRow ⊗ (any ⊗ (word 4 ⊗ (wide ⊗ pad 1))))) (k + 5) (k + 6) l (p, (j, (b, (t, (n, tt))))) (omega arith) el c₅ in
+    let c₃ = pair-is w any (any ⊗ (any ⊗ (jumpRow ⊗ (any ⊗ (word 4 ⊗ (wide ⊗ pad 1)))))) (k + 4) (k + 5) r (l, (p, (j, (b, (t, (n, tt)))))) (omega arith) er c₄ in
+    let c₂ = pair-is w wide (any ⊗ (any ⊗ (any ⊗ (jumpRow ⊗ (any ⊗ (word 4 ⊗ (wide ⊗ pad 1))))))) (k + 2) (k + 4) d (r, (l, (p, (j, (b, (t, (n, tt))))))) (omega arith) ed c₃ in
+    ap (pendingIs .to) (pair-is w wide (wide ⊗ (any ⊗ (any ⊗ (any ⊗ (jumpRow ⊗ (any ⊗ (word 4 ⊗ (wide ⊗ pad 1)))))))) k (k + 2) s (d, (r, (l, (p, (j, (b, (t, (n, tt)))))))) refl es c₂)
 
 -- a variable: a text is its number alone
 module _ (w : List ℕ) (k n t v : ℕ) (p : n ≡ rowAt any w k) (q : t ≡ rowAt any w (k + 1)) (r : v ≡ rowAt wide w (k + 2)) where

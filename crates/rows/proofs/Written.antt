@@ -5,6 +5,7 @@ use mathlib.Core.List.{List, [], _∷_, _++_}
 use Prim.Native.Nat.{ℕ, suc, _+_, _≤_, _<_}
 use native.Mathlib.Omega.{arith}
 use lib.ListN.{length, replicate}
+use Rattle.words.specs.Pairs.{lowOf, highOf}
 use Rattle.model.specs.Codec.{word, wide, putMaybe}
 use Rattle.model.specs.Parts.{any, timerRow, slotRow, jumpRow, pendingRow}
 use Rattle.model.specs.declared.Jump.{Jump}
@@ -89,18 +90,20 @@ point-put w w₁ w₂ w₃ k x h e₁ e₂ e₃ =
     and-then w w₁ w₃ k (k + 1) (any .put (x .list)) (any .put (x .place) ++ jumpRow .put (x .jump)) (omega arith) refl e₁
     (λ l. lays w₁ w₂ w₃ (k + 1) (k + 2) (any .put (x .place)) (jumpRow .put (x .jump)) (omega arith) (omega arith) e₂ e₃)
 
-pub pending-put : (w w₁ w₂ w₃ w₄ w₅ w₆ w₇ : List ℕ) (k : ℕ) (x : Pending) → k + 13 ≤ length w
+pub pending-put : (w w₁ w₂ w₃ w₄ w₅ w₆ w₇ w₈ : List ℕ) (k : ℕ) (x : Pending) → k + 15 ≤ length w
     → w₁ ≡ laid w k (wide .put (x .seq)) → w₂ ≡ laid w₁ (k + 2) (wide .put (x .due)) → w₃ ≡ laid w₂ (k + 4) (any .put (x .rule))
     → w₄ ≡ laid w₃ (k + 5) (pointRow .put (x .point)) → w₅ ≡ laid w₄ (k + 10) (any .put (x .budget))
-    → w₆ ≡ laid w₅ (k + 11) (any .put (x .trigger)) → w₇ ≡ laid w₆ (k + 12) (replicate 1 0) → w₇ ≡ laid w k (pendingRow .put x)
-pending-put w w₁ w₂ w₃ w₄ w₅ w₆ w₇ k x h e₁ e₂ e₃ e₄ e₅ e₆ e₇ =
+    → w₆ ≡ laid w₅ (k + 11) (any .put (x .trigger)) → w₇ ≡ laid w₆ (k + 12) (wide .put (x .number)) → w₈ ≡ laid w₇ (k + 14) (replicate 1 0)
+    → w₈ ≡ laid w k (pendingRow .put x)
+pending-put w w₁ w₂ w₃ w₄ w₅ w₆ w₇ w₈ k x h e₁ e₂ e₃ e₄ e₅ e₆ e₇ e₈ =
     let j = jump-long (x .point .jump) in
-    and-then w w₁ w₇ k (k + 2) (wide .put (x .seq)) _ (omega arith) refl e₁
-    (λ l₁. and-then w₁ w₂ w₇ (k + 2) (k + 4) (wide .put (x .due)) _ (omega arith) (omega arith) e₂
-    (λ l₂. and-then w₂ w₃ w₇ (k + 4) (k + 5) (any .put (x .rule)) _ (omega arith) (omega arith) e₃
-    (λ l₃. and-then w₃ w₄ w₇ (k + 5) (k + 10) (pointRow .put (x .point)) _ (omega arith) (omega arith) e₄
-    (λ l₄. and-then w₄ w₅ w₇ (k + 10) (k + 11) (any .put (x .budget)) _ (omega arith) (omega arith) e₅
-    (λ l₅. lays w₅ w₆ w₇ (k + 11) (k + 12) (any .put (x .trigger)) (replicate 1 0) (omega arith) (omega arith) e₆ e₇)))))
+    and-then w w₁ w₈ k (k + 2) (wide .put (x .seq)) _ (omega arith) refl e₁
+    (λ l₁. and-then w₁ w₂ w₈ (k + 2) (k + 4) (wide .put (x .due)) _ (omega arith) (omega arith) e₂
+    (λ l₂. and-then w₂ w₃ w₈ (k + 4) (k + 5) (any .put (x .rule)) _ (omega arith) (omega arith) e₃
+    (λ l₃. and-then w₃ w₄ w₈ (k + 5) (k + 10) (pointRow .put (x .point)) _ (omega arith) (omega arith) e₄
+    (λ l₄. and-then w₄ w₅ w₈ (k + 10) (k + 11) (any .put (x .budget)) _ (omega arith) (omega arith) e₅
+    (λ l₅. and-then w₅ w₆ w₈ (k + 11) (k + 12) (any .put (x .trigger)) _ (omega arith) (omega arith) e₆
+    (λ l₆. lays w₆ w₇ w₈ (k + 12) (k + 14) (wide .put (x .number)) (replicate 1 0) (omega arith) (omega arith) e₇ e₈))))))
 
 -- HOW MANY WORDS ------------------------------------------------------------------------------------------------------------------------
 pub bool-long : Long boolRow
@@ -130,7 +133,7 @@ pub slot-long : Long slotRow
 slot-long = record { long = λ x. refl }
 
 pub pending-long : Long pendingRow
-pending-long = record { long = λ x. by-jump (x .point .jump) (x .budget ∷ (x .trigger ∷ (0 ∷ []))) }
+pending-long = record { long = λ x. by-jump (x .point .jump) (x .budget ∷ (x .trigger ∷ (lowOf (x .number) ∷ (highOf (x .number) ∷ (0 ∷ []))))) }
   where
     by-jump : (j : Jump) (l : List ℕ) → suc (suc (suc (suc (suc (suc (suc (length (jumpRow .put j ++ l)))))))) ≡ 10 + length l
     by-jump NoJump l = omega arith

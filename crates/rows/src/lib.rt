@@ -15,7 +15,7 @@ pub const TIMER_WORDS: usize = 3;
 
 pub const SLOT_WORDS: usize = 5;
 
-pub const PENDING_WORDS: usize = 13;
+pub const PENDING_WORDS: usize = 15;
 
 // The Rust's `Option<u32>` and `Option<u64>`.
 pub struct OptionU32 {

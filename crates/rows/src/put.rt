@@ -151,7 +151,7 @@ pub fn put_point(s: &mut [u32], k: usize, x: Point)
 }
 
 pub fn put_pending(s: &mut [u32], k: usize, x: Pending)
-    requires { ⌜ k + 13 ≤ length (now s) ⌝ }
+    requires { ⌜ k + 15 ≤ length (now s) ⌝ }
     ensures { λ _. ⌜ now (s .exit) ≡ laid (now (s .entry)) k (pendingRow .put x) ⌝ }
 {
     let point = x.point;
@@ -161,5 +161,6 @@ pub fn put_pending(s: &mut [u32], k: usize, x: Pending)
     put_point(s, k + 5, point);
     put_word(s, k + 10, x.budget);
     put_word(s, k + 11, x.trigger);
-    clear(s, k + 12, 1);
+    put_wide(s, k + 12, x.number);
+    clear(s, k + 14, 1);
 }

@@ -148,6 +148,7 @@ pub fn pending_at(s: &[u32], k: usize) -> Pending
     let jump = jump_at(s, k + 7);
     let budget = word_at(s, k + 10);
     let trigger = word_at(s, k + 11);
+    let number = wide_at(s, k + 12);
     let point = Point { list, place, jump };
     Pending {
         rule,
@@ -156,5 +157,6 @@ pub fn pending_at(s: &[u32], k: usize) -> Pending
         budget,
         trigger,
         seq,
+        number,
     }
 }

@@ -61,11 +61,12 @@ pub fn pendings_at(s: &[u32], k: usize, n: usize) -> [Pending; 32]
         budget: 0,
         trigger: 0,
         seq: 0,
+        number: 0,
     };
     let mut a = [z; 32];
     let mut i = 0;
     while i < n {
-        let x = read::pending_at(s, k + i * 13);
+        let x = read::pending_at(s, k + i * 15);
         a[i] = x;
         i += 1;
     }

@@ -21,12 +21,12 @@ use Rattle.model.specs.declared.Pending.{Pending}
 use Rattle.model.specs.declared.VarValue.{VarValue}
 use Rattle.model.specs.declared.VarValue.the-variants.{Int, Text}
 use Rattle.model.specs.declared.Effect.{Effect}
-use Rattle.model.specs.State.{Env, Rest, Volatile, withRest, bumpBy, bump, cancelTimer, timerNamed, varNamed, strike, isFull, isEnabled, partialOutcomes, effectsEmitted, suppressedCooldown, actionsFailed, activationsTotal, conditionsRejected, continuationsDropped, continuationsFired, continuationsScheduled}
+use Rattle.model.specs.State.{nextNumber, Env, Rest, Volatile, withRest, bumpBy, bump, cancelTimer, timerNamed, varNamed, strike, isFull, isEnabled, partialOutcomes, effectsEmitted, suppressedCooldown, actionsFailed, activationsTotal, conditionsRejected, continuationsDropped, continuationsFired, continuationsScheduled}
 use Rattle.model.specs.Eval.{conditionAt, conditionsHold, valueAt}
 use Rattle.model.specs.Actions.{Job, PrimResult, fails, runPrim, primLight, primRecall, primApply, primCycle, cycleEffect, levelAt, selects, dims, armTimer, varSet, primVarSet, varAdd, setRuleBit, primAt}
 use Rattle.model.specs.Exec.{Scheduled, dropped, accepted, schedule, StepResult, afterPrim, runBranch, exec, RunOutput, continueRun, withStep, runSteps}
 use Rattle.model.specs.Flat.{stepAt}
-use Rattle.model.specs.Activate.{Auto, Handled, jobOf, Decision, begins, suppressed, unevaluable, verdict, inCooldown, decide, finishWet, executeWet, execute, decided, activate, resume}
+use Rattle.model.specs.Activate.{Auto, Handled, jobOf, numbered, Decision, begins, suppressed, unevaluable, verdict, inCooldown, decide, finishWet, executeWet, execute, decided, activate, resume}
 use Rattle.model.specs.Wheel.{resumeAll, notDue, dueNow, fireContinuations, activateIfEnabled, activateEach, timersDue, everyDue, fireTimers, fireEvery}
 use Rattle.set_back.specs.Ticks.{beforeWall}
 
@@ -200,7 +200,7 @@ module _ (e : Env) where
   executes : (j : Job) (v : Volatile) → SameIn v ((executeWet e j v) .vol)
   unfolding executeWet
   executes j v =
-      finishes _ _ _ ∙ (runs e j (budget (e .set .image)) _ _ ∙ bumped activationsTotal 1 (v .rest))
+      finishes _ _ _ ∙ (runs e (numbered (nextNumber (v .lastNumber)) j) (budget (e .set .image)) _ _ ∙ bumped activationsTotal 1 (v .rest))
 
   -- what a decision leaves
   abbrev Left : Rest → Decision → Type 0

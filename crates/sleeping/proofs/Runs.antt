@@ -16,14 +16,14 @@ use Rattle.model.specs.declared.Step.the-variants.{Primitive, Wait, Branch, Aft
 use Rattle.model.specs.declared.Effect.{Effect}
 use Rattle.model.specs.declared.Pending.{Pending}
 use Rattle.model.specs.Outcome.{Item, started, resumed, paid, defers}
-use Rattle.model.specs.State.{Env, Rest, Volatile, withRest, withPrevWeekMin, withLastActivation, bump, bumpBy, isFull, strike, lastActivationAt, activationsTotal, activationsDry, continuationsFired}
+use Rattle.model.specs.State.{Env, Rest, Volatile, withRest, nextNumber, withPrevWeekMin, withLastActivation, bump, bumpBy, isFull, strike, lastActivationAt, activationsTotal, activationsDry, continuationsFired}
 use Rattle.model.specs.Flat.{stepAt}
 use Rattle.model.specs.Steps.{start}
 use Rattle.model.specs.Actions.{Job, PrimResult, primAt}
 use Rattle.model.specs.Eval.{conditionAt, conditionsHold}
 use Rattle.model.specs.Exec.{advance, bodyStart, firstReason, Scheduled, dropped, accepted, schedule, StepResult, afterPrim, runBranch, exec, RunOutput, continueRun, withStep, runSteps}
 use Rattle.model.specs.Dry.{NextStep, nextStep, DryStepResult, dryBranch, dryStep, DryOutput, dryTurn, runStepsDry}
-use Rattle.model.specs.Activate.{Mode, isAuto, isDry, Handled, noOutcome, andThen, outcome, jobOf, inCooldown, Decision, begins, suppressed, unevaluable, verdict, decide, finishWet, finished, executeWet, executeDry, execute, decided, activate, resume}
+use Rattle.model.specs.Activate.{Mode, isAuto, isDry, Handled, noOutcome, andThen, outcome, jobOf, numbered, withNumber, inCooldown, Decision, begins, suppressed, unevaluable, verdict, decide, finishWet, finished, executeWet, executeDry, execute, decided, activate, resume}
 use Rattle.sleeping.specs.Sleeping.{withMinute}
 use Rattle.sleeping.proofs.Minute.{condition-same, conditions-same, rest-cond, SamePrim, fails-same, prim-same}
 
@@ -209,8 +209,9 @@ module _ (m : Option ℕ) where
       let h = dry-run-same (budget (e .set .image)) e j start [] (bump activationsDry (v .rest)) in
       record { vol = ap (λ r. withRest r v) (h .rest); outcomes = ap₂ (λ es n. outcome j es n ∷ []) (h .effects) (h .reason); trace = ap (λ ts. started (j .rule) ∷ ts) (h .trace) }
   execute-same e j false v =
-      finished-same j (started (j .rule)) _ _
-      (run-same (budget (e .set .image)) e j start (withRest (withLastActivation (set (v .rest .lastActivation) (j .index) (some (e .world .now))) (bump activationsTotal (v .rest))) v))
+      let w = numbered (nextNumber (v .lastNumber)) j in
+      let s = withLastActivation (set (v .rest .lastActivation) (j .index) (some (e .world .now))) (bump activationsTotal (v .rest)) in
+      finished-same w (started (j .rule)) _ _ (run-same (budget (e .set .image)) e w start (withNumber (suc (v .lastNumber)) (withRest s v)))
 
   -- what is decided, with the minute
   decisionWith : Decision → Decision

@@ -81,7 +81,7 @@ module _ (t : ℕ) (m : Option ℕ) where
   overflow-same : (os es : ℕ) (k : Option ℕ) (x x′ : Handled) → SameHandled k x x′ → overflow os es x′ ≡ overflow os es x
   unfolding overflow
   overflow-same os es k x x′ h =
-      ap₂ (λ ys n. unless (leb (length ys) (outcomeRoom os) && leb (effectsOf ys) (effectRoom es)) 30 (unless (leb n max64) 31 0)) (h .outcomes) (ap (λ (v : Volatile). v .next) (h .vol))
+      ap₂ (λ ys (v : Volatile). unless (leb (length ys) (outcomeRoom os) && leb (effectsOf ys) (effectRoom es)) 30 (unless (leb (v .next) max64) 31 (unless (leb (v .lastNumber) max64) 32 0))) (h .outcomes) (h .vol)
 
   committed-same : (os es now : ℕ) (k : Option ℕ) (x x′ : Handled) (s : Store) → SameHandled k x x′
       → SameDone (committed os es now x s) (committed os es now x′ (withTimes t m s))
@@ -159,12 +159,16 @@ pub record QuietTick (s : Store) (d : Done) : Type 0 where
   pub store : AgreeButTimes s (d .store)
   pub trace : d .trace ≡ []
 
-commit-quiet : (m n now : ℕ) (k : Option ℕ) (s : Store) → s .vol .next ≤ max64 → QuietTick s (committed m n now (noOutcome (withMinute k (s .vol))) s)
+-- its numbers are of 64 bits
+abbrev pub NumbersFit : Volatile → Type 0
+NumbersFit v = (v .next ≤ max64) × (v .lastNumber ≤ max64)
+
+commit-quiet : (m n now : ℕ) (k : Option ℕ) (s : Store) → NumbersFit (s .vol) → QuietTick s (committed m n now (noOutcome (withMinute k (s .vol))) s)
 unfolding committed overflow
 commit-quiet m n now k s le =
-    rw (le-leb 0 (outcomeRoom m) zero-le, le-leb 0 (effectRoom n) zero-le, le-leb (s .vol .next) max64 le) (record { answer = refl; store = agree _ _ now k refl; trace = refl })
+    rw (le-leb 0 (outcomeRoom m) zero-le, le-leb 0 (effectRoom n) zero-le, le-leb (s .vol .next) max64 (le .0), le-leb (s .vol .lastNumber) max64 (le .1)) (record { answer = refl; store = agree _ _ now k refl; trace = refl })
 
-pub quiet : (snap : List ℕ) (m n : ℕ) (o : Option RuleSet) (s : Store) → setWithoutWall o ≡ true → beforeAll (nowOf snap) s ≡ true → s .vol .next ≤ max64 → QuietTick s (tickWith o snap m n s)
+pub quiet : (snap : List ℕ) (m n : ℕ) (o : Option RuleSet) (s : Store) → setWithoutWall o ≡ true → beforeAll (nowOf snap) s ≡ true → NumbersFit (s .vol) → QuietTick s (tickWith o snap m n s)
 unfolding tickWith worldOf
 quiet snap m n none s free h le = commit-quiet m n (nowOf snap) (s .vol .rest .prevWeekMin) s le
 quiet snap m n (some set) s free h le =
@@ -172,7 +176,7 @@ quiet snap m n (some set) s free h le =
     let l : Later (nowOf snap) (s .vol) = later (nowOf snap) s h in
     rw (tick-quiet e (s .vol) l free) (commit-quiet m n (nowOf snap) (minuteOf (e .world .wall)) s le)
 
-pub added-quiet : (snap : List ℕ) (m n : ℕ) (s : Store) → snapshotRefusal snap ≡ 0 → beforeAll (nowOf snap) s ≡ true → setWithoutWall (s .loaded) ≡ true → s .vol .next ≤ max64
+pub added-quiet : (snap : List ℕ) (m n : ℕ) (s : Store) → snapshotRefusal snap ≡ 0 → beforeAll (nowOf snap) s ≡ true → setWithoutWall (s .loaded) ≡ true → NumbersFit (s .vol)
     → QuietTick s (call (tick snap m n) s)
 unfolding call
 added-quiet snap m n s fine h free le = rw fine (quiet snap m n (s .loaded) s free h le)

@@ -82,10 +82,10 @@ minute-hidden i h =
 -- THE WORDS OF A STORE --------------------------------------------------------------------------------------------------------------
 abbrev withMin : Option ℕ → Changing → Changing
 withMin k m =
-    record { bits = m .bits; activations = m .activations; positions = m .positions; variables = m .variables; timers = m .timers; slots = m .slots; pending = m .pending; prevWeekMin = k; next = m .next; counters = m .counters }
+    record { bits = m .bits; activations = m .activations; positions = m .positions; variables = m .variables; timers = m .timers; slots = m .slots; pending = m .pending; prevWeekMin = k; next = m .next; lastNumber = m .lastNumber; counters = m .counters }
 
 changing-apart : (P : ℕ → Bool) (k : Option ℕ) (m : Changing) → changingPart .good m ≡ true
-    → ((i : ℕ) → P (64 + (192 + (128 + (65 + (49 + (321 + (417 + i))))))) ≡ false → 2 ≤ i)
+    → ((i : ℕ) → P (64 + (192 + (128 + (65 + (49 + (321 + (481 + i))))))) ≡ false → 2 ≤ i)
     → Apart P (changingPart .put (withMin k m)) (changingPart .put m)
 unfolding changingPart sizes
 changing-apart P k m g far =
@@ -102,7 +102,7 @@ changing-apart P k m g far =
     (front _ 65 ((most 16 variableRow) .put (m .variables)) _ _ ((most-laws 16 variable-laws) .long (m .variables) (g4 .0))
     (front _ 49 ((most 16 timerRow) .put (m .timers)) _ _ ((most-laws 16 timer-laws) .long (m .timers) (g5 .0))
     (front _ 321 ((most 64 slotRow) .put (m .slots)) _ _ ((most-laws 64 slot-laws) .long (m .slots) (g6 .0))
-    (front _ 417 ((most 32 pendingRow) .put (m .pending)) _ _ ((most-laws 32 pending-laws) .long (m .pending) (g7 .0))
+    (front _ 481 ((most 32 pendingRow) .put (m .pending)) _ _ ((most-laws 32 pending-laws) .long (m .pending) (g7 .0))
     (chain _ 2 ((maybe (word 10079)) .put k) ((maybe (word 10079)) .put (m .prevWeekMin)) _ _ (minute-long k) (minute-long (m .prevWeekMin))
     (hidden _ 2 _ _ (minute-long k) (minute-long (m .prevWeekMin)) far)
     (same _ _))))))))
@@ -115,7 +115,7 @@ loaded-long : (l : Loaded) → loadedPart .good l ≡ true → length (loadedPar
 unfolding sizes loadedPart
 loaded-long l g = loaded-laws .long l g
 
-changing-long : (m : Changing) → changingPart .good m ≡ true → length (changingPart .put m) ≡ 1252
+changing-long : (m : Changing) → changingPart .good m ≡ true → length (changingPart .put m) ≡ 1318
 unfolding sizes changingPart
 changing-long m g = changing-laws .long m g
 
@@ -135,6 +135,6 @@ unfolding write partsOf layout
 write-apart t k s h h′ =
     (chain isTimeWord 2 (wide .put t) (wide .put (s .now)) _ _ refl refl (hidden isTimeWord 2 _ _ refl refl last-hidden)
     (front _ 12419 (loadedPart .put (loadedOf (s .loaded))) _ _ (loaded-long (loadedOf (s .loaded)) (loaded-good s h))
-    (chain _ 1252 (changingPart .put (withMin k (changingOf (s .vol)))) (changingPart .put (changingOf (s .vol))) _ _ (changing-long _ (changing-good (withTimes t k s) h′)) (changing-long _ (changing-good s h))
+    (chain _ 1318 (changingPart .put (withMin k (changingOf (s .vol)))) (changingPart .put (changingOf (s .vol))) _ _ (changing-long _ (changing-good (withTimes t k s) h′)) (changing-long _ (changing-good s h))
     (changing-apart _ k (changingOf (s .vol)) (changing-good s h) (λ i q. minute-hidden i (ap isTimeWord (omega arith) ∙ q)))
     (same _ _)))) .at

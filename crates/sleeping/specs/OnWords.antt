@@ -26,7 +26,7 @@ returnedOn w (c ∷ cs) = returnedBy (callOn c w) ∷ returnedOn ((callOn c w) .
 
 -- where the previous week minute stands: behind the last time, the set and the parts in front of it (docs/STORE.md)
 abbrev pub minuteAt : ℕ
-minuteAt = 13657
+minuteAt = 13721
 
 -- the words of the last time and of the previous week minute
 unfoldable pub isTimeWord : ℕ → Bool

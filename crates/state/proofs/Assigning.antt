@@ -104,25 +104,25 @@ module _ (next stored : ℕ) (t₀ : List ℕ) (start : Counted 32 pendingRow t�
     pub numbers-long : length t ≡ wordsIn pendingPart
     numbers-long = holds-long pendingRow pending-laws 32 t (get t) (v .counted)
 
-    module _ (offset : ℕ) (from : stored ≤ i) (less : i < n) (e : offset ≡ rowAt wide t (1 + i * 13)) where
+    module _ (offset : ℕ) (from : stored ≤ i) (less : i < n) (e : offset ≡ rowAt wide t (1 + i * 15)) where
       abbrev old : Pending
-      old = getD (get t) i (rowAt pendingRow t (1 + i * 13))
+      old = getD (get t) i (rowAt pendingRow t (1 + i * 15))
 
       within : i < length (get t)
       within = rw numbers-length less
 
       offset-is : offset ≡ old .seq
       unfolding rowAt
-      offset-is = e ∙ ap (λ (p : Pending). p .seq) (row-read pendingRow pending-laws 32 t (get t) i (rowAt pendingRow t (1 + i * 13)) (v .counted) within)
+      offset-is = e ∙ ap (λ (p : Pending). p .seq) (row-read pendingRow pending-laws 32 t (get t) i (rowAt pendingRow t (1 + i * 15)) (v .counted) within)
 
       pub offset-small : (accepted : ℕ) → Below accepted (drop stored (get t₀)) → offset < accepted
       offset-small accepted b =
           let long = v .numbering .long in
-          rw offset-is (offset-below next stored (get t₀) (get t) i (rowAt pendingRow t (1 + i * 13)) (v .numbering) accepted b from (rw long at within))
+          rw offset-is (offset-below next stored (get t₀) (get t) i (rowAt pendingRow t (1 + i * 15)) (v .numbering) accepted b from (rw long at within))
 
-      pub numbers-more : (t₁ : List ℕ) → t₁ ≡ laid t (1 + i * 13) (wide .put (next + offset)) → Words t₁ → Numbers next stored t₀ t₁ (i + 1)
+      pub numbers-more : (t₁ : List ℕ) → t₁ ≡ laid t (1 + i * 15) (wide .put (next + offset)) → Words t₁ → Numbers next stored t₀ t₁ (i + 1)
       numbers-more t₁ b words =
-          let k : ℕ = 1 + i * 13 in
+          let k : ℕ = 1 + i * 15 in
           let x : Pending = offsetFrom next old in
           let room = holds-few pendingRow pending-laws 32 t (get t) (v .counted) in
           let below : k ≤ length t = omega (arith, numbers-long, numbers-length) in
@@ -158,7 +158,7 @@ module _ (w : List ℕ) (s : Sound w) (next acc : ℕ) (n : next ≡ rowAt wide 
   unfolding records accepted
   offsets-small = rw (a, accepted-at w, stored-at w s, records-are w s) (s .parts .offsets)
 
-  module _ (fits : leb (meaning w .next) max64 ≡ true) (p w₁ w₂ w₃ w₄ : List ℕ) (count : ℕ)
+  module _ (fits : leb (meaning w .next) max64 ≡ true) (last-fits : meaning w .lastNumber ≤ max64) (p w₁ w₂ w₃ w₄ : List ℕ) (count : ℕ)
       (h : Holds 32 pendingRow p (numbered next (getD w (placeOf storedPart) 0) (most 32 pendingRow .get lent))) (e₁ : w₁ ≡ putMid (placeOf pendingPart) (wordsIn pendingPart) w p) where
     lent-back : Changed w w₁ pendingPart p
     lent-back = rw e₁ (table-back pendingRow pending-laws pendingPart 32 (omega arith) refl w p _ s h)
@@ -194,11 +194,12 @@ module _ (w : List ℕ) (s : Sound w) (next acc : ℕ) (n : next ≡ rowAt wide 
         let end : drop count (most 32 pendingRow .get p) ≡ [] = rw g (drop-of-length-le l {i = count} (omega arith)) in
         let num : numbered (wide .get (wide .put (next + acc))) count (most 32 pendingRow .get p) ≡ l = rw g (numbered-all (wide .get (wide .put (next + acc))) count l (omega arith)) in
         let number : wide .get (wide .put (next + acc)) + wide .get (wide .put 0) ≡ meaning w .next = rw (q .0, z .0, add-zero) (next-sum w acc next a n) in
-        let f : List Pending → ℕ → model.Volatile = λ x i. record { rest = meaning w .rest; pending = x; next = i } in
+        let f : List Pending → ℕ → model.Volatile = λ x i. record { rest = meaning w .rest; pending = x; next = i; lastNumber = meaning w .lastNumber } in
         let o = across w s in
         record {
           says = ap meaningOf cuts ∙ (λ i. f (num i) (number i));
-          sound = sound-of w₄ ps cuts (c₄ .shape) (omega arith, rw end tt, o .2, o .3, o .4, o .5);
+          sound = sound-of w₄ ps cuts (c₄ .shape) (omega arith, rw end tt, o .2, o .3, o .4, o .5, o .6);
           stored = ap (λ (x : List (List ℕ)). getD (getD x storedPart []) 0 0) cuts ∙ k ∙ sym m ∙ sym (ap (λ (x : List (List ℕ)). getD (getD x pendingPart []) 0 0) cuts);
           noneAccepted = ap acceptedIn cuts ∙ z .0;
+          lastFits = last-fits;
         }

@@ -24,7 +24,7 @@ use Rattle.state.proofs.Frame.{Shaped, shaped, Changed, changed-laid, c
 unfoldable pub rowsSet : {A : Type 0} → Row A → ℕ → ℕ → List ℕ → ℕ → A → List ℕ
 rowsSet r t n w i x = wordsOf r (set (rowsAt r n (part t w)) i x)
 
-module _ {A : Type 0} (r : Row A) (laws : RowLaws r) (t n : ℕ) (h : t < 13) (is : getD stateParts t (fixed 0 []) ≡ fixed n (r .cells)) where
+module _ {A : Type 0} (r : Row A) (laws : RowLaws r) (t n : ℕ) (h : t < 15) (is : getD stateParts t (fixed 0 []) ≡ fixed n (r .cells)) where
   abbrev f : ℕ
   f = length (r .cells)
 
@@ -110,7 +110,7 @@ one-fits r laws x g =
     let z = append-nil (r .put x) in
     (rw z at (q .0), join (rw z at (q .1)) refl)
 
-module _ {A : Type 0} (r : Row A) (laws : RowLaws r) (t : ℕ) (h : t < 13) (is : getD stateParts t (fixed 0 []) ≡ fixed 1 (r .cells)) where
+module _ {A : Type 0} (r : Row A) (laws : RowLaws r) (t : ℕ) (h : t < 15) (is : getD stateParts t (fixed 0 []) ≡ fixed 1 (r .cells)) where
   pub one-at : (w : List ℕ) → Sound w → rowAt r w (placeOf t) ≡ r .get (part t w)
   unfolding rowsAt
   one-at w s =

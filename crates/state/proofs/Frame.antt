@@ -27,7 +27,7 @@ use Rattle.model.proofs.RowLaws.{RowLaws}
 use Rattle.rows.specs.Places.{laid, rowAt}
 use Rattle.rows.proofs.Writing.{laid-long, one-set}
 use Rattle.state.specs.Cuts.{cut, sum}
-use Rattle.state.specs.Meaning.{stateParts, partSizes, placeOf, wordsIn, stateWords, part, bitsPart, activationsPart, positionsPart, variablesPart, timersPart, slotsPart, pendingPart, weekPart, countersPart, rulesPart, rulesIn, storedIn, acceptedIn, baseIn, recordsIn, meaningOf, SoundOf, unsetFrom, Below, meaning, base, rulesOf, Sound, Means, Holds, Counted}
+use Rattle.state.specs.Meaning.{stateParts, partSizes, placeOf, wordsIn, stateWords, part, bitsPart, activationsPart, positionsPart, variablesPart, timersPart, slotsPart, pendingPart, weekPart, countersPart, rulesPart, rulesIn, storedIn, acceptedIn, baseIn, recordsIn, meaningOf, SoundOf, OnlyBeyond, unsetFrom, Below, meaning, base, rulesOf, Sound, Means, Holds, Counted}
 use Rattle.state.proofs.Cutting.{cut-long, cut-at, cut-laid, piece-end, piece-long, part-laid, laid-within}
 use Rattle.state.proofs.Typed.{holds-get, holds-fit, holds-long, holds-count, holds-few, fit-holds, row-read}
 
@@ -38,7 +38,7 @@ part-word a k w i h = getD-take k (drop a w) i 0 h ∙ getD-drop a w i 0
 -- the shape of each part
 pub record Shaped (w : List ℕ) : Type 0 where
   pub long : length w ≡ stateWords
-  pub fit : (u : ℕ) → u < 13 → partFits (getD stateParts u (fixed 0 [])) (part u w) ≡ true
+  pub fit : (u : ℕ) → u < 15 → partFits (getD stateParts u (fixed 0 [])) (part u w) ≡ true
 
 pub shaped : (w : List ℕ) → Sound w → Shaped w
 shaped w s = record { long = s .long; fit = s .parts .fit }
@@ -48,8 +48,8 @@ pub record Changed (w w′ : List ℕ) (t : ℕ) (p : List ℕ) : Type 0 where
   pub cuts : cut partSizes w′ ≡ set (cut partSizes w) t p
   pub shape : Shaped w′
 
-fits-set : (ps : List (List ℕ)) (t : ℕ) (p : List ℕ) → t < length ps → ((u : ℕ) → u < 13 → partFits (getD stateParts u (fixed 0 [])) (getD ps u []) ≡ true)
-    → partFits (getD stateParts t (fixed 0 [])) p ≡ true → (u : ℕ) → u < 13 → partFits (getD stateParts u (fixed 0 [])) (getD (set ps t p) u []) ≡ true
+fits-set : (ps : List (List ℕ)) (t : ℕ) (p : List ℕ) → t < length ps → ((u : ℕ) → u < 15 → partFits (getD stateParts u (fixed 0 [])) (getD ps u []) ≡ true)
+    → partFits (getD stateParts t (fixed 0 [])) p ≡ true → (u : ℕ) → u < 15 → partFits (getD stateParts u (fixed 0 [])) (getD (set ps t p) u []) ≡ true
 fits-set ps t p l f g u h = by (eqb u t) refl
   where
     by : (b : Bool) → eqb u t ≡ b → partFits (getD stateParts u (fixed 0 [])) (getD (set ps t p) u []) ≡ true
@@ -58,7 +58,7 @@ fits-set ps t p l f g u h = by (eqb u t) refl
         subst (λ (v : ℕ). partFits (getD stateParts v (fixed 0 [])) (getD (set ps t p) v []) ≡ true) (sym q) (rw (getD-set-same ps t p [] l) g)
     by false e = rw (getD-set-other ps t u p [] (eqb-false u t e)) (f u h)
 
-module _ (t : ℕ) (h : t < 13) where
+module _ (t : ℕ) (h : t < 15) where
   -- what is lent
   pub part-is : (w : List ℕ) → part t w ≡ take (wordsIn t) (drop (placeOf t) w)
   part-is w = cut-at partSizes w t h
@@ -108,7 +108,7 @@ module _ (t : ℕ) (h : t < 13) where
       rw (e, one) (changed-words w (x ∷ []) i s (omega arith) (subst (λ (p : List ℕ). partFits (getD stateParts t (fixed 0 [])) p ≡ true) one f))
 
 -- the words of a table that are lent
-module _ {A : Type 0} (r : Row A) (laws : RowLaws r) (t n : ℕ) (h : t < 13) (is : getD stateParts t (fixed 0 []) ≡ counted n (r .cells)) where
+module _ {A : Type 0} (r : Row A) (laws : RowLaws r) (t n : ℕ) (h : t < 15) (is : getD stateParts t (fixed 0 []) ≡ counted n (r .cells)) where
   table-words : wordsIn t ≡ 1 + n * length (r .cells)
   table-words = List·getD-map sizeOf stateParts t (fixed 0 []) ∙ ap sizeOf is
 
@@ -158,9 +158,10 @@ Across ps =
     × (unsetFrom (rulesIn ps) 1 (getD ps bitsPart []) ≡ true)
     × (unsetFrom (rulesIn ps) 3 (getD ps activationsPart []) ≡ true)
     × (unsetFrom (rulesIn ps) 2 (getD ps positionsPart []) ≡ true)
+    × OnlyBeyond ps
 
 pub across : (w : List ℕ) → Sound w → Across (cut partSizes w)
-across w s = (s .parts .stored, s .parts .offsets, s .parts .texts, s .parts .bits, s .parts .activations, s .parts .positions)
+across w s = (s .parts .stored, s .parts .offsets, s .parts .texts, s .parts .bits, s .parts .activations, s .parts .positions, s .parts .beyond)
 
 pub sound-of : (w : List ℕ) (ps : List (List ℕ)) → cut partSizes w ≡ ps → Shaped w → Across ps → Sound w
 sound-of w ps e h a =
@@ -176,6 +177,7 @@ sound-of w ps e h a =
             bits = a .3;
             activations = a .4;
             positions = a .5;
+            beyond = a .6;
           });
     }
 
@@ -187,19 +189,19 @@ module _ (w w′ p : List ℕ) (s : Sound w) where
   unfolding cut meaning base rulesOf
   bits-changed c u =
       let a = across w s in
-      record { says = ap meaningOf (c .cuts); sound = sound-by w w′ bitsPart p c (a .0, a .1, a .2, u, a .4, a .5); based = ap baseIn (c .cuts) }
+      record { says = ap meaningOf (c .cuts); sound = sound-by w w′ bitsPart p c (a .0, a .1, a .2, u, a .4, a .5, a .6); based = ap baseIn (c .cuts) }
 
   pub activations-changed : Changed w w′ activationsPart p → unsetFrom (rulesOf w) 3 p ≡ true → Means w′ (base w) (withRest (withLastActivation (take (rulesOf w) (rowsAt (maybe wide) 64 p)) (meaning w .rest)) (meaning w))
   unfolding cut meaning base rulesOf
   activations-changed c u =
       let a = across w s in
-      record { says = ap meaningOf (c .cuts); sound = sound-by w w′ activationsPart p c (a .0, a .1, a .2, a .3, u, a .5); based = ap baseIn (c .cuts) }
+      record { says = ap meaningOf (c .cuts); sound = sound-by w w′ activationsPart p c (a .0, a .1, a .2, a .3, u, a .5, a .6); based = ap baseIn (c .cuts) }
 
   pub positions-changed : Changed w w′ positionsPart p → unsetFrom (rulesOf w) 2 p ≡ true → Means w′ (base w) (withRest (withCyclePos (take (rulesOf w) (rowsAt (maybe any) 64 p)) (meaning w .rest)) (meaning w))
   unfolding cut meaning base rulesOf
   positions-changed c u =
       let a = across w s in
-      record { says = ap meaningOf (c .cuts); sound = sound-by w w′ positionsPart p c (a .0, a .1, a .2, a .3, a .4, u); based = ap baseIn (c .cuts) }
+      record { says = ap meaningOf (c .cuts); sound = sound-by w w′ positionsPart p c (a .0, a .1, a .2, a .3, a .4, u, a .6); based = ap baseIn (c .cuts) }
 
   pub variables-changed : (l : List (ℕ × (ℕ × ℕ))) → Changed w w′ variablesPart p → Holds 16 variableRow p l → all textShort l ≡ true → Means w′ (base w) (withRest (withVars (map variableOf l) (meaning w .rest)) (meaning w))
   unfolding cut meaning base
@@ -208,7 +210,7 @@ module _ (w w′ p : List ℕ) (s : Sound w) where
       let g = holds-get variableRow variable-laws 16 p l h in
       record {
         says = ap meaningOf (c .cuts) ∙ ap (λ (z : List (ℕ × (ℕ × ℕ))). withRest (withVars (map variableOf z) (meaning w .rest)) (meaning w)) g;
-        sound = sound-by w w′ variablesPart p c (a .0, a .1, rw g short, a .3, a .4, a .5);
+        sound = sound-by w w′ variablesPart p c (a .0, a .1, rw g short, a .3, a .4, a .5, a .6);
         based = ap baseIn (c .cuts);
       }
 

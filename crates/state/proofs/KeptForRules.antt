@@ -140,7 +140,7 @@ module _ (w w′ : List ℕ) (k : ℕ) (words : (i : ℕ) → getD w′ i 0 < 42
   good-32 o e = maybe-roomy any-roomy .fits o (words-laid w k (maybe-any .put o) w′ e (are-words w′ words))
 
 -- ROWS FOR EACH RULE --------------------------------------------------------------------------------------------------------------------------
-module _ {A : Type 0} (r : Row A) (laws : RowLaws r) (t : ℕ) (h : t < 13) (is : getD stateParts t (fixed 0 []) ≡ fixed 64 (r .cells)) (w : List ℕ) (s : Sound w) where
+module _ {A : Type 0} (r : Row A) (laws : RowLaws r) (t : ℕ) (h : t < 15) (is : getD stateParts t (fixed 0 []) ≡ fixed 64 (r .cells)) (w : List ℕ) (s : Sound w) where
   abbrev kept : List A
   kept = take (rulesOf w) (rowsAt r 64 (part t w))
 

@@ -24,4 +24,5 @@ pub mod Held
 pub mod EverySlots
 pub mod RunningTimers
 pub mod Records
+pub mod TakingNumbers
 pub mod Assigning

@@ -43,7 +43,7 @@ use Rattle.state.proofs.Follows.{follows, next-is}
 
 pub pending-laws : RowLaws pendingRow
 pending-laws =
-    as-row-laws pendingIs (⊗-laws wide-laws (⊗-laws wide-laws (⊗-laws any-laws (⊗-laws any-laws (⊗-laws any-laws (⊗-laws jump-laws (⊗-laws any-laws (⊗-laws any-laws (pad-laws 1)))))))))
+    as-row-laws pendingIs (⊗-laws wide-laws (⊗-laws wide-laws (⊗-laws any-laws (⊗-laws any-laws (⊗-laws any-laws (⊗-laws jump-laws (⊗-laws any-laws (⊗-laws any-laws (⊗-laws wide-laws (pad-laws 1))))))))))
 
 unfoldable pub records : List ℕ → List Pending
 records w = recordsIn (cut partSizes w)
@@ -62,10 +62,10 @@ module _ (w : List ℕ) (s : Sound w) where
   pub records-hold : Holds 32 pendingRow lent (records w)
   records-hold = rw records-are at records-lent
 
-  pub records-fit : Fits 13 lent
+  pub records-fit : Fits 15 lent
   records-fit = holds-fits pendingRow pending-laws 32 _ _ records-hold (omega arith) (omega arith) (omega arith)
 
-  pub records-table : Table 13 lent
+  pub records-table : Table 15 lent
   records-table = holds-table pendingRow pending-laws 32 _ _ records-hold (omega arith) (omega arith) (omega arith)
 
   lent-count : getD lent 0 0 ≡ getD w (placeOf pendingPart) 0
@@ -99,15 +99,15 @@ module _ (w : List ℕ) (s : Sound w) where
   -- other records
   pub records-changed : (w′ p : List ℕ) (l : List Pending) → Changed w w′ pendingPart p → Holds 32 pendingRow p l → storedIn (cut partSizes w) ≤ length l
       → Below (acceptedIn (cut partSizes w)) (drop (storedIn (cut partSizes w)) l)
-      → Means w′ (base w) (record { rest = meaning w .rest; pending = numbered (base w) (storedIn (cut partSizes w)) l; next = meaning w .next })
+      → Means w′ (base w) (record { rest = meaning w .rest; pending = numbered (base w) (storedIn (cut partSizes w)) l; next = meaning w .next; lastNumber = meaning w .lastNumber })
   unfolding cut meaning base
   records-changed w′ p l c h a b =
       let g = holds-get pendingRow pending-laws 32 p l h in
       let k = holds-count pendingRow pending-laws 32 p l h in
       let q = across w s in
       record {
-        says = ap meaningOf (c .cuts) ∙ ap (λ (x : List Pending). record { rest = meaning w .rest; pending = numbered (base w) (storedIn (cut partSizes w)) x; next = meaning w .next }) g;
-        sound = sound-by w w′ pendingPart p c (rw k a, rw g b, q .2, q .3, q .4, q .5);
+        says = ap meaningOf (c .cuts) ∙ ap (λ (x : List Pending). record { rest = meaning w .rest; pending = numbered (base w) (storedIn (cut partSizes w)) x; next = meaning w .next; lastNumber = meaning w .lastNumber }) g;
+        sound = sound-by w w′ pendingPart p c (rw k a, rw g b, q .2, q .3, q .4, q .5, q .6);
         based = ap baseIn (c .cuts);
       }
 
@@ -123,11 +123,11 @@ module _ (w : List ℕ) (s : Sound w) where
       let n = stored-few in
       let m : length (l ++ (x ∷ [])) ≡ length l + 1 = length-append l (x ∷ []) in
       let b : Below (accepted w) (drop st (l ++ (x ∷ []))) = rw (drop-append-le st l (x ∷ []) n) (below-append (accepted w) (drop st l) (x ∷ []) (s .parts .offsets) (less, tt)) in
-      subst (λ (y : List Pending). Means (putMid (placeOf pendingPart) (wordsIn pendingPart) w p) (base w) (record { rest = meaning w .rest; pending = y; next = meaning w .next })) (numbered-joins (base w) st l x n)
+      subst (λ (y : List Pending). Means (putMid (placeOf pendingPart) (wordsIn pendingPart) w p) (base w) (record { rest = meaning w .rest; pending = y; next = meaning w .next; lastNumber = meaning w .lastNumber })) (numbered-joins (base w) st l x n)
       (records-changed _ p (l ++ (x ∷ [])) c h′ (omega arith) b)
 
 -- A NUMBER IS GIVEN ---------------------------------------------------------------------------------------------------------------------------
-both-words : (w : List ℕ) → wide .get (take 2 w) ≡ wide .get w
+pub both-words : (w : List ℕ) → wide .get (take 2 w) ≡ wide .get w
 both-words w = rw (getD-take 2 w 0 0 (omega arith), getD-take 2 w 1 0 (omega arith))
 
 pub accepted-at : (w : List ℕ) → rowAt wide w (placeOf acceptedPart) ≡ accepted w
@@ -158,42 +158,43 @@ accepts-one w w′ k s e less b =
     let more : Below (wide .get (wide .put (k + 1))) (drop (storedIn (cut partSizes w)) (recordsIn (cut partSizes w))) = rw (q .0, e) (below-more (accepted w) (drop (storedIn (cut partSizes w)) (recordsIn (cut partSizes w))) (s .parts .offsets)) in
     let next-one : base w + wide .get (wide .put (k + 1)) ≡ suc (base w + accepted w) = rw (r, ← e) (omega arith) in (
       record {
-        says = ap meaningOf (c .cuts) ∙ ap (λ (x : ℕ). record { rest = meaning w .rest; pending = meaning w .pending; next = x }) next-one;
-        sound = sound-by w w′ acceptedPart (wide .put (k + 1)) c (a .0, more, a .2, a .3, a .4, a .5);
+        says = ap meaningOf (c .cuts) ∙ ap (λ (x : ℕ). record { rest = meaning w .rest; pending = meaning w .pending; next = x; lastNumber = meaning w .lastNumber }) next-one;
+        sound = sound-by w w′ acceptedPart (wide .put (k + 1)) c (a .0, more, a .2, a .3, a .4, a .5, a .6);
         based = ap baseIn (c .cuts);
       },
       ap acceptedIn (c .cuts) ∙ r,
     )
 
-module _ (w : List ℕ) (s : Sound w) (time rule trigger budget ms : ℕ) (point : Point) where
+module _ (w : List ℕ) (s : Sound w) (time rule trigger number budget ms : ℕ) (point : Point) where
   full-is : isFull (meaning w) ≡ leb 32 (getD w (placeOf pendingPart) 0)
   unfolding isFull
   full-is = ap (leb 32) (pending-length w s)
 
   pub scheduled : (w₁ w₂ w₃ : List ℕ) (seq due : ℕ) → getD w (placeOf pendingPart) 0 < 32 → due ≡ saturatingAdd max64 time ms → Means w₁ (base w) (withNext (meaning w)) → seq ≡ accepted w
-      → let p : Pending = record { rule = rule; point = point; due = due; budget = budget; trigger = trigger; seq = seq } in
-      Means w₂ (base w₁) (withRecord (base w₁) p (meaning w₁)) → Means w₃ (base w₂) (withRest (bumpBy continuationsScheduled 1 (meaning w₂ .rest)) (meaning w₂)) → Schedules w time rule trigger budget ms point w₃ 0
+      → let p : Pending = record { rule = rule; point = point; due = due; budget = budget; trigger = trigger; seq = seq; number = number } in
+      Means w₂ (base w₁) (withRecord (base w₁) p (meaning w₁)) → Means w₃ (base w₂) (withRest (bumpBy continuationsScheduled 1 (meaning w₂ .rest)) (meaning w₂)) → Schedules w time rule trigger number budget ms point w₃ 0
   unfolding exec.schedule exec.accepted
-  scheduled w₁ w₂ w₃ seq due h d m₁ q m₂ m₃ e j t r k =
-      let p : Pending = record { rule = rule; point = point; due = due; budget = budget; trigger = trigger; seq = seq } in
+  scheduled w₁ w₂ w₃ seq due h d m₁ q m₂ m₃ e j t r k n =
+      let p : Pending = record { rule = rule; point = point; due = due; budget = budget; trigger = trigger; seq = seq; number = number } in
       let room : isFull (meaning w) ≡ false = full-is ∙ lt-leb 32 (getD w (placeOf pendingPart) 0) h in
       let b : base w₁ ≡ base w = m₁ .based in
       let m₂′ : Means w₂ (base w₁) (withRecord (base w) p (meaning w₁)) = subst (λ (x : ℕ). Means w₂ (base w₁) (withRecord x p (meaning w₁))) b m₂ in
       let two = follows (withRecord (base w) p) w₁ w₂ (base w) (withNext (meaning w)) m₁ m₂′ in
       let three = follows (λ v. withRest (bumpBy continuationsScheduled 1 (v .rest)) v) w₂ w₃ (base w) _ two m₃ in
-      let number : base w + seq ≡ meaning w .next = rw q (next-is w) in
+      let numbers : base w + seq ≡ meaning w .next = rw q (next-is w) in
       let f : ℕ → ℕ → model.Volatile = λ x n. record {
         rest = bumpBy continuationsScheduled 1 (meaning w .rest);
-        pending = meaning w .pending ++ (record { rule = rule; point = point; due = x; budget = budget; trigger = trigger; seq = n } ∷ []);
+        pending = meaning w .pending ++ (record { rule = rule; point = point; due = x; budget = budget; trigger = trigger; seq = n; number = number } ∷ []);
         next = suc (meaning w .next);
+        lastNumber = meaning w .lastNumber;
       } in
       let four : Means w₃ (base w) (f (saturatingAdd max64 time ms) (meaning w .next)) =
-      subst (λ (n : ℕ). Means w₃ (base w) (f (saturatingAdd max64 time ms) n)) number (subst (λ (x : ℕ). Means w₃ (base w) (f x (base w + seq))) d three) in
-      rw (room, t, r, k) (four, refl)
+      subst (λ (n : ℕ). Means w₃ (base w) (f (saturatingAdd max64 time ms) n)) numbers (subst (λ (x : ℕ). Means w₃ (base w) (f x (base w + seq))) d three) in
+      rw (room, t, r, k, n) (four, refl)
 
-  pub dropped-one : (w₁ : List ℕ) → 32 ≤ getD w (placeOf pendingPart) 0 → Means w₁ (base w) (withRest (bumpBy continuationsDropped 1 (meaning w .rest)) (meaning w)) → Schedules w time rule trigger budget ms point w₁ 2
+  pub dropped-one : (w₁ : List ℕ) → 32 ≤ getD w (placeOf pendingPart) 0 → Means w₁ (base w) (withRest (bumpBy continuationsDropped 1 (meaning w .rest)) (meaning w)) → Schedules w time rule trigger number budget ms point w₁ 2
   unfolding exec.schedule exec.dropped
-  dropped-one w₁ h m e j t r k =
+  dropped-one w₁ h m e j t r k n =
       let room : isFull (meaning w) ≡ true = full-is ∙ le-leb 32 (getD w (placeOf pendingPart) 0) h in
       rw room (m, refl)
 
@@ -227,7 +228,7 @@ module _ (w : List ℕ) (s : Sound w) (test : Test) where
   abbrev st : ℕ
   st = storedIn (cut partSizes w)
 
-  front-is : length (keep (passes test) (take (getD w (placeOf storedPart) 0) (rowsIn 13 mine))) ≡ length (keep (keptBy test) (take st (records w)))
+  front-is : length (keep (passes test) (take (getD w (placeOf storedPart) 0) (rowsIn 15 mine))) ≡ length (keep (keptBy test) (take st (records w)))
   front-is =
       let h = holds-rows pendingRow pending-laws 32 _ _ (records-hold w s) in
       ap (λ (x : List (List ℕ)). length (keep (passes test) (take (getD w (placeOf storedPart) 0) x))) h
@@ -236,15 +237,15 @@ module _ (w : List ℕ) (s : Sound w) (test : Test) where
       ∙ ap length (keep-rows pendingRow pending-laws 32 (passes test) (keptBy test) (λ a. refl) (take st (records w)))
       ∙ simp length-map
 
-  pub front-small : (front : ℕ) → front ≡ length (keep (passes test) (take (getD w (placeOf storedPart) 0) (rowsIn 13 mine))) → front ≤ 32
+  pub front-small : (front : ℕ) → front ≡ length (keep (passes test) (take (getD w (placeOf storedPart) 0) (rowsIn 15 mine))) → front ≤ 32
   front-small front e =
       let k = few-keep pendingRow pending-laws 32 (passes test) (keptBy test) (λ a. refl) (take st (records w)) in
       let t : length (take st (records w)) ≤ length (records w) = simp length-take (omega arith) in
       omega (arith, e ∙ front-is, k, holds-few pendingRow pending-laws 32 _ _ (records-hold w s))
 
   module _ (past : pastNumber test) where
-    closes : (p w₁ w₂ : List ℕ) (front : ℕ) → p ≡ tableOf (length mine - 1) (keep (passes test) (rowsIn 13 mine))
-        → front ≡ length (keep (passes test) (take (getD w (placeOf storedPart) 0) (rowsIn 13 mine))) → w₁ ≡ putMid (placeOf pendingPart) (wordsIn pendingPart) w p → w₂ ≡ set w₁ (placeOf storedPart) front
+    closes : (p w₁ w₂ : List ℕ) (front : ℕ) → p ≡ tableOf (length mine - 1) (keep (passes test) (rowsIn 15 mine))
+        → front ≡ length (keep (passes test) (take (getD w (placeOf storedPart) 0) (rowsIn 15 mine))) → w₁ ≡ putMid (placeOf pendingPart) (wordsIn pendingPart) w p → w₂ ≡ set w₁ (placeOf storedPart) front
         → Means w₂ (base w) (closedUp test (meaning w))
     unfolding cut meaning base records
     closes p w₁ w₂ front e f e₁ e₂ =
@@ -266,13 +267,13 @@ module _ (w : List ℕ) (s : Sound w) (test : Test) where
         let below : Below (acceptedIn (cut partSizes w)) (drop front (most 32 pendingRow .get p)) = rw (g, seam) (below-keep _ q (drop st l) (s .parts .offsets)) in
         let a = across w s in
         record {
-          says = ap meaningOf cuts ∙ ap (λ (x : List Pending). record { rest = meaning w .rest; pending = x; next = meaning w .next }) num;
-          sound = sound-of w₂ _ cuts (c₂ .shape) (omega arith, below, a .2, a .3, a .4, a .5);
+          says = ap meaningOf cuts ∙ ap (λ (x : List Pending). record { rest = meaning w .rest; pending = x; next = meaning w .next; lastNumber = meaning w .lastNumber }) num;
+          sound = sound-of w₂ _ cuts (c₂ .shape) (omega arith, below, a .2, a .3, a .4, a .5, a .6);
           based = ap baseIn cuts;
         }
 
     -- how many are left
-    left-count : (left : ℕ) → left ≡ length (keep (passes test) (rowsIn 13 mine)) → left ≡ length (keep (keptBy test) (meaning w .pending))
+    left-count : (left : ℕ) → left ≡ length (keep (passes test) (rowsIn 15 mine)) → left ≡ length (keep (keptBy test) (meaning w .pending))
     unfolding meaning base records
     left-count left e =
         let l : List Pending = recordsIn (cut partSizes w) in
@@ -281,11 +282,11 @@ module _ (w : List ℕ) (s : Sound w) (test : Test) where
         ∙ (let m : length (map (pendingRow .put) (keep (keptBy test) l)) ≡ length (keep (keptBy test) l) = simp length-map in m)
         ∙ sym (ap length (keep-numbered (base w) (keptBy test) (ignores test past (base w)) st l) ∙ numbered-length (base w) _ (keep (keptBy test) l))
 
-    pub left-few : (left : ℕ) → left ≡ length (keep (passes test) (rowsIn 13 mine)) → left ≤ getD w (placeOf pendingPart) 0
+    pub left-few : (left : ℕ) → left ≡ length (keep (passes test) (rowsIn 15 mine)) → left ≤ getD w (placeOf pendingPart) 0
     left-few left e = omega (arith, left-count left e, few-keep pendingRow pending-laws 32 (passes test) (keptBy test) (λ a. refl) (meaning w .pending), pending-length w s)
 
-    pub closes-up : (p w₁ w₂ : List ℕ) (front left : ℕ) → p ≡ tableOf (length mine - 1) (keep (passes test) (rowsIn 13 mine))
-        → front ≡ length (keep (passes test) (take (getD w (placeOf storedPart) 0) (rowsIn 13 mine))) → left ≡ length (keep (passes test) (rowsIn 13 mine))
+    pub closes-up : (p w₁ w₂ : List ℕ) (front left : ℕ) → p ≡ tableOf (length mine - 1) (keep (passes test) (rowsIn 15 mine))
+        → front ≡ length (keep (passes test) (take (getD w (placeOf storedPart) 0) (rowsIn 15 mine))) → left ≡ length (keep (passes test) (rowsIn 15 mine))
         → w₁ ≡ putMid (placeOf pendingPart) (wordsIn pendingPart) w p → w₂ ≡ set w₁ (placeOf storedPart) front → ClosesUp test w w₂ (getD w (placeOf pendingPart) 0 - left)
     closes-up p w₁ w₂ front left e f g e₁ e₂ = (closes p w₁ w₂ front e f e₁ e₂, omega (arith, left-count left g, left-few left g, pending-length w s))
 
@@ -305,7 +306,7 @@ keep-same p q e (c ∷ l) = rw (e c, keep-same p q e l)
 pub due-leaves : (w w₁ : List ℕ) (time gone : ℕ) → ClosesUp (Later 2 time) w w₁ gone → Means w₁ (base w) (notDue time (meaning w))
 unfolding notDue
 due-leaves w w₁ time gone c =
-    subst (λ (l : List Pending). Means w₁ (base w) (record { rest = meaning w .rest; pending = l; next = meaning w .next }))
+    subst (λ (l : List Pending). Means w₁ (base w) (record { rest = meaning w .rest; pending = l; next = meaning w .next; lastNumber = meaning w .lastNumber }))
     (keep-same (keptBy (Later 2 time)) (laterThan time) (λ p. ap (λ (x : ℕ). not (leb x time)) (joined-words (p .due))) (meaning w .pending)) (c .0)
 
 -- ALL LEAVE -------------------------------------------------------------------------------------------------------------------------------------
@@ -316,7 +317,7 @@ none-stored w s e =
     omega (arith, none, s .parts .stored, part-at pendingPart (omega arith) w 0 (omega arith))
 
 pub all-leave : (w w₁ w₂ : List ℕ) → Sound w → w₁ ≡ laid w (placeOf pendingPart) (replicate (wordsIn pendingPart) 0) → w₂ ≡ laid w₁ (placeOf storedPart) (any .put 0)
-    → Means w₂ (base w) (record { rest = meaning w .rest; pending = []; next = meaning w .next })
+    → Means w₂ (base w) (record { rest = meaning w .rest; pending = []; next = meaning w .next; lastNumber = meaning w .lastNumber })
 unfolding cut meaning base wordsOf allGood rowsAt numbered
 all-leave w w₁ w₂ s e₁ e₂ =
     let h : Holds 32 pendingRow (replicate (wordsIn pendingPart) 0) [] = record { words = refl; good = refl } in
@@ -324,13 +325,13 @@ all-leave w w₁ w₂ s e₁ e₂ =
     let c₂ : Changed w₁ w₂ storedPart (0 ∷ []) = rw e₂ (changed-laid storedPart (omega arith) w₁ (0 ∷ []) (c₁ .shape) refl (word-fits 32 0 (omega arith))) in
     let cuts : cut partSizes w₂ ≡ set (set (cut partSizes w) pendingPart (replicate (wordsIn pendingPart) 0)) storedPart (0 ∷ []) = c₂ .cuts ∙ ap (λ (ps : List (List ℕ)). set ps storedPart (0 ∷ [])) (c₁ .cuts) in
     let a = across w s in
-    record { says = ap meaningOf cuts; sound = sound-of w₂ _ cuts (c₂ .shape) (omega arith, tt, a .2, a .3, a .4, a .5); based = ap baseIn cuts }
+    record { says = ap meaningOf cuts; sound = sound-of w₂ _ cuts (c₂ .shape) (omega arith, tt, a .2, a .3, a .4, a .5, a .6); based = ap baseIn cuts }
 
-pub all-dropped : (w w₁ w₂ : List ℕ) (n : ℕ) → Sound w → n ≡ getD w (placeOf pendingPart) 0 → Means w₁ (base w) (record { rest = meaning w .rest; pending = []; next = meaning w .next })
+pub all-dropped : (w w₁ w₂ : List ℕ) (n : ℕ) → Sound w → n ≡ getD w (placeOf pendingPart) 0 → Means w₁ (base w) (record { rest = meaning w .rest; pending = []; next = meaning w .next; lastNumber = meaning w .lastNumber })
     → Means w₂ (base w₁) (withRest (bumpBy continuationsDropped n (meaning w₁ .rest)) (meaning w₁)) → Means w₂ (base w) (emptied (meaning w)) × (storedCount w₂ ≡ pendingCount w₂)
 all-dropped w w₁ w₂ n s e m₁ m₂ =
     let m : Means w₂ (base w) (emptied (meaning w)) =
-    subst (λ (x : ℕ). Means w₂ (base w) (withRest (bumpBy continuationsDropped x (meaning w .rest)) (record { rest = meaning w .rest; pending = []; next = meaning w .next }))) (e ∙ sym (pending-length w s))
+    subst (λ (x : ℕ). Means w₂ (base w) (withRest (bumpBy continuationsDropped x (meaning w .rest)) (record { rest = meaning w .rest; pending = []; next = meaning w .next; lastNumber = meaning w .lastNumber }))) (e ∙ sym (pending-length w s))
     (follows (λ v. withRest (bumpBy continuationsDropped n (v .rest)) v) w₁ w₂ (base w) _ m₁ m₂) in
     (m, none-stored w₂ (m .sound) (ap (λ (v : model.Volatile). v .pending) (m .says)))
 
@@ -339,7 +340,7 @@ all-dropped w w₁ w₂ n s e m₁ m₂ =
 rows-same : (n : ℕ) (w : List ℕ) → rowsAt parts.pendingRow n w ≡ rowsAt pendingRow n w
 unfolding rowsAt
 rows-same zero w = refl
-rows-same (suc n) w = ap (λ (l : List Pending). pendingRow .get w ∷ l) (rows-same n (drop 13 w))
+rows-same (suc n) w = ap (λ (l : List Pending). pendingRow .get w ∷ l) (rows-same n (drop 15 w))
 
 pub records-due : (w : List ℕ) → Sound w → storedCount w ≡ pendingCount w → (n time : ℕ) (l due : List Pending) → n ≡ getD w (placeOf pendingPart) 0
     → take n l ≡ tableAt parts.pendingRow n w (placeOf pendingPart + 1) → due ≡ dueNow time (take n l) → due ≡ dueNow time (meaning w .pending)

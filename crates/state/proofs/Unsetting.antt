@@ -112,7 +112,7 @@ module _ (w w₁ w₂ : List ℕ) (n : ℕ) (s : Sound w) (few : n ≤ 64) where
       let a = across w s in
       record {
         says = ap meaningOf cuts ∙ λ i. withRest (withEnabled (bits i) (withLastActivation (activations i) (withCyclePos (positions i) (meaning w .rest)))) (meaning w);
-        sound = sound-of w₂ _ cuts (c₄ .shape) (a .0, a .1, a .2, unset-zeros n 1 few, unset-zeros n 3 few, unset-zeros n 2 few);
+        sound = sound-of w₂ _ cuts (c₄ .shape) (a .0, a .1, a .2, unset-zeros n 1 few, unset-zeros n 3 few, unset-zeros n 2 few, a .6);
         based = ap baseIn cuts;
       }
 

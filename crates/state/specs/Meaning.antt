@@ -1,11 +1,13 @@
--- What the words of a state say: the layout of the store (model's `changingPart`), and three parts more that a call needs: how many records
--- hold a number of the store, how many were accepted, how many rules there are.
+-- What the words of a state say: the layout of the store (model's `changingPart`), and four parts more that a call needs: how many records
+-- hold a number of the store, how many were accepted, how many activations found no number of 64 bits, how many rules there are.
 use mathlib.Core.Path.{_≡_}
+use mathlib.Core.Logic.{_⊎_}
 use mathlib.Core.Bool.{Bool, true, cond}
 use mathlib.Core.List.{List, [], _∷_, _++_, map}
 use Prim.Native.Nat.{ℕ, zero, suc, _+_, _-_, _*_, _≤_, _<_}
 use lib.Dec.{leb}
 use lib.ListN.{length, getD, take, drop}
+use Rattle.words.specs.Saturating.{max64}
 use Rattle.model.specs.Layout.{Part, fixed, counted, sizeOf, partFits, upTo, zeros}
 use Rattle.model.specs.Codec.{Row, wide, _⊗_, maybe, pad, as-row, most, rowsAt}
 use Rattle.model.specs.Parts.{any, bit, variableRow, timerRow, slotRow, jumpRow, pendingIs}
@@ -20,7 +22,7 @@ use Rattle.state.specs.Cuts.{cut, sum}
 -- the row of a pending record, whatever the word of its trigger: inside a call the words of triggers, cycle positions and the week minute may
 -- be any; what a call gives back is in range again, by the rules of the store
 abbrev pub pendingRow : Row Pending
-pendingRow = as-row pendingIs (wide ⊗ (wide ⊗ (any ⊗ (any ⊗ (any ⊗ (jumpRow ⊗ (any ⊗ (any ⊗ pad 1))))))))
+pendingRow = as-row pendingIs (wide ⊗ (wide ⊗ (any ⊗ (any ⊗ (any ⊗ (jumpRow ⊗ (any ⊗ (any ⊗ (wide ⊗ pad 1)))))))))
 
 abbrev pub stateParts : List Part
 stateParts =
@@ -33,8 +35,10 @@ stateParts =
     ∷ counted 32 (pendingRow .cells)
     ∷ fixed 1 ((maybe any) .cells)
     ∷ fixed 1 (wide .cells)
+    ∷ fixed 1 (wide .cells)
     ∷ fixed 12 (any .cells)
     ∷ fixed 1 (upTo 32 ∷ [])
+    ∷ fixed 1 (wide .cells)
     ∷ fixed 1 (wide .cells)
     ∷ fixed 1 (upTo 64 ∷ [])
     ∷ []
@@ -70,17 +74,23 @@ weekPart = 7
 abbrev pub nextPart : ℕ
 nextPart = 8
 
+abbrev pub lastPart : ℕ
+lastPart = 9
+
 abbrev pub countersPart : ℕ
-countersPart = 9
+countersPart = 10
 
 abbrev pub storedPart : ℕ
-storedPart = 10
+storedPart = 11
 
 abbrev pub acceptedPart : ℕ
-acceptedPart = 11
+acceptedPart = 12
+
+abbrev pub beyondPart : ℕ
+beyondPart = 13
 
 abbrev pub rulesPart : ℕ
-rulesPart = 12
+rulesPart = 14
 
 -- where part t stands, and how many words it has; the code's constants are these (`place`)
 abbrev pub placeOf : ℕ → ℕ
@@ -98,7 +108,7 @@ part t w = getD (cut partSizes w) t []
 -- RECORDS ---------------------------------------------------------------------------------------------------------------------------------
 -- a record with the number that stands at the offset that it holds
 abbrev pub offsetFrom : ℕ → Pending → Pending
-offsetFrom base p = record { rule = p .rule; point = p .point; due = p .due; budget = p .budget; trigger = p .trigger; seq = base + p .seq }
+offsetFrom base p = record { rule = p .rule; point = p .point; due = p .due; budget = p .budget; trigger = p .trigger; seq = base + p .seq; number = p .number }
 
 -- the first so many hold numbers, the others offsets from the base
 unfoldable pub numbered : ℕ → ℕ → List Pending → List Pending
@@ -125,6 +135,13 @@ module _ (ps : List (List ℕ)) where
   abbrev pub baseIn : ℕ
   baseIn = wide .get (getD ps nextPart [])
 
+  -- the last activation number, up to 2^64 - 1, and how many were needed beyond it
+  abbrev pub lastIn : ℕ
+  lastIn = wide .get (getD ps lastPart [])
+
+  abbrev pub beyondIn : ℕ
+  beyondIn = wide .get (getD ps beyondPart [])
+
   abbrev pub recordsIn : List Pending
   recordsIn = most 32 pendingRow .get (getD ps pendingPart [])
 
@@ -143,22 +160,28 @@ module _ (ps : List (List ℕ)) where
         };
         pending = numbered baseIn storedIn recordsIn;
         next = baseIn + acceptedIn;
+        lastNumber = lastIn + beyondIn;
       }
+
+-- no number is needed beyond 2^64 - 1, or that one is given
+abbrev pub OnlyBeyond : List (List ℕ) → Type 0
+OnlyBeyond ps = (beyondIn ps ≡ 0) ⊎ (lastIn ps ≡ max64)
 
 -- nothing is kept of rules that there are not: of part p, with f words for a rule, the words behind those of n rules are 0
 abbrev pub unsetFrom : ℕ → ℕ → List ℕ → Bool
 unsetFrom n f p = zeros ((64 - n) * f) (drop (n * f) p)
 
 -- each part has its shape; the stored records are some of those that stand, the others hold offsets of accepted ones; texts are numbers of
--- one word; and nothing is kept of rules that there are not
+-- one word; nothing is kept of rules that there are not; and numbers are needed beyond 2^64 - 1 only behind that one
 pub record SoundOf (ps : List (List ℕ)) : Type 0 where
-  pub fit : (t : ℕ) → t < 13 → partFits (getD stateParts t (fixed 0 [])) (getD ps t []) ≡ true
+  pub fit : (t : ℕ) → t < 15 → partFits (getD stateParts t (fixed 0 [])) (getD ps t []) ≡ true
   pub stored : storedIn ps ≤ getD (getD ps pendingPart []) 0 0
   pub offsets : Below (acceptedIn ps) (drop (storedIn ps) (recordsIn ps))
   pub texts : all textShort (most 16 variableRow .get (getD ps variablesPart [])) ≡ true
   pub bits : unsetFrom (rulesIn ps) 1 (getD ps bitsPart []) ≡ true
   pub activations : unsetFrom (rulesIn ps) 3 (getD ps activationsPart []) ≡ true
   pub positions : unsetFrom (rulesIn ps) 2 (getD ps positionsPart []) ≡ true
+  pub beyond : OnlyBeyond ps
 
 -- WHAT THE WORDS SAY ------------------------------------------------------------------------------------------------------------------------
 unfoldable pub meaning : List ℕ → model.Volatile
@@ -190,12 +213,13 @@ pub record Means (w : List ℕ) (b : ℕ) (s : model.Volatile) : Type 0 where
   pub sound : Sound w
   pub based : base w ≡ b
 
--- w is sound, holds no offset, and says s: words as a store is read and written
+-- w is sound, holds no offset, has a number of 64 bits for every activation, and says s: words as a store is read and written
 pub record AllNumbered (w : List ℕ) (s : model.Volatile) : Type 0 where
   pub says : meaning w ≡ s
   pub sound : Sound w
   pub stored : storedCount w ≡ pendingCount w
   pub noneAccepted : accepted w ≡ 0
+  pub lastFits : s .lastNumber ≤ max64
 
 -- TABLES ------------------------------------------------------------------------------------------------------------------------------------
 -- the words of a table of at most n rows

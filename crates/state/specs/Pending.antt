@@ -28,10 +28,10 @@ laterThan now c = not (leb (c .due) now)
 
 -- one number is given; and a record that holds its offset joins
 abbrev pub withNext : Volatile → Volatile
-withNext v = record { rest = v .rest; pending = v .pending; next = suc (v .next) }
+withNext v = record { rest = v .rest; pending = v .pending; next = suc (v .next); lastNumber = v .lastNumber }
 
 abbrev pub withRecord : ℕ → Pending → Volatile → Volatile
-withRecord b p v = record { rest = v .rest; pending = v .pending ++ (offsetFrom b p ∷ []); next = v .next }
+withRecord b p v = record { rest = v .rest; pending = v .pending ++ (offsetFrom b p ∷ []); next = v .next; lastNumber = v .lastNumber }
 
 -- the records that pass are kept, by the words of their rows
 abbrev pub keptBy : Test → Pending → Bool
@@ -43,7 +43,7 @@ pastNumber (Other at x) = 2 ≤ at
 pastNumber (Later at time) = 2 ≤ at
 
 abbrev pub closedUp : Test → Volatile → Volatile
-closedUp test v = record { rest = v .rest; pending = keep (keptBy test) (v .pending); next = v .next }
+closedUp test v = record { rest = v .rest; pending = keep (keptBy test) (v .pending); next = v .next; lastNumber = v .lastNumber }
 
 -- and so many left
 abbrev pub ClosesUp : Test → List ℕ → List ℕ → ℕ → Type 0
@@ -52,11 +52,11 @@ ClosesUp test w w′ gone =
 
 -- all records leave, and are counted
 abbrev pub emptied : Volatile → Volatile
-emptied v = record { rest = bumpBy continuationsDropped (length (v .pending)) (v .rest); pending = []; next = v .next }
+emptied v = record { rest = bumpBy continuationsDropped (length (v .pending)) (v .rest); pending = []; next = v .next; lastNumber = v .lastNumber }
 
--- the specification's `schedule`, in every environment of this time and of every run of this rule under this trigger
-abbrev pub Schedules : List ℕ → ℕ → ℕ → ℕ → ℕ → ℕ → Point → List ℕ → ℕ → Type 0
-Schedules w now rule trigger budget ms point w′ reason =
-    (e : Env) (j : Job) → e .world .now ≡ now → j .rule ≡ rule → j .trigger ≡ trigger →
+-- the specification's `schedule`, in every environment of this time and of every run of this rule under this trigger and number
+abbrev pub Schedules : List ℕ → ℕ → ℕ → ℕ → ℕ → ℕ → ℕ → Point → List ℕ → ℕ → Type 0
+Schedules w now rule trigger number budget ms point w′ reason =
+    (e : Env) (j : Job) → e .world .now ≡ now → j .rule ≡ rule → j .trigger ≡ trigger → j .number ≡ number →
     let s = model.schedule e j budget ms point (meaning w) in
     Means w′ (base w) (s .vol) × (reason ≡ s .reason)

@@ -9,6 +9,8 @@
 // its offset from the store's next number. A new record goes behind those present and closing up keeps the order, so the records that came
 // with the store stand in front: the first so many (`place::STORED`) hold their numbers, the others offsets. What is due is taken out before
 // any record is accepted, so what is ordered there are the store's own numbers. `assign_numbers` gives each record its number at the end.
+//
+// Activation numbers likewise (32): the last one given counts up to 2^64 - 1, and beside it stands how many were needed beyond it.
 use counters::Counters;
 use model::EverySlot;
 use model::NamedTimer;
@@ -25,6 +27,7 @@ ghost use Rattle.rows.specs.Options.{option32};
 ghost use Rattle.rows.specs.Places.{tableAt, laid};
 ghost use Rattle.state.specs.Meaning.{Sound, Means, meaning, base};
 
+pub mod last_number;
 pub mod pending;
 pub mod place;
 pub mod reasons;

@@ -36,9 +36,10 @@ fn number_all(t: &mut [u32], stored: usize, next: u64, accepted: u64)
     }
 }
 
-// The records of the call get their numbers, and the store its next one: the same meaning, with no offset left.
+// The records of the call get their numbers, and the store its next one: the same meaning, with no offset left. The last activation number is
+// one of 64 bits.
 pub fn assign_numbers(v: &mut [u32])
-    requires { ⌜ Sound (now v) × (leb (meaning (now v) .next) max64 ≡ true) ⌝ }
+    requires { ⌜ Sound (now v) × (leb (meaning (now v) .next) max64 ≡ true) × (meaning (now v) .lastNumber ≤ max64) ⌝ }
     ensures { λ _. ⌜ AllNumbered (now (v .exit)) (meaning (now (v .entry))) ⌝ }
 {
     let next = rows::read::wide_at(v, place::NEXT);

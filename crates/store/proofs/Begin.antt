@@ -1,5 +1,6 @@
 -- What a store says of n rules, as the words of a state, part by part. Assumes nothing.
 use mathlib.Core.Path.{_≡_, refl, sym, ap, subst, _∙_}
+use mathlib.Core.Logic.{_⊎_, inl}
 use mathlib.Core.Bool.{Bool, true, false, _&&_, false≢true}
 use mathlib.Core.List.{List, [], _∷_, _++_, map, append-nil}
 use mathlib.Core.Option.{Option, none}
@@ -9,7 +10,7 @@ use native.Mathlib.Omega.{arith}
 use lib.Dec.{leb, ltb, eqb}
 use lib.ListN.{length, getD, take, drop, length-append, drop-of-length-le}
 use lib.Seq.{take-at, drop-at}
-use borrow.Author.Tests.{leb-true, le-leb, eqb-true}
+use borrow.Author.Tests.{leb-true, le-leb, ltb-true, eqb-true}
 use Rattle.model.specs.Layout.{Part, fixed, counted, partFits, partsFit, rowFits, rowsFit, upTo, zeros}
 use Rattle.model.specs.Codec.{Row, word, wide, maybe, all, most, rowsAt, wordsOf, allGood}
 use Rattle.model.specs.Lists.{flatten}
@@ -24,7 +25,7 @@ use Rattle.model.proofs.Bools.{both, join}
 use Rattle.model.proofs.PartsLaws.{any-laws, variable-laws, timer-laws, slot-laws}
 use Rattle.model.proofs.RowLaws.{RowLaws, word-laws, wide-laws, wide-blank, word-blank, maybe-laws, rows-long, rows-reads}
 use Rattle.state.specs.Cuts.{cut, sum}
-use Rattle.state.specs.Meaning.{pendingRow, stateParts, partSizes, stateWords, meaningOf, SoundOf, Below, meaning, accepted, storedCount, pendingCount, Sound, AllNumbered}
+use Rattle.state.specs.Meaning.{pendingRow, stateParts, partSizes, pendingPart, storedPart, stateWords, acceptedIn, meaningOf, SoundOf, Below, meaning, accepted, storedCount, pendingCount, Sound, AllNumbered}
 use Rattle.state.proofs.Numbers.{numbered-all}
 use Rattle.state.proofs.Typed.{holds-get, holds-fit, holds-long}
 use Rattle.state.proofs.Records.{pending-laws}
@@ -95,6 +96,7 @@ pub record Good (m : Changing) : Type 0 where
   pub pending : most 32 pendingRow .good (m .pending) ≡ true
   pub week : (maybe any) .good (m .prevWeekMin) ≡ true
   pub next : wide .good (m .next) ≡ true
+  pub last : wide .good (m .lastNumber) ≡ true
   pub countersLong : length (m .counters) ≡ 12
   pub counters : allGood any (m .counters) ≡ true
 
@@ -109,7 +111,8 @@ good-of m g =
     let (s, g₆) = both (most 64 slotRow .good (m .slots)) _ g₅ in
     let (c, g₇) = both (most 32 parts.pendingRow .good (m .pending)) _ g₆ in
     let (w, g₈) = both ((maybe (word 10079)) .good (m .prevWeekMin)) _ g₇ in
-    let (n, k) = both (wide .good (m .next)) (all 12 any .good (m .counters)) g₈ in
+    let (n, g₉) = both (wide .good (m .next)) _ g₈ in
+    let (l, k) = both (wide .good (m .lastNumber)) (all 12 any .good (m .counters)) g₉ in
     let (bl, bg) = both (eqb (length (m .bits)) 64) (allGood bit (m .bits)) b in
     let (al, ag) = both (eqb (length (m .activations)) 64) (allGood (maybe wide) (m .activations)) a in
     let (pl, pg) = both (eqb (length (m .positions)) 64) (allGood (maybe (word 15)) (m .positions)) p in
@@ -127,6 +130,7 @@ good-of m g =
       pending = most-good parts.pendingRow pendingRow pending-wider 32 (m .pending) c;
       week = maybe-wider (word-wider 10079 4294967295 (omega arith)) .good (m .prevWeekMin) w;
       next = n;
+      last = l;
       countersLong = eqb-true _ _ kl;
       counters = kg;
     }
@@ -143,8 +147,10 @@ pieces n m =
     ∷ most 32 pendingRow .put (m .pending)
     ∷ (maybe any) .put (m .prevWeekMin)
     ∷ wide .put (m .next)
+    ∷ wide .put (m .lastNumber)
     ∷ wordsOf any (m .counters)
     ∷ (length (m .pending) ∷ [])
+    ∷ wide .put 0
     ∷ wide .put 0
     ∷ (n ∷ [])
     ∷ []
@@ -164,7 +170,7 @@ module _ (m : Changing) (g : Good m) (n : ℕ) (h : n ≤ 64) where
       let p = holds-long pendingRow pending-laws 32 _ (m .pending) (record { words = refl; good = g .pending }) in
       let w = positions-laws .long (m .prevWeekMin) in
       let k = rows-words any any-laws (m .counters) 12 (g .countersLong) in
-      λ i. a i ∷ b i ∷ c i ∷ v i ∷ t i ∷ s i ∷ p i ∷ w i ∷ 2 ∷ k i ∷ 1 ∷ 2 ∷ 1 ∷ []
+      λ i. a i ∷ b i ∷ c i ∷ v i ∷ t i ∷ s i ∷ p i ∷ w i ∷ 2 ∷ 2 ∷ k i ∷ 1 ∷ 2 ∷ 2 ∷ 1 ∷ []
 
   pub pieces-long : length (flatten (pieces n m)) ≡ stateWords
   pieces-long = flat-long (pieces n m) ∙ ap sum lengths
@@ -186,7 +192,8 @@ module _ (m : Changing) (g : Good m) (n : ℕ) (h : n ≤ 64) where
       (join (holds-fit pendingRow pending-laws 32 _ (m .pending) (record { words = refl; good = g .pending }))
       (join (one-fit (maybe any) positions-laws (m .prevWeekMin) (g .week))
       (join (one-fit wide wide-laws (m .next) (g .next))
-      (join counters-fit (join (word-fit 32 (length (m .pending)) few) (join (one-fit wide wide-laws 0 refl) (join (word-fit 64 n h) refl))))))))))))
+      (join (one-fit wide wide-laws (m .lastNumber) (g .last))
+      (join counters-fit (join (word-fit 32 (length (m .pending)) few) (join (one-fit wide wide-laws 0 refl) (join (one-fit wide wide-laws 0 refl) (join (word-fit 64 n h) refl))))))))))))))
     where
       few : length (m .pending) ≤ 32
       few = leb-true _ _ (both (leb (length (m .pending)) 32) (allGood pendingRow (m .pending)) (g .pending) .0)
@@ -209,6 +216,7 @@ module _ (m : Changing) (g : Good m) (n : ℕ) (h : n ≤ 64) where
         bits = ruled-unset bit (word-laws 1) 0 refl refl n h (m .bits) (g .bitsLong);
         activations = ruled-unset (maybe wide) activations-laws none refl refl n h (m .activations) (g .activationsLong);
         positions = ruled-unset (maybe any) positions-laws none refl refl n h (m .positions) (g .positionsLong);
+        beyond = inl (one-get wide wide-laws 0 refl);
       }
 
   says-pieces : meaningOf (pieces n m) ≡ volatileIn n m
@@ -222,6 +230,7 @@ module _ (m : Changing) (g : Good m) (n : ℕ) (h : n ≤ 64) where
       let base = one-get wide wide-laws (m .next) (g .next) in
       let p = numbered-all (wide .get (wide .put (m .next))) (length (m .pending)) _ (omega (arith, ap length records-are)) ∙ records-are in
       let x : wide .get (wide .put (m .next)) + wide .get (wide .put 0) ≡ m .next = rw (base, one-get wide wide-laws 0 refl) (add-zero (m .next)) in
+      let y : wide .get (wide .put (m .lastNumber)) + wide .get (wide .put 0) ≡ m .lastNumber = rw (one-get wide wide-laws (m .lastNumber) (g .last), one-get wide wide-laws 0 refl) (add-zero (m .lastNumber)) in
       λ i.
       record {
         rest =
@@ -237,6 +246,7 @@ module _ (m : Changing) (g : Good m) (n : ℕ) (h : n ≤ 64) where
             };
         pending = p i;
         next = x i;
+        lastNumber = y i;
       }
 
   -- the words of the parts, one behind the other
@@ -247,6 +257,7 @@ module _ (m : Changing) (g : Good m) (n : ℕ) (h : n ≤ 64) where
       record {
         says = ap meaningOf c ∙ says-pieces;
         sound = record { long = l; parts = subst SoundOf (sym c) (sound-pieces texts) };
-        stored = ap (λ (ps : List (List ℕ)). getD (getD ps 10 []) 0 0) c ∙ sym (ap (λ (ps : List (List ℕ)). getD (getD ps 6 []) 0 0) c);
-        noneAccepted = ap (λ (ps : List (List ℕ)). wide .get (getD ps 11 [])) c ∙ one-get wide wide-laws 0 refl;
+        stored = ap (λ (ps : List (List ℕ)). getD (getD ps storedPart []) 0 0) c ∙ sym (ap (λ (ps : List (List ℕ)). getD (getD ps pendingPart []) 0 0) c);
+        noneAccepted = ap acceptedIn c ∙ one-get wide wide-laws 0 refl;
+        lastFits = let less = ltb-true (m .lastNumber) 18446744073709551616 (g .last) in omega arith;
       }

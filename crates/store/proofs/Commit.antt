@@ -11,6 +11,7 @@ use lib.Dec.{leb}
 use lib.ListN.{length, getD, take, drop, length-map, drop-of-length-le}
 use lib.Seq.{length-take-le}
 use borrow.Author.Tests.{leb-true}
+use Rattle.words.specs.Saturating.{max64}
 use Rattle.model.specs.Layout.{Cell, rowsFit, rowFits, upTo}
 use Rattle.model.specs.Codec.{Row, word, wide, maybe, most, wordsOf, allGood, rowsAt}
 use Rattle.model.specs.Lists.{flatten}
@@ -23,11 +24,12 @@ use Rattle.model.proofs.PartsLaws.{any-laws, variable-laws, timer-laws, slot-la
 use Rattle.model.proofs.RowLaws.{RowLaws, word-laws, wide-laws, rows-writes}
 use Rattle.rows.specs.Places.{laid}
 use Rattle.state.specs.Cuts.{cut}
-use Rattle.state.specs.Meaning.{pendingRow, stateParts, partSizes, placeOf, wordsIn, stateWords, part, bitsPart, activationsPart, positionsPart, variablesPart, timersPart, slotsPart, pendingPart, weekPart, nextPart, countersPart, storedPart, rulesPart, rulesIn, storedIn, recordsIn, baseIn, meaning, accepted, storedCount, pendingCount, rulesOf, Sound, AllNumbered}
+use Rattle.state.specs.Meaning.{pendingRow, stateParts, partSizes, placeOf, wordsIn, stateWords, part, bitsPart, activationsPart, positionsPart, variablesPart, timersPart, slotsPart, pendingPart, weekPart, nextPart, lastPart, countersPart, storedPart, rulesPart, rulesIn, storedIn, recordsIn, baseIn, meaning, accepted, storedCount, pendingCount, rulesOf, Sound, AllNumbered}
 use Rattle.state.proofs.Cutting.{cut-first}
 use Rattle.state.proofs.Frame.{part-long, table-part}
 use Rattle.state.proofs.Numbers.{numbered-all}
 use Rattle.state.proofs.Records.{pending-laws}
+use Rattle.state.proofs.TakingNumbers.{none-beyond}
 use Rattle.state.proofs.Typed.{holds-count}
 use Rattle.store.specs.Places.{statePlace, changingWords}
 use Rattle.store.specs.Volatile.{Wrote}
@@ -79,9 +81,9 @@ bit-rows zero (x ∷ p) e = absurd (omega arith)
 bit-rows (suc n) [] e = absurd (omega arith)
 bit-rows (suc n) (x ∷ p) e = ap (λ (l : List ℕ). x ∷ l) (bit-rows n p (omega arith))
 
-ten : (v : List ℕ) → flatten (take 10 (cut partSizes v)) ≡ part 0 v ++ (part 1 v ++ (part 2 v ++ (part 3 v ++ (part 4 v ++ (part 5 v ++ (part 6 v ++ (part 7 v ++ (part 8 v ++ (part 9 v ++ [])))))))))
+eleven : (v : List ℕ) → flatten (take 11 (cut partSizes v)) ≡ part 0 v ++ (part 1 v ++ (part 2 v ++ (part 3 v ++ (part 4 v ++ (part 5 v ++ (part 6 v ++ (part 7 v ++ (part 8 v ++ (part 9 v ++ (part 10 v ++ []))))))))))
 unfolding cut
-ten v = refl
+eleven v = refl
 
 -- THE PARTS -------------------------------------------------------------------------------------------------------------------------------------
 module _ (v : List ℕ) (s : Sound v) where
@@ -117,8 +119,8 @@ module _ (v : List ℕ) (s : Sound v) where
       let l = most 16 variableRow .get (part variablesPart v) in
       h .words ∙ ap (most 16 variableRow .put) (sym (rows-same l (both (leb (length l) 16) (allGood variableRow l) (h .good) .1)))
 
-  -- every record holds its number, and none was accepted
-  module _ (numbers : storedCount v ≡ pendingCount v) (none-new : accepted v ≡ 0) where
+  -- every record holds its number, none was accepted, and the last activation number has 64 bits
+  module _ (numbers : storedCount v ≡ pendingCount v) (none-new : accepted v ≡ 0) (last-fits : meaning v .lastNumber ≤ max64) where
     pending-are : part pendingPart v ≡ most 32 parts.pendingRow .put (meaning v .pending)
     unfolding meaning storedCount pendingCount
     pending-are =
@@ -140,21 +142,27 @@ module _ (v : List ℕ) (s : Sound v) where
         one-row wide wide-laws (part nextPart v) (s .parts .fit nextPart (omega arith)) (part-long nextPart (omega arith) v (s .long))
         ∙ ap (wide .put) (sym (ap (λ (x : ℕ). wide .get (part nextPart v) + x) none-new ∙ add-zero (wide .get (part nextPart v))))
 
+    last-is : part lastPart v ≡ wide .put (meaning v .lastNumber)
+    unfolding meaning
+    last-is =
+        one-row wide wide-laws (part lastPart v) (s .parts .fit lastPart (omega arith)) (part-long lastPart (omega arith) v (s .long))
+        ∙ ap (wide .put) (sym (ap (λ (x : ℕ). wide .get (part lastPart v) + x) (none-beyond v s last-fits) ∙ add-zero (wide .get (part lastPart v))))
+
     pub committed : take changingWords v ≡ changingPart .put (changingOf (meaning v))
     unfolding meaning changingPart
     committed =
         let timers = table-part timerRow timer-laws timersPart 16 (omega arith) refl v s .words in
         let slots = table-part slotRow slot-laws slotsPart 64 (omega arith) refl v s .words in
         let counters : part countersPart v ++ [] ≡ wordsOf any (part countersPart v) = append-nil (part countersPart v) ∙ sym (any-words (part countersPart v)) in
-        sym (cut-first partSizes v 10) ∙ ten v ∙ whole bits-are activations-are positions-are variables-are timers slots pending-are week-are next-is counters
+        sym (cut-first partSizes v 11) ∙ eleven v ∙ whole bits-are activations-are positions-are variables-are timers slots pending-are week-are next-is last-is counters
       where
-        whole : {a b c d e f g h i k a′ b′ c′ d′ e′ f′ g′ h′ i′ k′ : List ℕ} → a ≡ a′ → b ≡ b′ → c ≡ c′ → d ≡ d′ → e ≡ e′ → f ≡ f′ → g ≡ g′ → h ≡ h′ → i ≡ i′ → k ≡ k′
-            → a ++ (b ++ (c ++ (d ++ (e ++ (f ++ (g ++ (h ++ (i ++ k)))))))) ≡ a′ ++ (b′ ++ (c′ ++ (d′ ++ (e′ ++ (f′ ++ (g′ ++ (h′ ++ (i′ ++ k′))))))))
-        whole p q r s t u v x y z = λ k. p k ++ (q k ++ (r k ++ (s k ++ (t k ++ (u k ++ (v k ++ (x k ++ (y k ++ z k))))))))
+        whole : {a b c d e f g h i k l a′ b′ c′ d′ e′ f′ g′ h′ i′ k′ l′ : List ℕ} → a ≡ a′ → b ≡ b′ → c ≡ c′ → d ≡ d′ → e ≡ e′ → f ≡ f′ → g ≡ g′ → h ≡ h′ → i ≡ i′ → k ≡ k′ → l ≡ l′
+            → a ++ (b ++ (c ++ (d ++ (e ++ (f ++ (g ++ (h ++ (i ++ (k ++ l))))))))) ≡ a′ ++ (b′ ++ (c′ ++ (d′ ++ (e′ ++ (f′ ++ (g′ ++ (h′ ++ (i′ ++ (k′ ++ l′)))))))))
+        whole o p q r s t u v x y z = λ k. o k ++ (p k ++ (q k ++ (r k ++ (s k ++ (t k ++ (u k ++ (v k ++ (x k ++ (y k ++ z k)))))))))
 
 pub wrote : (w v w′ : List ℕ) → AllNumbered v (meaning v) → w′ ≡ laid w statePlace (take changingWords v) → Wrote w (meaning v) w′
 wrote w v w′ a e =
-    let c = committed v (a .sound) (a .stored) (a .noneAccepted) in
+    let c = committed v (a .sound) (a .stored) (a .noneAccepted) (a .lastFits) in
     record {
       placed = e ∙ ap (laid w statePlace) c;
       long = ap length (sym c) ∙ length-take-le changingWords v (omega (arith, a .sound .long));

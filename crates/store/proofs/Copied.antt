@@ -9,6 +9,7 @@ use native.Mathlib.Omega.{arith}
 use lib.Dec.{ltb}
 use lib.ListN.{length, take, drop, replicate, length-append, length-drop, drop-of-length-le}
 use lib.Seq.{take-at, drop-at, drop-drop, length-take-le}
+use Rattle.words.specs.Pairs.{lowOf, highOf}
 use Rattle.model.specs.Layout.{sizes}
 use Rattle.model.specs.Codec.{word, wide, maybe, most, wordsOf}
 use Rattle.model.specs.Lists.{flatten}
@@ -61,7 +62,7 @@ others m =
     ++ (most 16 timerRow .put (m .timers)
     ++ (most 64 slotRow .put (m .slots)
     ++ (most 32 parts.pendingRow .put (m .pending)
-    ++ ((maybe (word 10079)) .put (m .prevWeekMin) ++ (wide .put (m .next) ++ wordsOf any (m .counters))))))
+    ++ ((maybe (word 10079)) .put (m .prevWeekMin) ++ (wide .put (m .next) ++ (wide .put (m .lastNumber) ++ wordsOf any (m .counters)))))))
 
 module _ (w : List ℕ) (r : Readable w) where
   abbrev m : Changing
@@ -71,13 +72,13 @@ module _ (w : List ℕ) (r : Readable w) where
   good = good-of m (good-changing w (r .fit))
 
   -- the words of what calls change
-  words-at : drop statePlace w ≡ changingPart .put m ++ (replicate 2711 0 ++ drop (sizes (layout .parts)) w)
+  words-at : drop statePlace w ≡ changingPart .put m ++ (replicate 2645 0 ++ drop (sizes (layout .parts)) w)
   unfolding layout changingIn
   words-at =
       let p = layout .get w in
       let l = loadedPart .put (p .set) in
       let c = changingPart .put (p .changing) in
-      let z : List ℕ = replicate 2711 0 in
+      let z : List ℕ = replicate 2645 0 in
       let e = drop (sizes (layout .parts)) w in
       let a : drop 2 w ≡ (l ++ (c ++ z)) ++ e = ap (drop 2) (sym (layout-laws .writes w (r .fit) .0)) in
       let long = loaded-laws .long (p .set) (unfold loadedIn in good-loaded w (r .fit)) ∙ loaded-size in
@@ -95,7 +96,7 @@ module _ (w : List ℕ) (r : Readable w) where
   positions = wordsOf (maybe (word 15)) (m .positions)
 
   abbrev behind-all : List ℕ
-  behind-all = replicate 2711 0 ++ drop (sizes (layout .parts)) w
+  behind-all = replicate 2645 0 ++ drop (sizes (layout .parts)) w
 
   groups-at : drop statePlace w ≡ (bits ++ (activations ++ (positions ++ others m))) ++ behind-all
   unfolding changingPart
@@ -150,16 +151,17 @@ module _ (w : List ℕ) (r : Readable w) where
     pieces-are : wordsOf bit (filled 64 0 (take n (m .bits)))
         ++ (wordsOf (maybe wide) (filled 64 none (take n (m .activations)))
         ++ (wordsOf (maybe any) (filled 64 none (take n (m .positions)))
-        ++ (others m ++ (any .put (length (m .pending)) ++ (wide .put 0 ++ any .put n))))) ≡ flatten (pieces n m)
+        ++ (others m ++ (any .put (length (m .pending)) ++ (replicate 4 0 ++ any .put n))))) ≡ flatten (pieces n m)
+    unfolding lowOf highOf
     pieces-are =
         let p = most-wider parts.pendingRow pendingRow pending-wider 32 (m .pending) in
         let k = maybe-wider (word-wider 10079 4294967295 (omega arith)) .put (m .prevWeekMin) in
         let front : List ℕ → List ℕ = λ (x : List ℕ). wordsOf bit (filled 64 0 (take n (m .bits))) ++ (wordsOf (maybe wide) (filled 64 none (take n (m .activations))) ++ (wordsOf (maybe any) (filled 64 none (take n (m .positions))) ++ x)) in
-        (λ i. front ((most 16 variableRow .put (m .variables) ++ (most 16 timerRow .put (m .timers) ++ (most 64 slotRow .put (m .slots) ++ (p i ++ (k i ++ (wide .put (m .next) ++ wordsOf any (m .counters))))))) ++ (any .put (length (m .pending)) ++ (wide .put 0 ++ any .put n))))
-        ∙ ap front (regroup (most 16 variableRow .put (m .variables)) (most 16 timerRow .put (m .timers)) (most 64 slotRow .put (m .slots)) (most 32 pendingRow .put (m .pending)) ((maybe any) .put (m .prevWeekMin)) (wide .put (m .next)) (wordsOf any (m .counters)) (any .put (length (m .pending)) ++ (wide .put 0 ++ any .put n)))
+        (λ i. front ((most 16 variableRow .put (m .variables) ++ (most 16 timerRow .put (m .timers) ++ (most 64 slotRow .put (m .slots) ++ (p i ++ (k i ++ (wide .put (m .next) ++ (wide .put (m .lastNumber) ++ wordsOf any (m .counters)))))))) ++ (any .put (length (m .pending)) ++ (replicate 4 0 ++ any .put n))))
+        ∙ ap front (regroup (most 16 variableRow .put (m .variables)) (most 16 timerRow .put (m .timers)) (most 64 slotRow .put (m .slots)) (most 32 pendingRow .put (m .pending)) ((maybe any) .put (m .prevWeekMin)) (wide .put (m .next)) (wide .put (m .lastNumber)) (wordsOf any (m .counters)) (any .put (length (m .pending)) ++ (replicate 4 0 ++ any .put n)))
       where
-        regroup : (a b c d e f g h : List ℕ) → (a ++ (b ++ (c ++ (d ++ (e ++ (f ++ g)))))) ++ h ≡ a ++ (b ++ (c ++ (d ++ (e ++ (f ++ (g ++ h))))))
-        regroup a b c d e f g h = simp append-assoc
+        regroup : (a b c d e f g h i : List ℕ) → (a ++ (b ++ (c ++ (d ++ (e ++ (f ++ (g ++ h))))))) ++ i ≡ a ++ (b ++ (c ++ (d ++ (e ++ (f ++ (g ++ (h ++ i)))))))
+        regroup a b c d e f g h i = simp append-assoc
 
     -- the code's writes, in order
     module _ (v v₁ v₂ v₃ v₄ v₅ v₆ v₇ : List ℕ) (count : ℕ) (long : length v ≡ stateWords) where
@@ -169,7 +171,7 @@ module _ (w : List ℕ) (r : Readable w) where
           → v₄ ≡ laid v₃ (placeOf variablesPart) (take (statePlace + changingWords - variablesPlace) (drop variablesPlace w))
           → count ≡ rowAt any w pendingPlace
           → v₅ ≡ laid v₄ (placeOf storedPart) (any .put count)
-          → v₆ ≡ laid v₅ (placeOf acceptedPart) (wide .put 0)
+          → v₆ ≡ laid v₅ (placeOf acceptedPart) (replicate 4 0)
           → v₇ ≡ laid v₆ (placeOf rulesPart) (any .put n)
           → AllNumbered v₇ (volatileIn n m)
       copied e₁ e₂ e₃ e₄ k e₅ e₆ e₇ =
@@ -192,7 +194,7 @@ module _ (w : List ℕ) (r : Readable w) where
           (λ l₂. and-then v₂ v₃ v₇ (placeOf positionsPart) (placeOf variablesPart) c _ (omega arith) (omega arith) f₃
           (λ l₃. and-then v₃ v₄ v₇ (placeOf variablesPart) (placeOf storedPart) d _ (omega arith) (omega arith) f₄
           (λ l₄. and-then v₄ v₅ v₇ (placeOf storedPart) (placeOf acceptedPart) (any .put (length (m .pending))) _ (omega arith) refl f₅
-          (λ l₅. lays v₅ v₆ v₇ (placeOf acceptedPart) (placeOf rulesPart) (wide .put 0) (any .put n) (omega arith) refl e₆ e₇)))))
+          (λ l₅. lays v₅ v₆ v₇ (placeOf acceptedPart) (placeOf rulesPart) (replicate 4 0) (any .put n) (omega arith) refl e₆ e₇)))))
           ∙ ap (laid v 0) pieces-are in
           let size = pieces-long m good n h in
           let is : v₇ ≡ flatten (pieces n m) = whole ∙ all-laid v (flatten (pieces n m)) (omega arith) in

@@ -70,7 +70,7 @@ pending-wider =
     (behind-wider wide
     (behind-wider wide
     (behind-wider any
-    (behind-wider any (behind-wider any (behind-wider jumpRow (behind-wider any (first-wider (pad 1) (word-wider 4 4294967295 (omega arith))))))))))
+    (behind-wider any (behind-wider any (behind-wider jumpRow (behind-wider any (first-wider (wide ⊗ pad 1) (word-wider 4 4294967295 (omega arith))))))))))
 
 module _ {A : Type 0} (r q : Row A) (h : Wider r q) where
   pub words-wider : (l : List A) → wordsOf r l ≡ wordsOf q l

@@ -32,14 +32,14 @@ module _ (snapshot image : List ℕ) (now : ℕ) (is : now ≡ worldOf snapshot 
   module _ (m : Means vol (base (x .vol)) (notDue now (meaning (x .vol)))) where
     pub continuations-room : (n : ℕ) → Room n x → Room n (withVol vol x)
     unfolding notDue
-    continuations-room n a = room-after (notDue now) x m refl n a
+    continuations-room n a = room-after (notDue now) x m refl refl n a
 
     pub continuations-fire : (cs : List Pending) {r : Carried} {ow ew ow′ ew′ : List ℕ} → cs ≡ dueNow now (meaning (x .vol) .pending)
         → Fires 32 (resumeAll (tickEnv snapshot image) cs) (withVol vol x) ow ew r ow′ ew′ → Fires 32 (fireContinuations (tickEnv snapshot image)) x ow ew r ow′ ew′
     unfolding fireContinuations tickEnv notDue
     continuations-fire cs e f =
         same-part 32 (λ v. resumeAll (tickEnv snapshot image) cs (notDue now v)) (fireContinuations (tickEnv snapshot image)) (rw (← is, e))
-        (after-change (notDue now) x m refl 32 (resumeAll (tickEnv snapshot image) cs) f)
+        (after-change (notDue now) x m refl refl 32 (resumeAll (tickEnv snapshot image) cs) f)
 
   -- ---- timers
   abbrev leave : model-state.Volatile → model-state.Volatile
@@ -47,14 +47,14 @@ module _ (snapshot image : List ℕ) (now : ℕ) (is : now ≡ worldOf snapshot 
 
   module _ (m : Means vol (base (x .vol)) (leave (meaning (x .vol)))) where
     pub timers-room : (n : ℕ) → Room n x → Room n (withVol vol x)
-    timers-room n a = room-after leave x m refl n a
+    timers-room n a = room-after leave x m refl refl n a
 
     pub timers-fire : (ts : List NamedTimer) {r : Carried} {ow ew ow′ ew′ : List ℕ} → ts ≡ dueTimers now (meaning (x .vol) .rest)
         → Fires 1024 (activateEach (tickEnv snapshot image) byTimer (rulesOfTimers image ts)) (withVol vol x) ow ew r ow′ ew′ → Fires 1024 (fireTimers (tickEnv snapshot image)) x ow ew r ow′ ew′
     unfolding fireTimers timersDue tickEnv setOf
     timers-fire ts e f =
         same-part 1024 (λ v. activateEach (tickEnv snapshot image) byTimer (rulesOfTimers image ts) (leave v)) (fireTimers (tickEnv snapshot image)) (rw (← is, e))
-        (after-change leave x m refl 1024 (activateEach (tickEnv snapshot image) byTimer (rulesOfTimers image ts)) f)
+        (after-change leave x m refl refl 1024 (activateEach (tickEnv snapshot image) byTimer (rulesOfTimers image ts)) f)
 
   -- ---- Every slots
   abbrev move : model-state.Volatile → model-state.Volatile
@@ -62,14 +62,14 @@ module _ (snapshot image : List ℕ) (now : ℕ) (is : now ≡ worldOf snapshot 
 
   module _ (m : Means vol (base (x .vol)) (move (meaning (x .vol)))) where
     pub slots-room : (n : ℕ) → Room n x → Room n (withVol vol x)
-    slots-room n a = room-after move x m refl n a
+    slots-room n a = room-after move x m refl refl n a
 
     pub slots-fire : (xs : List EverySlot) {r : Carried} {ow ew ow′ ew′ : List ℕ} → xs ≡ keep (slotDue now) (meaning (x .vol) .rest .every)
         → Fires 64 (activateEach (tickEnv snapshot image) byEvery (rulesOfSlots image xs)) (withVol vol x) ow ew r ow′ ew′ → Fires 64 (fireEvery (tickEnv snapshot image)) x ow ew r ow′ ew′
     unfolding fireEvery everyDue tickEnv setOf
     slots-fire xs e f =
         same-part 64 (λ v. activateEach (tickEnv snapshot image) byEvery (rulesOfSlots image xs) (move v)) (fireEvery (tickEnv snapshot image)) (rw (← is, e))
-        (after-change move x m refl 64 (activateEach (tickEnv snapshot image) byEvery (rulesOfSlots image xs)) f)
+        (after-change move x m refl refl 64 (activateEach (tickEnv snapshot image) byEvery (rulesOfSlots image xs)) f)
 
 pub due-fit : (p : Pending → Bool) (now : ℕ) (ps cs : List Pending) → cs ≡ dueNow now ps → all p ps ≡ true → all p cs ≡ true
 due-fit p now ps cs e a = rw e (all-due p now ps a)

@@ -53,7 +53,7 @@ more-part n m {x = x} {r = r} b f = record { says = f .says; within = within-mor
 pub skips : (n : ℕ) (h : model-state.Volatile → model.Handled) (x : Carried) (ow ew : List ℕ) → Sound (x .vol) → h (meaning (x .vol)) ≡ noOutcome (meaning (x .vol)) → Fires n h x ow ew x ow ew
 skips n h x ow ew s e = record {
   says = subst (λ (g : model.Handled). Continues x ow ew g x ow ew) (sym e) (nothing-done x ow ew s);
-  within = within-more 0 n x x (omega arith) (within-none x x s refl refl refl);
+  within = within-more 0 n x x (omega arith) (within-none x x s refl refl refl refl);
 }
 
 -- one behind another
@@ -65,15 +65,19 @@ then-fires n m h k {x} {ow} {ew} {y} {ow′} {ew′} {r} {ow″} {ew″} f g = r
   within = within-then n m x y r (f .within) (g .within);
 }
 
--- the state changes, and keeps the next number
-module _ (f : model-state.Volatile → model-state.Volatile) (x : Carried) {w : List ℕ} (m : Means w (base (x .vol)) (f (meaning (x .vol)))) (next : f (meaning (x .vol)) .next ≡ meaning (x .vol) .next) where
+-- the state changes, and keeps its numbers
+module _ (f : model-state.Volatile → model-state.Volatile) (x : Carried) {w : List ℕ} (m : Means w (base (x .vol)) (f (meaning (x .vol)))) (next : f (meaning (x .vol)) .next ≡ meaning (x .vol) .next)
+    (last : f (meaning (x .vol)) .lastNumber ≡ meaning (x .vol) .lastNumber) where
   same-accepted : accepted w ≡ accepted (x .vol)
   same-accepted = omega (arith, accepted-by-next w (base (x .vol)) (f (meaning (x .vol))) m, next-is (x .vol), next)
+
+  same-last : meaning w .lastNumber ≡ meaning (x .vol) .lastNumber
+  same-last = ap (λ (v : model-state.Volatile). v .lastNumber) (m .says) ∙ last
 
   pub changed : (ow ew : List ℕ) → Fires 0 (λ v. noOutcome (f v)) x ow ew (withVol w x) ow ew
   changed ow ew = record {
     says = no-outcome x ow ew (f (meaning (x .vol))) (withVol w x) m refl refl;
-    within = within-none x (withVol w x) (m .sound) same-accepted refl refl;
+    within = within-none x (withVol w x) (m .sound) same-accepted same-last refl refl;
   }
 
   -- and something is done behind it
@@ -85,4 +89,4 @@ module _ (f : model-state.Volatile → model-state.Volatile) (x : Carried) {w : 
       record { says = t .says; within = within-more (0 + n) n x r (omega arith) (t .within) }
 
   pub room-after : (n : ℕ) → Room n x → Room n (withVol w x)
-  room-after n a = record { sound = m .sound; accepted = omega (arith, same-accepted, a .accepted); outcomes = a .outcomes; effects = a .effects }
+  room-after n a = record { sound = m .sound; accepted = omega (arith, same-accepted, a .accepted); outcomes = a .outcomes; effects = a .effects; numbers = omega (arith, same-last, a .numbers) }

@@ -27,7 +27,7 @@ module _ (m : ℕ) (h : Volatile → model.Handled) (x₀ : Carried) (ow₀ ew�
   pub going-starts : Sound (x₀ .vol) → Going m h x₀ ow₀ ew₀ 0 h x₀ ow₀ ew₀
   going-starts s = record {
     leads = λ r ow′ ew′ c. c;
-    within = within-more 0 (0 * m) x₀ x₀ (omega arith) (within-none x₀ x₀ s refl refl refl);
+    within = within-more 0 (0 * m) x₀ x₀ (omega arith) (within-none x₀ x₀ s refl refl refl refl);
     longOutcomes = refl;
     longEffects = refl;
   }

@@ -79,7 +79,7 @@ times-numbered base (suc n) [] = refl
 times-numbered base (suc n) (p ∷ ps) = ap (λ (l : List ℕ). p .due ∷ l) (times-numbered base n ps)
 
 -- the times of its rows are those of its records
-module _ {A : Type 0} (row : Row A) (laws : RowLaws row) (t n : ℕ) (h : t < 13) (is : getD stateParts t (fixed 0 []) ≡ counted n (row .cells)) (w : List ℕ) (s : Sound w) where
+module _ {A : Type 0} (row : Row A) (laws : RowLaws row) (t n : ℕ) (h : t < 15) (is : getD stateParts t (fixed 0 []) ≡ counted n (row .cells)) (w : List ℕ) (s : Sound w) where
   abbrev words : List ℕ
   words = lent t w
 
@@ -103,7 +103,7 @@ module _ (w : List ℕ) (s : Sound w) where
   pub timers-fit : Fits 3 (lent timersPart w)
   timers-fit = lent-fits timerRow timer-laws timersPart 16 (omega arith) refl w s (omega arith) (omega arith) (omega arith)
 
-  pub records-fit : Fits 13 (lent pendingPart w)
+  pub records-fit : Fits 15 (lent pendingPart w)
   records-fit = lent-fits pendingRow pending-laws pendingPart 32 (omega arith) refl w s (omega arith) (omega arith) (omega arith)
 
   slot-times : rowTimes 5 3 (lent slotsPart w) ≡ map (λ (x : EverySlot). x .due) (meaning w .rest .every)
@@ -115,14 +115,14 @@ module _ (w : List ℕ) (s : Sound w) where
   timer-times = lent-times timerRow timer-laws timersPart 16 (omega arith) refl w s 1 (λ (x : NamedTimer). x .due) (λ x. joined-words (x .due))
 
   -- numbers do not change the times
-  record-times : rowTimes 13 2 (lent pendingPart w) ≡ map (λ (x : Pending). x .due) (meaning w .pending)
+  record-times : rowTimes 15 2 (lent pendingPart w) ≡ map (λ (x : Pending). x .due) (meaning w .pending)
   unfolding meaning
   record-times =
       lent-times pendingRow pending-laws pendingPart 32 (omega arith) refl w s 2 (λ (x : Pending). x .due) (λ x. joined-words (x .due)) ∙ sym (times-numbered (baseIn (cut partSizes w)) (storedIn (cut partSizes w)) (recordsIn (cut partSizes w)))
 
   pub next-is :
       (image : List ℕ) (loaded : Bool) (last : ℕ) (poll slot timer r : OptionU64) → Poll image loaded w last poll → LeastWith (rowTimes 5 3 (lent slotsPart w)) poll slot
-      → LeastWith (rowTimes 3 1 (lent timersPart w)) slot timer → LeastWith (rowTimes 13 2 (lent pendingPart w)) timer r
+      → LeastWith (rowTimes 3 1 (lent timersPart w)) slot timer → LeastWith (rowTimes 15 2 (lent pendingPart w)) timer r
       → (flat : List (List FlatStep)) → option64 r ≡ nextDeadline (storeOf image loaded flat w last)
   unfolding nextDeadline
   next-is image loaded last poll slot timer r a b c d flat =

@@ -19,7 +19,7 @@ use Rattle.wheel.specs.declared.schedules.WallTurn.{WallTurn}
 use Rattle.wheel.proofs.Each.{eachLeft, each-turns, each-ends, resumeLeft, resume-turns, resume-ends}
 use Rattle.wheel.proofs.Fires.{same-part, changed}
 use Rattle.wheel.proofs.Going.{Going, going-starts, going-turns, going-closes, going-ends}
-use Rattle.wheel.proofs.WallTurns.{wallLeft, wall-turns, wall-ends, keeps-next}
+use Rattle.wheel.proofs.WallTurns.{wallLeft, wall-turns, wall-ends, keeps-next, keeps-last}
 
 -- ---- continuations
 module _ (e : Env) (cs : List Pending) where
@@ -78,4 +78,4 @@ module _ (e : Env) (from window : ℕ) (order : List ℕ) where
     turning-ends n {w} h b c =
         going-closes 1 (fireDueWallRules e from window false order) x₀ ow₀ ew₀ j (wallLeft e from window order missed j) x ow ew inv 0 n (withVol w x) ow ew (omega arith)
         (same-part 0 (λ v. model.noOutcome (countMissed missed v)) (wallLeft e from window order missed j) (wall-ends e from window order missed j (meaning (x .vol)) h)
-        (changed (countMissed missed) x c (keeps-next missed (meaning (x .vol))) ow ew))
+        (changed (countMissed missed) x c (keeps-next missed (meaning (x .vol))) (keeps-last missed (meaning (x .vol))) ow ew))

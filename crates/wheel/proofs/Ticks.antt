@@ -14,7 +14,7 @@ use Rattle.wheel.proofs.Fires.{then-fires}
 
 -- a call begins with room for all that a tick can start
 pub first-room : (v : List ℕ) → AllNumbered v (meaning v) → Room 1184 (start v)
-first-room v a = record { sound = a .sound; accepted = omega (arith, a .noneAccepted); outcomes = omega arith; effects = omega arith }
+first-room v a = record { sound = a .sound; accepted = omega (arith, a .noneAccepted); outcomes = omega arith; effects = omega arith; numbers = omega (arith, a .lastFits) }
 
 -- and there is room for each part
 pub room-for-timers : {x y : Carried} → Room 1184 x → Within 32 x y → Room 1152 y

@@ -89,22 +89,22 @@ module _ (snapshot image : List ℕ) (w : model-world.WallTime) (x : Carried) {v
     pub first-minute : (ow ew : List ℕ) → not (prev .present) ≡ true → Fires 64 (fireWallAt (some w) env-at) x ow ew (withVol v x) ow ew
     first-minute ow ew n =
         same-part 64 (λ y. noOutcome (remembering value y)) (fireWallAt (some w) env-at) (rw (← minute, ← before, not-true (prev .present) n))
-        (more-part 0 64 (omega arith) (changed (remembering value) x m refl ow ew))
+        (more-part 0 64 (omega arith) (changed (remembering value) x m refl refl ow ew))
 
     pub set-back : (set : Bool) (ow ew : List ℕ) → not (prev .present) ≡ false → set ≡ isSetBack (prev .value) value → set ≡ true → Fires 64 (fireWallAt (some w) env-at) x ow ew (withVol v x) ow ew
     set-back set ow ew n is b =
         same-part 64 (λ y. noOutcome (remembering value y)) (fireWallAt (some w) env-at) (rw (← minute, ← before, not-false (prev .present) n, ← is, b))
-        (more-part 0 64 (omega arith) (changed (remembering value) x m refl ow ew))
+        (more-part 0 64 (omega arith) (changed (remembering value) x m refl refl ow ew))
 
     pub catches-up : (set : Bool) (window : ℕ) {r : Carried} {ow ew ow′ ew′ : List ℕ} → not (prev .present) ≡ false → set ≡ isSetBack (prev .value) value → set ≡ false
         → window ≡ windowOf (prev .value) value → Fires 64 (fireWindow env-at value window) (withVol v x) ow ew r ow′ ew′ → Fires 64 (fireWallAt (some w) env-at) x ow ew r ow′ ew′
     unfolding makeUp
     catches-up set window n is b e f =
         same-part 64 (λ y. fireWindow env-at value window (remembering value y)) (fireWallAt (some w) env-at) (rw (e, ← minute, ← before, not-false (prev .present) n, ← is, b))
-        (after-change (remembering value) x m refl 64 (fireWindow env-at value window) f)
+        (after-change (remembering value) x m refl refl 64 (fireWindow env-at value window) f)
 
 pub remember-room : (x : Carried) {v : List ℕ} (value n : ℕ) → Means v (base (x .vol)) (remembering value (meaning (x .vol))) → Room n x → Room n (withVol v x)
-remember-room x value n m a = room-after (remembering value) x m refl n a
+remember-room x value n m a = room-after (remembering value) x m refl refl n a
 
 -- ---- without a clock
 abbrev forget : model-state.Volatile → model-state.Volatile
@@ -125,4 +125,4 @@ module _ (snapshot image : List ℕ) {o : MaybeWall} (is : wallOption o ≡ worl
   unfolding fireWallSchedules tickEnv setOf withoutWall
   without-clock x ow ew h m =
       same-part 64 (λ v. noOutcome (withoutWall image v)) (fireWallSchedules (tickEnv snapshot image)) (rw (← is, h))
-      (more-part 0 64 (omega arith) (changed (withoutWall image) x m refl ow ew))
+      (more-part 0 64 (omega arith) (changed (withoutWall image) x m refl refl ow ew))

@@ -41,6 +41,10 @@ pub keeps-next : (missed : Bool) (v : Volatile) → countMissed missed v .next �
 unfolding countMissed
 keeps-next missed v = refl
 
+pub keeps-last : (missed : Bool) (v : Volatile) → countMissed missed v .lastNumber ≡ v .lastNumber
+unfolding countMissed
+keeps-last missed v = refl
+
 -- ---- one rule's turn
 module _ (e : Env) (base window i : ℕ) (missed : Bool) (v : Volatile) {on : Bool} (is : on ≡ isEnabled (v .rest) i) where
   pub turn-off : not on ≡ true → turnHandled e base window i v ≡ noOutcome v

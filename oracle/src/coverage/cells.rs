@@ -97,7 +97,7 @@ pub(super) const PARTS: [Part; 14] = [
     },
     Part {
         name: "refusal",
-        rows: &["1", "10", "11", "12", "13", "14", "15", "16", "17", "20", "21", "22", "30", "31"],
+        rows: &["1", "10", "11", "12", "13", "14", "15", "16", "17", "20", "21", "22", "30", "31", "32"],
         columns: &["new", "load", "unload", "enable", "tick", "run", "deadline", "counters"],
     },
     Part { name: "event", rows: &EVENT_ROWS, columns: &["seen"] },
@@ -121,7 +121,7 @@ pub(super) const PARTS: [Part; 14] = [
     },
 ];
 
-pub(super) const EVENT_ROWS: [&str; 28] = [
+pub(super) const EVENT_ROWS: [&str; 29] = [
     "32 pending",
     "wait or after dropped, 32 pending",
     "32 continuations fire in one tick",
@@ -149,6 +149,7 @@ pub(super) const EVENT_ROWS: [&str; 28] = [
     "due timers go in a set without rules",
     "due timers remain without a set",
     "sequence number above 2^63",
+    "activation number above 2^63",
     "effects of one outcome: 32 or more",
 ];
 
@@ -228,6 +229,7 @@ pub(super) const UNREACHABLE: &[(usize, &str, &str, &str)] = &[
     (REFUSALS, "22", "*", "only tick and run are given a snapshot"),
     (REFUSALS, "30", "*", "only tick and run are lent stores for answers"),
     (REFUSALS, "31", "*", "only tick and run accept continuations"),
+    (REFUSALS, "32", "*", "only tick and run activate rules"),
 ];
 
 /// Why nothing reaches a cell, None if something can.
@@ -244,7 +246,7 @@ pub(super) fn unreachable(part: usize, row: &str, column: &str) -> Option<&'stat
 fn possible_refusal(number: &str, call: &str) -> bool {
     match number {
         "1" => true,
-        "20" | "21" | "22" | "30" | "31" => matches!(call, "tick" | "run"),
+        "20" | "21" | "22" | "30" | "31" | "32" => matches!(call, "tick" | "run"),
         _ => call == "load",
     }
 }

@@ -6,7 +6,7 @@ use super::cells::{
 };
 use super::Coverage;
 use crate::generate::probe::{Probe, Shows};
-use crate::house::{Answer, Call, House, Outcome};
+use crate::house::{Answer, Call, House, Outcome, LAST_HIGH, NEXT_HIGH};
 
 const DROPPED: usize = 10;
 const FIRED: usize = 9;
@@ -135,9 +135,11 @@ impl Watcher {
             Answer::Enabled(false) => event(coverage, "enable answered no"),
             Answer::Deadline(None) => event(coverage, "deadline none"),
             Answer::Deadline(Some(_)) => event(coverage, "deadline at a time"),
-            Answer::Word(word) if *word >= 1 << 31 => {
-                event(coverage, "sequence number above 2^63");
-            }
+            Answer::Word(word) if *word >= 1 << 31 => match call {
+                Call::Peek { place: NEXT_HIGH } => event(coverage, "sequence number above 2^63"),
+                Call::Peek { place: LAST_HIGH } => event(coverage, "activation number above 2^63"),
+                _ => {}
+            },
             _ => {}
         }
         if let Answer::Counters(now) = house.call(&Call::Counters) {

@@ -17,11 +17,11 @@ use world::Clock;
 
 /// Words of a whole store, and the sizes that a fresh house lends.
 const STORE_WORDS: u32 = 16_384;
-const OUTCOME_WORDS: u32 = 6 * 4_096;
+const OUTCOME_WORDS: u32 = 8 * 3_072;
 const EFFECT_WORDS: u32 = 5 * 65_536;
-/// Places of the next sequence number in the store (docs/STORE.md).
-const NEXT_LOW: u32 = 13_659;
-const NEXT_HIGH: u32 = 13_660;
+/// Places of the next sequence number and of the last activation number in the store (docs/STORE.md).
+const NEXT: [u32; 2] = [13_723, 13_724];
+const LAST: [u32; 2] = [13_725, 13_726];
 
 /// How many names of each sort a history uses, and how long its lists are.
 #[derive(Clone, Debug)]
@@ -164,27 +164,28 @@ impl Author {
 
     /// Stores about as large as the next calls need.
     fn lend(&mut self) {
-        let outcomes = self.random.below(5) * 6 + self.random.below(6);
+        let outcomes = self.random.below(5) * 8 + self.random.below(8);
         let effects = self.random.below(9) * 5 + self.random.below(5);
         self.calls.push(Call::Lend { outcomes, effects });
         self.lent = self.random.from_to(2, 5);
     }
 
-    /// A next sequence number shortly before 2^64 - 1. Once for each new store, for a
+    /// A next sequence number, or a last activation number, shortly before 2^64 - 1. Once for each new store, for a
     /// number below that of a pending record would break a store rule; and only in a
     /// store of full size, for a smaller one may lack the words.
     fn poke(&mut self) {
         if self.resized {
             return;
         }
-        self.calls.push(Call::Peek { place: NEXT_LOW });
+        let [low, high] = self.random.pick([NEXT, LAST]);
+        self.calls.push(Call::Peek { place: low });
         if !self.poked {
             self.poked = true;
             let word = u32::MAX - self.random.below(6);
-            self.calls.push(Call::Poke { place: NEXT_LOW, word });
-            self.calls.push(Call::Poke { place: NEXT_HIGH, word: u32::MAX });
+            self.calls.push(Call::Poke { place: low, word });
+            self.calls.push(Call::Poke { place: high, word: u32::MAX });
         }
-        self.calls.push(Call::Peek { place: NEXT_HIGH });
+        self.calls.push(Call::Peek { place: high });
     }
 
     fn size(&mut self) {

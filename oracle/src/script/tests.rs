@@ -84,13 +84,13 @@ fn empty_images_and_snapshots_are_refused() {
 fn answers_other_than_outcomes() {
     let run = format!("run 5 0 {AT_0}");
     let text = played(&[
-        "enable 5 1", "enable 6 0", "deadline", &run, "deadline", "counters", "peek 13659",
-        "unload 0", "counters", "peek 13659", "new 0", "peek 13659",
+        "enable 5 1", "enable 6 0", "deadline", &run, "deadline", "counters", "peek 13723",
+        "unload 0", "counters", "peek 13723", "new 0", "peek 13723",
     ]);
     let expected = "enable 5 yes\nenable 6 no\ndeadline none\nrun 0 1\nrule 5 0 0 0 1\n\
         effect 11 7 0 0 0\ndeadline 1000\n\
-        counters 1 0 0 0 0 0 1 0 1 0 0 0 1 0 1 0\npeek 13659 2\n\
-        counters 1 0 0 0 0 0 1 0 1 0 1 0 0 0 0 0\npeek 13659 2\npeek 13659 1\n";
+        counters 1 0 0 0 0 0 1 0 1 0 0 0 1 0 1 0\npeek 13723 2\n\
+        counters 1 0 0 0 0 0 1 0 1 0 1 0 0 0 0 0\npeek 13723 2\npeek 13723 1\n";
     assert_eq!(text, expected);
 }
 
@@ -110,7 +110,7 @@ fn a_store_of_another_size_is_refused_first() {
 fn too_small_lent_stores_are_refused_and_nothing_changes() {
     let run = format!("run 5 0 {AT_0}");
     let text = played(&[
-        "lend 5 5", &run, "lend 6 4", &run, "counters", "deadline", "lend 6 5", &run,
+        "lend 7 5", &run, "lend 8 4", &run, "counters", "deadline", "lend 8 5", &run,
     ]);
     let expected = "run refused 30\nrun refused 30\n\
         counters 0 0 0 0 0 0 0 0 0 0 0 0 0 0 1 0\ndeadline none\n\
@@ -122,11 +122,11 @@ fn too_small_lent_stores_are_refused_and_nothing_changes() {
 fn a_sequence_number_past_64_bits_is_refused() {
     let run = format!("run 5 0 {AT_0}");
     let text = played(&[
-        "poke 13659 4294967294", "poke 13660 4294967295", &run, &run, "lend 5 5", &run,
-        "peek 13659", "peek 13660", "poke 5 1", "peek 5",
+        "poke 13723 4294967294", "poke 13724 4294967295", &run, &run, "lend 7 5", &run,
+        "peek 13723", "peek 13724", "poke 5 1", "peek 5",
     ]);
     let expected = "run 0 1\nrule 5 0 0 0 1\neffect 11 7 0 0 0\nrun refused 31\n\
-        run refused 30\npeek 13659 4294967295\npeek 13660 4294967295\n\
+        run refused 30\npeek 13723 4294967295\npeek 13724 4294967295\n\
         poke 5 unsupported\npeek 5 unsupported\n";
     assert_eq!(text, expected);
 }

@@ -94,7 +94,7 @@ impl Look<'_> {
             self.marked(place + 7, 3, "jump of a pending record");
             let trigger = self.store[place + 11];
             self.ask(trigger <= 4, place + 11, "a pending record's trigger is 0 to 4", format!("it is {trigger}"));
-            self.zeros(place + 12, place + PENDING_WORDS, "its event word is 0", "event of a pending record");
+            self.zeros(place + 14, place + PENDING_WORDS, "its event word is 0", "event of a pending record");
         }
     }
 
@@ -224,12 +224,15 @@ impl Look<'_> {
     }
 
     fn numbers(&mut self, state: &State<'_>) {
-        let numbers: Vec<u64> = state.pending().map(|held| held.number).collect();
-        for (row, number) in numbers.iter().enumerate() {
+        let sequence: Vec<u64> = state.pending().map(|held| held.sequence).collect();
+        let (next, last) = (state.next_sequence(), state.last_number());
+        for (row, held) in state.pending().enumerate() {
             let place = PENDING + 1 + row * PENDING_WORDS;
-            let next = state.next_number();
-            self.ask(*number < next, place, "its sequence number is below the next", format!("{number}, and the next is {next}"));
-            self.ask(!numbers[..row].contains(number), place, "its sequence number is distinct", format!("a second {number}"));
+            let (own, number) = (held.sequence, held.number);
+            self.ask(own < next, place, "its sequence number is below the next", format!("{own}, and the next is {next}"));
+            self.ask(!sequence[..row].contains(&own), place, "its sequence number is distinct", format!("a second {own}"));
+            let rule = "its activation number is at least 1 and at most the last one given";
+            self.ask((1..=last).contains(&number), place + 12, rule, format!("{number}, and the last is {last}"));
         }
     }
 }

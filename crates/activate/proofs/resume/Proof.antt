@@ -1,7 +1,7 @@
 -- `activate::resume` meets its contract. Assumes nothing.
 use denote.Ref.{now}
 use Rattle.activate.specs.Carried.{carried}
-use Rattle.activate.proofs.Running.{changed-room}
+use Rattle.activate.proofs.Running.{changed-room, run-room}
 use Rattle.activate.proofs.Activating.{resumes}
 use borrow.Author.Needs.{needs}
 use Rattle.activate.proofs.resume.Statement.{statement}
@@ -11,7 +11,7 @@ run-wet-requires : tie.Need-run-wet-requires
 run-wet-requires c κs =
     let b = c .before .before .before .before .before in
     let s = b .before .before .before .before .before .before .before .before .before .before in
-    ((s .pre .0 .0 .least, s .pre .0 .0 .most), s .pre .0 .1, s .pre .1 .0, changed-room (carried (now (s .args .v)) (s .args .x)) _ _ (b .bump .ensures) 1 (s .pre .1 .1))
+    ((s .pre .0 .0 .least, s .pre .0 .0 .most), s .pre .0 .1, s .pre .1 .0, run-room _ (changed-room (carried (now (s .args .v)) (s .args .x)) _ _ (b .bump .ensures) 1 (s .pre .1 .1)))
 
 returns : tie.Need-returns
 returns c =

@@ -13,7 +13,7 @@ returns c image flat =
     let s = c .before .before .before .before .before .before .before .before .before in
     let e = envOf (now (s .args .snapshot)) image flat in
     let j = jobOf (s .args .job) in
-    after-is e j _ (s .args .sp) _ (now (s .args .v)) _ _ _ _ (c .before .before .before .before .before .before .body-start .ensures) (c .advance .ensures) (c .before .before .before .schedule .ensures e j (sym (c .before .before .before .before .before .now-ms .ensures)) refl refl)
+    after-is e j _ (s .args .sp) _ (now (s .args .v)) _ _ _ _ (c .before .before .before .before .before .before .body-start .ensures) (c .advance .ensures) (c .before .before .before .schedule .ensures e j (sym (c .before .before .before .before .before .now-ms .ensures)) refl refl refl)
 
 pub after-spec : {M : Type 1} → statement M
 after-spec = tie.close (tie.spec (λ c κs. search needs) (λ c κs. search needs) (λ c κs. search needs) (λ c κs. search needs) (λ c. search needs) returns)

@@ -20,7 +20,7 @@ add-put-wide c = let s = c .before .before .before .before .before .before .befo
 returns : tie.Need-returns
 returns c =
     let s = c .before .before .before .before .before .before .before .before .before .before .before .before .before .before .before .before .before .before .before .before .before .before .before in
-    all-numbered _ (s .pre .0) _ _ (c .before .before .before .before .before .before .before .before .before .before .before .before .before .before .before .before .before .before .before .before .wide-at .ensures) (c .before .before .before .before .before .before .before .before .before .before .before .before .before .before .before .before .before .before .wide-at2 .ensures) (s .pre .1) _ _ _ _ _ _ (c .before .before .before .before .before .before .before .before .before .before .before .before .before .before .before .number-all .ensures) refl refl (c .before .before .before .before .before .before .before .before .before .before .put-word .ensures) (c .before .before .before .before .before .before .put-wide .ensures) (c .before .before .put-wide2 .ensures)
+    all-numbered _ (s .pre .0) _ _ (c .before .before .before .before .before .before .before .before .before .before .before .before .before .before .before .before .before .before .before .before .wide-at .ensures) (c .before .before .before .before .before .before .before .before .before .before .before .before .before .before .before .before .before .before .wide-at2 .ensures) (s .pre .1) (s .pre .2) _ _ _ _ _ _ (c .before .before .before .before .before .before .before .before .before .before .before .before .before .before .before .number-all .ensures) refl refl (c .before .before .before .before .before .before .before .before .before .before .put-word .ensures) (c .before .before .before .before .before .before .put-wide .ensures) (c .before .before .put-wide2 .ensures)
 
 pub assign-numbers-spec : {M : Type 1} → statement M
 assign-numbers-spec =

@@ -74,12 +74,17 @@ returns-16 c = c .row16 .ensures ∙ rw (c .before .match .keys16)
 
 returns-17 : tie.Need-returns-17
 unfolding partRow partRows
-returns-17 c = c .row17 .ensures ∙ sym (List·getD-eq-default partRows noPart (past 0 16 (c .before .before .args .t) zero-le (c .before .match .rest)))
+returns-17 c = c .row17 .ensures ∙ rw (c .before .match .keys17)
+
+returns-18 : tie.Need-returns-18
+unfolding partRow partRows
+returns-18 c = c .row18 .ensures ∙ sym (List·getD-eq-default partRows noPart (past 0 17 (c .before .before .args .t) zero-le (c .before .match .rest)))
 
 pub part-spec : {M : Type 1} → statement M
 part-spec =
     tie.close
     (tie.spec
+    (λ c κs. search needs)
     (λ c κs. search needs)
     (λ c κs. search needs)
     (λ c κs. search needs)
@@ -113,4 +118,5 @@ part-spec =
     returns-14
     returns-15
     returns-16
-    returns-17)
+    returns-17
+    returns-18)

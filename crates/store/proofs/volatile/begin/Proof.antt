@@ -42,8 +42,8 @@ put-words-requires c κs =
 put-word-requires : tie.Need-put-word-requires
 put-word-requires c κs = omega (arith, c .before .before .before .before .before .before .before .before .before .before .before .before .before .before .before .before .before .before .before .before .before .before .before .before .pre .2, c .before .before .before .v4 .given, c .before .before .before .before .before .before .before .v3 .given, c .before .before .before .before .before .before .before .before .before .before .before .v2 .given, c .before .before .before .before .before .before .before .before .before .before .before .before .before .before .before .v .given)
 
-put-wide-requires : tie.Need-put-wide-requires
-put-wide-requires c κs = omega (arith, c .before .before .before .before .before .before .before .before .before .before .before .before .before .before .before .before .before .before .before .before .before .before .before .before .before .before .before .before .pre .2, c .before .before .v5 .given, c .before .before .before .before .before .before .before .v4 .given, c .before .before .before .before .before .before .before .before .before .before .before .v3 .given, c .before .before .before .before .before .before .before .before .before .before .before .before .before .before .before .v2 .given, c .before .before .before .before .before .before .before .before .before .before .before .before .before .before .before .before .before .before .before .v .given)
+clear-requires : tie.Need-clear-requires
+clear-requires c κs = omega (arith, c .before .before .before .before .before .before .before .before .before .before .before .before .before .before .before .before .before .before .before .before .before .before .before .before .before .before .before .before .pre .2, c .before .before .v5 .given, c .before .before .before .before .before .before .before .v4 .given, c .before .before .before .before .before .before .before .before .before .before .before .v3 .given, c .before .before .before .before .before .before .before .before .before .before .before .before .before .before .before .v2 .given, c .before .before .before .before .before .before .before .before .before .before .before .before .before .before .before .before .before .before .before .v .given)
 
 cast-put-word : tie.Need-cast-put-word
 cast-put-word c = omega (arith, c .before .before .before .before .before .before .before .before .before .before .before .before .before .before .before .before .before .before .before .before .before .before .before .before .before .before .before .before .before .before .before .before .pre .1)
@@ -61,7 +61,7 @@ returns c =
     (c .before .before .before .before .before .before .before .before .before .before .before .before .before .before .before .put-words .ensures)
     (c .before .before .before .before .before .before .before .before .before .before .before .word-at .ensures)
     (c .before .before .before .before .before .before .before .before .before .before .put-word .ensures)
-    (c .before .before .before .before .before .before .put-wide .ensures)
+    (c .before .before .before .before .before .before .clear .ensures)
     (c .before .before .put-word2 .ensures)
 
 pub begin-spec : {M : Type 1} → statement M
@@ -88,7 +88,8 @@ begin-spec =
     put-words-requires
     (λ c κs. search needs)
     put-word-requires
-    put-wide-requires
+    (λ c. search needs)
+    clear-requires
     cast-put-word
     put-word-requires-2
     (λ c. search needs)
