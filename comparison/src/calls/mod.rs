@@ -4,7 +4,7 @@
 //! - Histories: so many generated ones from SEED on, valid and hostile; behind each, its store with random words.
 //! - Clocks set back: as many histories around the ticks that document 02's request 5 changes.
 //! - Sharing: a sixteenth as many histories, and 2,200 at least, of sets that fit only by sharing (document 02's request 8): they are nearly as large
-//!   as a set can be, and a call of them costs a hundred others.
+//!   as a set can be, and their calls take longest.
 //! - Next starts: as many histories of sets with wall triggers that ask for the next start (document 02's request 7), and two questions behind each history above.
 //! - Lists: every list of up to LENGTH of the small actions, as a rule.
 //! - Levels: action kind 28 on every entry and every middle of the dimming curve and their neighbours, and on values without a level.
