@@ -154,6 +154,9 @@ impl<'a> Both<'a> {
         }
         let shown = without_numbers(&seen);
         ask(shown == wanted, || first_difference(call, &shown, &wanted))?;
+        if let (Call::Tick { snapshot }, Answer::Outcomes { .. }) = (call, answer) {
+            self.tally.due.see(snapshot, &before, &self.house.store);
+        }
         if matches!(answer, Answer::Refused(_) | Answer::Deadline(_) | Answer::Counters(_) | Answer::Own(_)) {
             return ask(self.house.store == before, || format!("{call:?}: the store is changed"));
         }

@@ -6,6 +6,7 @@
 //! - Sharing: a sixteenth as many histories, and 2,200 at least, of sets that fit only by sharing (document 02's request 8): they are nearly as large
 //!   as a set can be, and their calls take longest.
 //! - Next starts: as many histories of sets with wall triggers that ask for the next start (document 02's request 7), and two questions behind each history above.
+//! - What is due: as many histories, and 600 at least, with 20 to 32 continuations due in one tick (document 02's request 3).
 //! - Lists: every list of up to LENGTH of the small actions, as a rule.
 //! - Levels: action kind 28 on every entry and every middle of the dimming curve and their neighbours, and on values without a level.
 //! - Stores: every word of good stores to VALUES other values; a store for each rule that is broken.
@@ -17,6 +18,7 @@
 //! can be reached is empty.
 
 mod both;
+mod due;
 pub mod house;
 mod levels;
 mod lists;
@@ -42,6 +44,7 @@ const MOST_SHOWN: u64 = 10;
 const MOST_LETTERS: usize = 600;
 const LEAST_SHARED: u64 = 2_200;
 const SHARED_PART: u64 = 16;
+const LEAST_DUE: u64 = 600;
 
 /// The status of the command; None for another command.
 pub fn command() -> Option<ExitCode> {
@@ -63,6 +66,7 @@ pub fn command() -> Option<ExitCode> {
     calls.set_backs(histories, seed);
     calls.sharing((histories / SHARED_PART).max(LEAST_SHARED), seed);
     calls.starts(histories, seed);
+    calls.due(histories.max(LEAST_DUE), seed);
     calls.lists(length as u32);
     calls.levels();
     calls.stores(values as usize, seed);
@@ -163,6 +167,14 @@ impl Calls {
         self.part("next starts", count as usize, before);
     }
 
+    fn due(&mut self, count: u64, seed: u64) {
+        let before = self.tally.calls;
+        for seed in seed..seed + count {
+            self.play(&format!("what is due, history {seed}"), seed, &generate::due::history(seed));
+        }
+        self.part("what is due", count as usize, before);
+    }
+
     fn lists(&mut self, length: u32) {
         let before = self.tally.calls;
         for (at, list) in lists::all(length).enumerate() {
@@ -194,8 +206,9 @@ impl Calls {
     fn report(&self) -> bool {
         let whole = self.tally.report() && !self.empty;
         let calls = format!("calls: {} calls, {} differences", self.tally.calls, self.differences);
-        let [wheels, percents, sharing] = [self.tally.wheels(), self.tally.percents(), self.tally.sharing()];
-        println!("{calls}; {wheels}; {percents}; {sharing}; {}; {}", self.tally.chains(), self.tally.numbered());
+        let tally = &self.tally;
+        let parts = [tally.wheels(), tally.percents(), tally.sharing(), tally.due(), tally.chains(), tally.numbered()];
+        println!("{calls}; {}", parts.join("; "));
         whole && self.differences == 0
     }
 }

@@ -6,7 +6,7 @@ use crate::store::{MOST_PENDING, PENDING_WORDS};
 
 /// Places of the pending records: docs/STORE.md.
 const PENDING: usize = 13_240;
-const RULE: usize = 4;
+pub const RULE: usize = 4;
 const LIST: usize = 5;
 const PLACE: usize = 6;
 
@@ -23,7 +23,7 @@ pub struct Sharing {
     pub counts: [u64; 8],
 }
 
-fn pending(words: &[u32]) -> impl Iterator<Item = &[u32]> {
+pub fn pending(words: &[u32]) -> impl Iterator<Item = &[u32]> {
     words[PENDING + 1..].chunks(PENDING_WORDS).take(words[PENDING] as usize)
 }
 

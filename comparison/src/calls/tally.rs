@@ -4,6 +4,7 @@ use std::collections::BTreeMap;
 
 use oracle::house::{Answer, Call};
 
+use super::due::{self, Due};
 use super::sharing::{self, Sharing};
 use super::starts::{self, Starts};
 use crate::store::{Store, MOST_PENDING, MOST_SLOTS, MOST_TIMERS, MOST_VARIABLES, RULES};
@@ -75,6 +76,8 @@ pub struct Tally {
     /// Sets that fit only by sharing.
     pub sharing: Sharing,
     pub starts: Starts,
+    /// Ticks with many continuations due.
+    pub due: Due,
     answers: BTreeMap<(usize, u32), u64>,
     /// Of what a call said yes, no, a time or none.
     said: BTreeMap<&'static str, u64>,
@@ -137,6 +140,11 @@ impl Tally {
         format!("{} histories load a set that fits only by sharing", self.sharing.histories)
     }
 
+    pub fn due(&self) -> String {
+        let [many, all, ..] = self.due.counts;
+        format!("{many} ticks with 20 to 31 continuations due, {all} with 32")
+    }
+
     /// An answer with no values: a refusal.
     pub fn count(&mut self, call: usize, number: u32) {
         self.calls += 1;
@@ -174,6 +182,7 @@ impl Tally {
         empty += named_row("sharing", &sharing::CELLS, &self.sharing.counts);
         empty += named_row("starts", &starts::CELLS, &self.starts.counts);
         empty += usize::from(self.sharing.histories <= sharing::LEAST);
+        empty += named_row("due", &due::CELLS, &self.due.counts);
         let most: Vec<u64> = self.most.iter().map(|count| *count as u64).collect();
         named_row("most", &TABLES, &most);
         empty += self.most.iter().zip(FULL).filter(|(most, full)| *most != full).count();

@@ -209,6 +209,21 @@ pub fn triggers() -> House {
     House { name, before: vec![load(&image), tick(&world, 0, 719)], calls, history: Vec::new(), room: [64, 64] }
 }
 
+/// A rule whose 32 afters wait, the first the longest: all of them are due in one tick, in the order from the last to the first.
+pub fn due() -> House {
+    const MOST: u32 = 32;
+    let afters = (0..MOST).map(|at| Action::After((MOST - at) * 1_000, vec![Action::Log(at)])).collect();
+    let image = Image::of(vec![Rule::new(1, afters)]).words();
+    let world = world(60, 8, 16, 12, 4);
+    let before = vec![load(&image), tick(&world, 0, 719), run(&world, 0, 1, false)];
+    let calls = vec![
+        ("tick, nothing due", tick(&world, 500, 719)),
+        ("tick, one due", tick(&world, 1_000, 719)),
+        ("tick, 32 due, due times falling", tick(&world, 32_000, 719)),
+    ];
+    House { name: "32 continuations due in one tick", before, calls, history: Vec::new(), room: [32, 256] }
+}
+
 /// An image that takes long to flatten, which every call does that checks the store.
 pub fn flattening(name: &'static str, image: Vec<u32>) -> House {
     let world = world(256, 64, 64, 128, 64);

@@ -4,5 +4,6 @@ pub mod Examples
 pub mod Play
 pub mod SetBack
 pub mod Sharing
+pub mod DueOrder
 pub mod Crontab
 pub mod Numbers

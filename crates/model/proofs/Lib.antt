@@ -1,5 +1,7 @@
 pub mod Bools
 pub mod ListLaws
+pub mod SortLaws
+pub mod DueIndices
 pub mod ImageLaws
 pub mod RowLaws
 pub mod CodecLaws

@@ -35,6 +35,17 @@ dueBefore a b = ltb (a .due) (b .due) || (eqb (a .due) (b .due) && ltb (a .seq) 
 unfoldable pub dueNow : ℕ → List Pending → List Pending
 dueNow now ps = sort dueBefore (keep (λ (c : Pending). leb (c .due) now) ps)
 
+-- each record with its index, where the first has index i
+abbrev pub indexedFrom : ℕ → List Pending → List (ℕ × Pending)
+indexedFrom i [] = []
+indexedFrom i (c ∷ cs) = (i, c) ∷ indexedFrom (suc i) cs
+
+-- the indices of what is due, in the order of `dueNow`: document 02, request 3
+unfoldable pub dueIndices : ℕ → List Pending → List ℕ
+dueIndices now ps =
+    map (λ (x : ℕ × Pending). x .0)
+    (sort (λ (x y : ℕ × Pending). dueBefore (x .1) (y .1)) (keep (λ (x : ℕ × Pending). leb (x .1 .due) now) (indexedFrom 0 ps)))
+
 -- the store without what is due
 unfoldable pub notDue : ℕ → Volatile → Volatile
 notDue now v = record { rest = v .rest; pending = keep (λ (c : Pending). not (leb (c .due) now)) (v .pending); next = v .next; lastNumber = v .lastNumber }

@@ -5,8 +5,9 @@ pub mod Found
 pub mod Numbers
 pub mod Order
 pub mod Mapped
+pub mod Behind
 pub mod Selecting
-pub mod Removing
+pub mod Listing
 pub mod Front
 pub mod Lengths
 pub mod Cutting

@@ -21,7 +21,7 @@ use Rattle.model.specs.State as model
 use Rattle.model.specs.State.{withRest, bumpBy, isFull, strike, continuationsDropped, continuationsScheduled}
 use Rattle.model.specs.Lists.{keep}
 use Rattle.model.specs.Exec as exec
-use Rattle.model.specs.Wheel.{dueNow, notDue}
+use Rattle.model.specs.Wheel.{notDue}
 use Rattle.model.specs.declared.Pending.{Pending}
 use Rattle.model.specs.declared.Point.{Point}
 use Rattle.model.proofs.RowLaws.{RowLaws, wide-laws, ⊗-laws, as-row-laws, pad-laws}
@@ -31,6 +31,7 @@ use Rattle.rows.specs.Places.{laid, rowAt, tableAt}
 use Rattle.rows.proofs.Writing.{one-set}
 use Rattle.state.specs.Cuts.{cut, rowsIn, tableOf, passes, Fits, Table}
 use Rattle.state.specs.Meaning.{pendingRow, partSizes, pendingPart, nextPart, storedPart, acceptedPart, placeOf, wordsIn, meaningOf, baseIn, storedIn, acceptedIn, recordsIn, numbered, offsetFrom, Below, meaning, base, accepted, storedCount, pendingCount, Sound, Means, Holds, Counted}
+use Rattle.state.specs.Selection.{recordsAt}
 use Rattle.state.specs.Pending.{laterThan, withNext, withRecord, keptBy, pastNumber, closedUp, ClosesUp, emptied, Schedules}
 use Rattle.state.specs.declared.table.Test.{Test}
 use Rattle.state.specs.declared.table.Test.the-variants.{Other, Later}
@@ -342,10 +343,9 @@ unfolding rowsAt
 rows-same zero w = refl
 rows-same (suc n) w = ap (λ (l : List Pending). pendingRow .get w ∷ l) (rows-same n (drop 15 w))
 
-pub records-due : (w : List ℕ) → Sound w → storedCount w ≡ pendingCount w → (n time : ℕ) (l due : List Pending) → n ≡ getD w (placeOf pendingPart) 0
-    → take n l ≡ tableAt parts.pendingRow n w (placeOf pendingPart + 1) → due ≡ dueNow time (take n l) → due ≡ dueNow time (meaning w .pending)
-unfolding tableAt storedCount pendingCount meaning records
-records-due w s all n time l due e f g =
+pub records-read : (w : List ℕ) → Sound w → storedCount w ≡ pendingCount w → (n : ℕ) → n ≡ getD w (placeOf pendingPart) 0 → recordsAt n w ≡ meaning w .pending
+unfolding recordsAt tableAt storedCount pendingCount meaning records
+records-read w s all n e =
     let read : tableAt pendingRow n w (placeOf pendingPart + 1) ≡ records w = ap (λ (i : ℕ). tableAt pendingRow i w (placeOf pendingPart + 1)) e ∙ table-read pendingRow pending-laws 32 w (placeOf pendingPart) (wordsIn pendingPart) (records w) (records-hold w s) in
     let few : length (records w) ≤ storedIn (cut partSizes w) = omega (arith, all, records-count w s, part-at pendingPart (omega arith) w 0 (omega arith)) in
-    g ∙ ap (dueNow time) (f ∙ rows-same n (drop (placeOf pendingPart + 1) w) ∙ read ∙ sym (numbered-all (baseIn (cut partSizes w)) (storedIn (cut partSizes w)) (records w) few))
+    rows-same n (drop (placeOf pendingPart + 1) w) ∙ read ∙ sym (numbered-all (baseIn (cut partSizes w)) (storedIn (cut partSizes w)) (records w) few)

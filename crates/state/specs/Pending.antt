@@ -20,9 +20,6 @@ use Rattle.state.specs.declared.table.Test.the-variants.{Other, Later}
 abbrev pub ofOtherRule : ℕ → Pending → Bool
 ofOtherRule rule c = not (eqb (c .rule) rule)
 
-abbrev pub isDue : ℕ → Pending → Bool
-isDue now c = leb (c .due) now
-
 abbrev pub laterThan : ℕ → Pending → Bool
 laterThan now c = not (leb (c .due) now)
 

@@ -2,10 +2,10 @@
 use Prim.Native.Nat.{ℕ, suc, _≤_, _<_}
 use mathlib.Core.Path.{_≡_}
 use mathlib.Core.Bool.{Bool, true}
-use mathlib.Core.List.{List, [], _∷_, _++_}
+use mathlib.Core.List.{List, _∷_, _++_}
 use mathlib.Core.Option.{none}
 use lib.ListN.{length, take, drop, getD}
-use Rattle.model.specs.Lists.{find, keep, insert, sort}
+use Rattle.model.specs.Lists.{find, keep, insert}
 
 -- a has, below the count, the elements of l that pass
 pub record Keeps {A : Type 0} (p : A → Bool) (l a : List A) (count : ℕ) : Type 0 where
@@ -28,13 +28,3 @@ pub record Placed {A : Type 0} (before : A → A → Bool) (x : A) (l : List A) 
 pub record Inserts {A : Type 0} (before : A → A → Bool) (x : A) (l : List A) (n : ℕ) (r : List A) (m : ℕ) : Type 0 where
   pub holds : take m r ≡ insert before x (take n l)
   pub counted : m ≡ suc n
-
--- the list without its element at place i
-abbrev pub without : {A : Type 0} → ℕ → List A → List A
-without i l = take i l ++ drop (suc i) l
-
--- of the elements that pass, the first in order stands at place i; i is the length where none passes
-pub record Selected {A : Type 0} (p : A → Bool) (before : A → A → Bool) (l : List A) (i : ℕ) : Type 0 where
-  pub within : i ≤ length l
-  pub first : (d : A) → i < length l → sort before (keep p l) ≡ getD l i d ∷ sort before (keep p (without i l))
-  pub empty : length l ≤ i → keep p l ≡ []

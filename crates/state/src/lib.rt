@@ -14,7 +14,6 @@
 use counters::Counters;
 use model::EverySlot;
 use model::NamedTimer;
-use model::Pending;
 use rows::OptionU32;
 ghost use mathlib.Core.Path.{_≡_};
 ghost use Prim.Native.Nat.{_+_, _≤_};
@@ -40,11 +39,6 @@ pub mod timers;
 pub mod variables;
 
 // Some records of each kind, in order.
-pub struct PendingList {
-    pub records: [Pending; 32],
-    pub count: usize,
-}
-
 pub struct TimerList {
     pub timers: [NamedTimer; 16],
     pub count: usize,

@@ -1,4 +1,4 @@
--- What a store keeps at a place for a rule. Assumes nothing.
+-- What a store keeps at a place for a rule, and its pending record of an index. Assumes nothing.
 use mathlib.Core.Path.{_≡_, refl, sym, ap, _∙_}
 use mathlib.Core.List.{List}
 use mathlib.Core.Option.{Option, none, some}
@@ -6,15 +6,18 @@ use Prim.Native.Nat.{ℕ, _+_, _*_, _≤_, _<_}
 use native.Mathlib.Omega.{arith}
 use lib.ListN.{length, getD, List·getD-eq-default}
 use Rattle.model.specs.Codec.{word, wide, maybe}
+use Rattle.model.specs.Parts.{any, pendingRow}
+use Rattle.model.specs.declared.Pending.{Pending}
+use Rattle.model.proofs.PartsLaws.{pending-laws}
 use Rattle.model.proofs.RowLaws.{word-laws, wide-laws, word-blank, wide-blank, maybe-laws}
 use Rattle.rows.specs.Options.{option32, option64}
 use Rattle.rows.specs.Places.{rowAt, tableAt}
 use Rattle.rows.specs.Rows.{ofOption32, ofOption64, option32Row, option64Row}
 use Rattle.rows.specs.declared.OptionU32.{OptionU32}
 use Rattle.rows.specs.declared.OptionU64.{OptionU64}
-use Rattle.store.specs.Places.{activationsPlace, positionsPlace}
-use Rattle.store.specs.Volatile.{changingIn}
-use Rattle.store.proofs.Parts.{activations-at, positions-at, table-long}
+use Rattle.store.specs.Places.{activationsPlace, positionsPlace, pendingPlace}
+use Rattle.store.specs.Volatile.{changingIn, recordIn}
+use Rattle.store.proofs.Parts.{activations-at, positions-at, pending-at, table-long}
 use Rattle.store.proofs.RuleSteps.{table-at}
 
 back-64 : (o : Option ℕ) → option64 (ofOption64 o) ≡ o
@@ -51,3 +54,10 @@ module _ (w : List ℕ) (i : ℕ) where
   no-position h =
       let l = ap length (positions-at w) ∙ table-long (maybe (word 15)) (maybe-laws (word-laws 15) (word-blank 15)) 64 w positionsPlace in
       sym (List·getD-eq-default (changingIn w .positions) none (omega arith))
+
+  pub record-kept : (d : Pending) → i < length (changingIn w .pending) → recordIn w i ≡ getD (changingIn w .pending) i d
+  unfolding recordIn
+  record-kept d h =
+      let n : ℕ = rowAt any w pendingPlace in
+      let long = ap length (pending-at w) ∙ table-long pendingRow pending-laws n w (pendingPlace + 1) in
+      sym (table-at pendingRow n i w (pendingPlace + 1) d (omega arith)) ∙ ap (λ (l : List Pending). getD l i d) (sym (pending-at w))

@@ -2,26 +2,32 @@
 use Prim.Native.Nat.{ℕ, zero, suc, _≤_, _<_}
 use native.Mathlib.Nat.{le-of-suc-le-suc, not-suc-le-zero}
 use native.Mathlib.Omega.{arith}
-use mathlib.Core.Path.{_≡_, refl}
-use mathlib.Core.Bool.{Bool, true, false, cond, _&&_, false≢true}
+use mathlib.Core.Path.{_≡_, sym, ap, subst, _∙_}
+use mathlib.Core.Bool.{Bool, true, false≢true}
 use mathlib.Core.List.{List, [], _∷_}
 use mathlib.Core.Option.{none}
 use lib.Dec.{ltb, leb}
-use lib.ListN.{length, take, getD}
+use lib.ListN.{length, take, getD, length-map, List·getD-map}
 use borrow.Author.Tests.{ltb-true}
 use Rattle.model.specs.Flat.{flattenRules, setOf}
 use Rattle.model.specs.Image.{budget}
-use Rattle.model.specs.Lists.{all, keep, insert, sort}
+use Rattle.model.specs.Lists.{all, keep}
 use Rattle.model.specs.Load.{imageRefusal}
 use Rattle.model.specs.Rules.{ruleNamed}
 use Rattle.model.specs.Store.{inRule, pendingFits}
-use Rattle.model.specs.Wheel.{dueBefore, dueNow}
+use Rattle.model.specs.Wheel.{dueBefore, dueNow, dueIndices}
 use Rattle.model.specs.declared.Pending.{Pending}
-use Rattle.model.proofs.Bools.{both, join}
+use Rattle.model.proofs.Bools.{both}
+use Rattle.model.proofs.SortLaws.{all-keep, all-sort, all-map}
+use Rattle.model.proofs.DueIndices.{due-below, records-due}
+use Rattle.state.specs.Meaning.{Sound, meaning}
+use Rattle.state.proofs.Records.{pending-length, records-few}
+use Rattle.store.specs.Volatile.{recordIn}
+use Rattle.store.proofs.KeptRows.{record-kept}
 use Rattle.image.proofs.Accepted.{budget-fits}
 use Rattle.activate.proofs.FlatRules.{image-accepted}
-use Rattle.wheel.specs.Tick.{fitsSet}
-use Rattle.wheel.proofs.Taken.{taken-same, taken-below}
+use Rattle.wheel.specs.Tick.{HasRecords, fitsSet, areIndices, recordsIn}
+use Rattle.wheel.proofs.Taken.{taken-same, taken-below, taken-past}
 
 -- ---- one of the set
 module _ (img : List ℕ) (c : Pending) (fits : fitsSet img c ≡ true) where
@@ -46,27 +52,34 @@ module _ {A : Type 0} (p : A → Bool) where
   pub taken-at : (l : List A) (n j size : ℕ) (d : A) → length l ≡ size → n ≤ size → all p (take n l) ≡ true → j < n → p (getD l j d) ≡ true
   taken-at l n j size d long fits a h = rw (taken-same l n j d h) (all-at (take n l) j d a (taken-below l n j size long fits h))
 
-  keep-case : (b : Bool) (x : A) (xs : List A) → p x ≡ true → all p xs ≡ true → all p (cond b (x ∷ xs) xs) ≡ true
-  keep-case true x xs h a = join {a = p x} {b = all p xs} h a
-  keep-case false x xs h a = a
-
-  all-keep : (q : A → Bool) (xs : List A) → all p xs ≡ true → all p (keep q xs) ≡ true
-  all-keep q [] a = refl
-  all-keep q (x ∷ xs) a = let b = both (p x) (all p xs) a in keep-case (q x) x (keep q xs) (b .0) (all-keep q xs (b .1))
-
-  module _ (before : A → A → Bool) where
-    insert-case : (b : Bool) (x y : A) (ys : List A) → p x ≡ true → p y ≡ true → all p ys ≡ true → all p (insert before x ys) ≡ true → all p (cond b (x ∷ (y ∷ ys)) (y ∷ insert before x ys)) ≡ true
-    insert-case true x y ys h g a i = join {a = p x} {b = p y && all p ys} h (join {a = p y} {b = all p ys} g a)
-    insert-case false x y ys h g a i = join {a = p y} {b = all p (insert before x ys)} g i
-
-    all-insert : (x : A) (ys : List A) → p x ≡ true → all p ys ≡ true → all p (insert before x ys) ≡ true
-    all-insert x [] h a = join {a = p x} {b = true} h refl
-    all-insert x (y ∷ ys) h a = let b = both (p y) (all p ys) a in insert-case (before x y) x y ys h (b .0) (b .1) (all-insert x ys h (b .1))
-
-    all-sort : (xs : List A) → all p xs ≡ true → all p (sort before xs) ≡ true
-    all-sort [] a = refl
-    all-sort (x ∷ xs) a = let b = both (p x) (all p xs) a in all-insert x (sort before xs) (b .0) (all-sort xs (b .1))
-
 pub all-due : (p : Pending → Bool) (now : ℕ) (ps : List Pending) → all p ps ≡ true → all p (dueNow now ps) ≡ true
 unfolding dueNow
 all-due p now ps a = all-sort p dueBefore (keep (λ (c : Pending). leb (c .due) now) ps) (all-keep p (λ (c : Pending). leb (c .due) now) ps a)
+
+-- ---- the records at indices, as the store has them
+module _ (w due : List ℕ) (n j size : ℕ) (long : length due ≡ size) (fits : n ≤ size) where
+  pub index-fits : (d : ℕ) → areIndices (take n due) ≡ true → j < n → getD due j d < 32
+  index-fits d a h = ltb-true (getD due j d) 32 (taken-at (λ i. ltb i 32) due n j size d long fits a h)
+
+  pub record-fits : (p : Pending → Bool) (d : ℕ) {c : Pending} → all p (recordsIn w (take n due)) ≡ true → j < n → c ≡ recordIn w (getD due j d) → p c ≡ true
+  record-fits p d a h e = ap p e ∙ taken-at (λ i. p (recordIn w i)) due n j size d long fits (sym (all-map (recordIn w) p (take n due)) ∙ a) h
+
+  pub record-next : (d : ℕ) {c : Pending} → j < n → c ≡ recordIn w (getD due j d) → c ≡ getD (recordsIn w (take n due)) j (recordIn w d)
+  record-next d h e = e ∙ ap (recordIn w) (taken-same due n j d h) ∙ sym (List·getD-map (recordIn w) (take n due) j d)
+
+  pub records-below : j < n → j < length (recordsIn w (take n due))
+  records-below h = let s = length-map (take n due) (recordIn w) in omega (arith, taken-below due n j size long fits h)
+
+  pub records-past : n ≤ j → length (recordsIn w (take n due)) ≤ j
+  records-past h = let s = length-map (take n due) (recordIn w) in omega (arith, taken-past due n j size long fits h)
+
+-- at the indices of what is due
+module _ (store v : List ℕ) (now : ℕ) (is : List ℕ) (e : is ≡ dueIndices now (meaning v .pending)) where
+  pub due-indices : Sound v → areIndices is ≡ true
+  due-indices s = ap areIndices e ∙ due-below now (meaning v .pending) 32 (omega (arith, pending-length v s, records-few v s))
+
+  pub due-records : HasRecords store v → recordsIn store is ≡ dueNow now (meaning v .pending)
+  due-records held =
+      ap (recordsIn store) e
+      ∙ records-due now (meaning v .pending) (recordIn store) (recordIn store 0)
+      (λ i h. record-kept store i (recordIn store 0) (subst (λ (l : List Pending). i < length l) (sym held) h) ∙ ap (λ (l : List Pending). getD l i (recordIn store 0)) held)

@@ -4,6 +4,7 @@ use mathlib.Core.Path.{_≡_}
 use mathlib.Core.Bool.{Bool, true, cond, _||_}
 use mathlib.Core.List.{List, map}
 use mathlib.Core.Option.{none, some}
+use lib.Dec.{ltb}
 use lib.ListN.{take}
 use Rattle.model.specs.Activate as model
 use Rattle.model.specs.Flat.{flattenRules, setOf}
@@ -23,6 +24,7 @@ use Rattle.model.specs.declared.NamedTimer.{NamedTimer}
 use Rattle.model.specs.declared.Pending.{Pending}
 use Rattle.state.specs.Meaning.{AllNumbered, meaning}
 use Rattle.store.specs.FlatPart.{Kept}
+use Rattle.store.specs.Volatile.{changingIn, recordIn}
 use Rattle.activate.specs.Handled.{Continues, Within}
 use Rattle.activate.specs.Carried.{Carried}
 
@@ -39,6 +41,17 @@ pub record Holds (store image : List ℕ) : Type 0 where
 abbrev pub fitsSet : List ℕ → Pending → Bool
 fitsSet image c = pendingFits (some (setOf image (flattenRules image))) c
 
+-- the records at some indices, as the store has them; each index is that of a place in its table
+abbrev pub recordsIn : List ℕ → List ℕ → List Pending
+recordsIn store is = map (recordIn store) is
+
+abbrev pub areIndices : List ℕ → Bool
+areIndices is = all (λ i. ltb i 32) is
+
+-- the store has the pending records of the state
+abbrev pub HasRecords : List ℕ → List ℕ → Type 0
+HasRecords store v = changingIn store .pending ≡ meaning v .pending
+
 -- the rules by name
 abbrev pub Ordered : List ℕ → List ℕ → Type 0
 Ordered image order = take (sizeOf image rules) order ≡ nameOrder image
@@ -48,12 +61,13 @@ pub record Fires (n : ℕ) (h : model-state.Volatile → model.Handled) (x : Car
   pub says : Continues x ow ew (h (meaning (x .vol))) r ow′ ew′
   pub within : Within n x r
 
--- what a tick asks for: an accepted snapshot, a loaded image with its flat steps, and a state as a store is read
+-- what a tick asks for: an accepted snapshot, a loaded image with its flat steps, and a state as the store is read
 pub record Ready (snapshot image store : List ℕ) (v : List ℕ) : Type 0 where
   pub world : snapshotRefusal snapshot ≡ 0
   pub holds : Holds store image
   pub state : AllNumbered v (meaning v)
   pub pending : all (fitsSet image) (meaning v .pending) ≡ true
+  pub records : HasRecords store v
 
 abbrev pub start : List ℕ → Carried
 start v = record { vol = v; outcomes = 0; effects = 0 }

@@ -1,4 +1,5 @@
-// The continuations that are due: all of them leave before the first goes on, also where an earlier one disables its rule.
+// The continuations that are due: all of them leave before the first goes on, also where an earlier one disables its rule. They are named by their
+// indices, and each is read when its turn comes, from the store, which has the records as they stood before the tick (document 02, request 3).
 use activate::Handled;
 use activate::resume;
 use image::rule::Found;
@@ -8,6 +9,7 @@ use state::pending::due_now;
 use state::pending::without_due;
 use store::flat_part::rule_own;
 use store::flat_part::rule_steps;
+use store::volatile::pending_record;
 ghost use mathlib.Core.Path.{_≡_};
 ghost use mathlib.Core.Bool.{true};
 ghost use Prim.Native.Nat.{_≤_};
@@ -18,7 +20,7 @@ ghost use Rattle.model.specs.Wheel.{resumeAll, fireContinuations};
 ghost use Rattle.state.specs.Meaning.{meaning, storedCount, pendingCount};
 ghost use Rattle.activate.specs.Carried.{carried};
 ghost use Rattle.activate.specs.Handled.{Room};
-ghost use Rattle.wheel.specs.Tick.{Holds, Fires, fitsSet, tickEnv};
+ghost use Rattle.wheel.specs.Tick.{Holds, HasRecords, Fires, fitsSet, areIndices, recordsIn, tickEnv};
 
 // One goes on. Its rule is loaded.
 fn resume_one(
@@ -45,6 +47,7 @@ fn resume_one(
     }
 }
 
+// Those at some indices of the store's records go on, one after the other.
 fn resume_all(
     snapshot: &[u32],
     image: &[u32],
@@ -53,17 +56,18 @@ fn resume_all(
     effects: &mut [u32],
     v: &mut [u32],
     x: Handled,
-    due: [Pending; 32],
+    due: [usize; 32],
     n: usize,
 ) -> Handled
-    requires { ⌜ Holds (now store) (now image) × (n ≤ 32) × (all (fitsSet (now image)) (take n due) ≡ true) ⌝ }
+    requires { ⌜ Holds (now store) (now image) × (n ≤ 32) × (areIndices (take n due) ≡ true) × (all (fitsSet (now image)) (recordsIn (now store) (take n due)) ≡ true) ⌝ }
     requires { ⌜ Room 32 (carried (now v) x) ⌝ }
-    ensures { λ r. ⌜ Fires 32 (resumeAll (tickEnv (now (snapshot .entry)) (now (image .entry))) (take n due)) (carried (now (v .entry)) x) (now (outcomes .entry)) (now (effects .entry)) (carried (now (v .exit)) r) (now (outcomes .exit)) (now (effects .exit)) ⌝ }
+    ensures { λ r. ⌜ Fires 32 (resumeAll (tickEnv (now (snapshot .entry)) (now (image .entry))) (recordsIn (now (store .entry)) (take n due))) (carried (now (v .entry)) x) (now (outcomes .entry)) (now (effects .entry)) (carried (now (v .exit)) r) (now (outcomes .exit)) (now (effects .exit)) ⌝ }
 {
     let mut h = x;
     let mut j = 0;
     while j < n {
-        let c = due[j];
+        let i = due[j];
+        let c = pending_record(store, i);
         h = resume_one(snapshot, image, store, outcomes, effects, v, h, c);
         j += 1;
     }
@@ -79,14 +83,14 @@ pub fn fire_continuations(
     v: &mut [u32],
     x: Handled,
 ) -> Handled
-    requires { ⌜ Holds (now store) (now image) × (all (fitsSet (now image)) (meaning (now v) .pending) ≡ true) ⌝ }
+    requires { ⌜ Holds (now store) (now image) × (all (fitsSet (now image)) (meaning (now v) .pending) ≡ true) × HasRecords (now store) (now v) ⌝ }
     requires { ⌜ (storedCount (now v) ≡ pendingCount (now v)) × Room 32 (carried (now v) x) ⌝ }
     ensures { λ r. ⌜ Fires 32 (fireContinuations (tickEnv (now (snapshot .entry)) (now (image .entry)))) (carried (now (v .entry)) x) (now (outcomes .entry)) (now (effects .entry)) (carried (now (v .exit)) r) (now (outcomes .exit)) (now (effects .exit)) ⌝ }
 {
     let time = world::now_ms(snapshot);
-    let list = due_now(v, time);
+    let order = due_now(v, time);
     without_due(v, time);
-    let due = list.records;
+    let due = order.indices;
     resume_all(
         snapshot,
         image,
@@ -96,6 +100,6 @@ pub fn fire_continuations(
         v,
         x,
         due,
-        list.count,
+        order.count,
     )
 }

@@ -9,7 +9,7 @@ ghost use Rattle.model.specs.Wheel.{serviceTick};
 ghost use Rattle.activate.specs.Carried.{carried};
 ghost use Rattle.wheel.specs.Tick.{Ready, Fires, start, tickEnv};
 
-// `store` has the flat steps of the image; nothing else of it is read. The rules are put in the order of their names once.
+// `store` has the flat steps of the image, and the pending records as they stand before the tick; nothing else of it is read. The rules are put in the order of their names once.
 pub fn service_tick(
     snapshot: &[u32],
     image: &[u32],

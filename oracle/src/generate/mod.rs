@@ -1,6 +1,7 @@
 //! Seeded histories of calls: valid and hostile images and snapshots, clocks
 //! that jump, loads while continuations wait, lent stores near what is needed.
 
+pub mod due;
 pub mod evaluation;
 mod hostile;
 mod parts;
@@ -297,7 +298,7 @@ mod tests {
 
     #[test]
     fn a_seed_gives_one_history() {
-        for history in [history, super::set_back::history, super::sharing::history] {
+        for history in [history, super::due::history, super::set_back::history, super::sharing::history] {
             assert_eq!(history(7), history(7));
             assert_ne!(history(7), history(8));
         }

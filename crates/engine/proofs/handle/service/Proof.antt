@@ -27,7 +27,7 @@ service-tick-requires c κs =
     let b = c .before .before .before .before .before .before .before .before .before .before .before in
     let k = said _ (b .pre .0) in
     let l = loaded-image _ _ (k .store) (k .is) (c .before .before .before .image-in .ensures) (sym (c .before .before .before .before .before .is-loaded .ensures) ∙ not-false _ (c .before .before .before .before .if1 .left)) in
-    tick-ready _ _ (now (b .args .snapshot)) (k .store) l (now (b .args .v)) (b .pre .2 (k .store) (k .is)) (k .reads .rules) (b .pre .1)
+    tick-ready _ _ (now (b .args .snapshot)) (k .store) l (now (b .args .v)) (b .pre .2 (k .store) (k .is)) (k .reads) (b .pre .1)
 
 returns-2 : tie.Need-returns-2
 returns-2 c s e =

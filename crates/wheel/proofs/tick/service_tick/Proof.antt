@@ -21,7 +21,7 @@ name-order-requires c κs =
 fire-continuations-requires : tie.Need-fire-continuations-requires
 fire-continuations-requires c κs =
     let s = c .before .before .before .before .before .before .before .before .before .before in
-    ((s .pre .holds, s .pre .pending), (s .pre .state .stored, room-less 32 1184 _ (omega arith) (first-room (now (s .args .v)) (s .pre .state))))
+    ((s .pre .holds, s .pre .pending, s .pre .records), (s .pre .state .stored, room-less 32 1184 _ (omega arith) (first-room (now (s .args .v)) (s .pre .state))))
 
 fire-timers-requires : tie.Need-fire-timers-requires
 fire-timers-requires c κs =
