@@ -1,7 +1,7 @@
 #!/usr/bin/env python3
 """The stack that each exported function of a static library needs at most, for every input, computed from its machine code (x86-64).
 
-    stack_bound.py LIBRARY [--levels FUNCTION=N ..] [--page FILE [--cited FILE ..]] [--most FUNCTION=BYTES ..] [--paths]
+    stack_bound.py LIBRARY [--levels FUNCTION=N ..] [--page FILE [--cited FILE ..]] [--most BYTES FUNCTION .. ..] [--paths]
 
 The depth of the stack pointer is followed along the code of every function, through jumps, jump tables and probe loops, so that it is known at
 each call. The bound of an exported function is the greatest sum of depths over the graph of calls. Calls must be direct.
@@ -9,7 +9,8 @@ each call. The bound of an exported function is the greatest sum of depths over 
     --levels FUNCTION=N   at most N activations of FUNCTION are on the stack at once: a cycle of calls must pass through such a function
     --page FILE           the rows "| `function` | bytes |" of a page of documentation: each exported function must have one, and stay within it
     --cited FILE          another page that must have each of these figures behind the function's name (without cerambiu_)
-    --most FUNCTION=BYTES the same for one function
+    --most BYTES FUNCTION ..
+                          a limit for these functions, whatever the page says: each exported function must have one, if any has
     --paths               print the worst path of each exported function
 
 A figure counts from the caller's stack pointer before the call: the return address is in. Not in it: what the caller pushes as arguments, what the
@@ -344,28 +345,49 @@ def figures_of(page):
     return {name: int(figure.replace(",", "")) for name, figure in rows}
 
 
+def check_cited(page, figures):
+    text = re.sub(r"\s*\n[ *]*", " ", open(page, encoding="utf-8").read())  # a figure may stand on the next line of a comment
+    for name, figure in figures.items():
+        said = "%s %s" % (name.replace("cerambiu_", ""), format(figure, ","))
+        if not re.search(r"\b%s(?![0-9]|,[0-9])" % re.escape(said), text):
+            raise Unknown("%s does not say '%s'" % (page, said))
+
+
+def limits_of(groups):
+    """`--most BYTES FUNCTION ..` as bytes by function."""
+    limits = {}
+    for figure, *names in groups:
+        for name in names:
+            if name in limits:
+                raise Unknown("--most: two limits of " + name)
+            limits[name] = int(figure)
+    return limits
+
+
+def check_names(where, named, exported):
+    """Each exported function is named, and no other."""
+    for name in sorted(set(exported) ^ set(named)):
+        raise Unknown("%s: %s" % (where, ("nothing of " if name in exported else "no exported function ") + name))
+
+
 def report(options):
-    pairs = lambda given: {name: int(n) for name, n in (one.rsplit("=", 1) for one in given)}
-    bound = Bound(options.library, pairs(options.levels))
-    exported, most = exported_of(options.library), pairs(options.most)
+    levels = {name: int(n) for name, n in (one.rsplit("=", 1) for one in options.levels)}
+    bound = Bound(options.library, levels)
+    exported, limits, figures = exported_of(options.library), limits_of(options.most), {}
     if not exported:
         raise Unknown("no exported function")
+    if limits:
+        check_names("--most", limits, exported)
     if options.page:
         figures = figures_of(options.page)
-        for name in sorted(set(exported) ^ set(figures)):
-            raise Unknown("%s: %s" % (options.page, ("no row of " if name in exported else "a row of no exported function, ") + name))
-        most.update(figures)
+        check_names(options.page, figures, exported)
         for page in options.cited:
-            text = re.sub(r"\s*\n[ *]*", " ", open(page, encoding="utf-8").read())  # a figure may stand on the next line of a comment
-            for name, figure in figures.items():
-                said = "%s %s" % (name.replace("cerambiu_", ""), format(figure, ","))
-                if not re.search(r"\b%s(?![0-9]|,[0-9])" % re.escape(said), text):
-                    raise Unknown("%s does not say '%s'" % (page, said))
+            check_cited(page, figures)
     over = 0
     for name in exported:
         cost, path = bound.worst(name)
         total = RETURN_ADDRESS + cost
-        allowed = most.get(name, total)
+        allowed = min([most[name] for most in (figures, limits) if most], default=total)
         over += total > allowed
         print("%-32s %8d bytes of stack at most%s" % (name, total, ", OVER %d" % allowed if total > allowed else ""))
         for step, own in path if options.paths else []:
@@ -379,7 +401,7 @@ def main():
     options.add_argument("--levels", action="append", default=[])
     options.add_argument("--page")
     options.add_argument("--cited", action="append", default=[])
-    options.add_argument("--most", action="append", default=[])
+    options.add_argument("--most", action="append", nargs="+", default=[])
     options.add_argument("--paths", action="store_true")
     try:
         return report(options.parse_args())

@@ -98,17 +98,20 @@ def c_libraries(folder):
         expect("the deeper of two calls", bounds["both"] == size["both"] + size["high"] + size["leaf"], shown)
         expect("one call", bounds["one"] == size["one"] + size["low"] + size["leaf"], shown)
         expect("a table of jumps", bounds["choose"] == size["choose"] + size["high"] + size["leaf"], shown)
-        most = ["--most", "one=%d" % bounds["one"], "--most", "both=%d" % bounds["both"]]
-        expect("a bound that is kept", run(archive, *most)[0] == 0)
-        expect("a bound that is exceeded by a byte", run(archive, "--most", "one=%d" % (bounds["one"] - 1))[0] == 1)
+        expect_limits(archive, bounds)
         page = os.path.join(folder, "page.md")
         rows = ["| `%s` | {:,} | words |\n".format(bounds[name]) % name for name in bounds]
         for what, kept, status in (("all rows", rows, 0), ("a row that is missing", rows[1:], 2), ("a row of no function", rows + ["| `other` | 8 |\n"], 2)):
             open(page, "w", encoding="utf-8").write("| call | bytes | |\n|---|---|---|\n" + "".join(kept))
             expect("a page with " + what, run(archive, "--page", page)[0] == status)
+        largest = str(max(bounds.values()))
+        open(page, "w", encoding="utf-8").write("".join(rows))
+        expect("a page and limits that are kept", run(archive, "--page", page, "--most", largest, *bounds)[0] == 0)
+        expect("a page that allows more than the limits", run(archive, "--page", page, "--most", str(max(bounds.values()) - 1), *bounds)[0] == 1)
         expect_cited(archive, folder, rows, bounds)
         open(page, "w", encoding="utf-8").write("".join(rows).replace("| {:,} |".format(bounds["both"]), "| {:,} |".format(bounds["both"] - 1)))
         expect("a page with a figure that is exceeded", run(archive, "--page", page)[0] == 1)
+        expect("the same, within the limits", run(archive, "--page", page, "--most", largest, *bounds)[0] == 1)
 
         archive = library(folder, C_RECURSION, ".c", level, *TOLD)
         size = frames(folder)
@@ -118,6 +121,16 @@ def c_libraries(folder):
             status, bounds, shown = run(archive, "--levels", "down=%d" % levels)
             expect("a recursion of %d levels" % levels, status == 0 and bounds["start"] == size["start"] + levels * size["down"] + size["leaf"], shown)
         expect("levels of no function are refused", run(archive, "--levels", "up=3")[0] == 2)
+
+
+def expect_limits(archive, bounds):
+    two, one = str(max(bounds["both"], bounds["choose"])), str(bounds["one"])
+    expect("limits that are kept", run(archive, "--most", two, "both", "choose", "--most", one, "one")[0] == 0)
+    status, _, shown = run(archive, "--most", two, "both", "choose", "--most", str(bounds["one"] - 1), "one")
+    expect("a limit that is exceeded by a byte", status == 1 and shown.count("OVER") == 1, shown)
+    expect("a limit of the wrong function", run(archive, "--most", one, "both", "choose", "--most", two, "one")[0] == 1)
+    for what, names in (("a function without a limit", ["both", "one"]), ("a limit of no function", [*bounds, "other"]), ("two limits of one function", [*bounds, "one"])):
+        expect(what + " is refused", run(archive, "--most", two, *names)[0] == 2)
 
 
 def expect_cited(archive, folder, rows, bounds):

@@ -14,8 +14,8 @@
  *             Stores of one call do not overlap. A store that is not const is written within its words only. A text is a pointer and its number of
  *             bytes.
  *   threads   Two calls may run at once if they share no store that either of them writes.
- *   stack     In bytes, at most, for every input, on x86-64: tick 35,880, load 35,480, run 30,888, next_deadline 30,824, enable 30,808,
- *             unload 30,792, counters 25,608, next_start 25,608, crontab 616, telegrams 88, new 40. The gate computes them from the machine code. The return address is in;
+ *   stack     In bytes, at most, for every input, on x86-64: tick 29,432, load 25,000, run 24,440, next_deadline 24,376, enable 24,360,
+ *             unload 24,344, counters 19,160, next_start 19,160, crontab 616, telegrams 88, new 40. The gate computes them from the machine code. The return address is in;
  *             not in: what memcpy, memmove and memset use, the arguments that the caller pushes, the dynamic linker, interrupts
  *             (docs/PERFORMANCE.md, "Stack").
  *   refusals  Each call returns 0, or the number of a refusal: the lowest that applies. A refused call has changed nothing: the store is as

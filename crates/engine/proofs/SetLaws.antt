@@ -135,17 +135,16 @@ rule-put img s i v v₁ v₂ v₃ on a p e f g m₁ m₂ m₃ =
     (λ j. withRest (withEnabled (set (meaning v .rest .enabled) i (e j)) (withLastActivation (set (meaning v .rest .lastActivation) i (f j)) (withCyclePos (set (meaning v .rest .cyclePos) i (g j)) (meaning v .rest)))) (meaning v)) l
 
 -- THE WHOLE ---------------------------------------------------------------------------------------------------------------------------------------
-pub set-taken : (img : List ℕ) (t : ℕ) (s : Store) (v v₁ v₂ v₃ : List ℕ) (old slots : List EverySlot) → AllNumbered v (meaning v) → s .vol ≡ meaning v
-    → old ≡ meaning v .rest .every → slots ≡ rebuildEvery img old t
-    → Means v₁ (base v) (withRest (withEvery slots (meaning v .rest)) (meaning v)) → Means v₂ (base v₁) (emptied (meaning v₁))
+pub set-taken : (img : List ℕ) (t : ℕ) (s : Store) (v v₁ v₂ v₃ : List ℕ) (old : List EverySlot) → AllNumbered v (meaning v) → s .vol ≡ meaning v
+    → old ≡ meaning v .rest .every
+    → Means v₁ (base v) (withRest (withEvery (rebuildEvery img old t) (meaning v .rest)) (meaning v)) → Means v₂ (base v₁) (emptied (meaning v₁))
     → Means v₃ (base v₂) (withRest (rulesOf img s (meaning v₂ .rest)) (meaning v₂)) → AllNumbered v₃ (cleared (restWith img t s) (s .vol))
 unfolding rulesOf restWith bumpBy
-set-taken img t s v v₁ v₂ v₃ old slots n q o e m₁ m₂ m₃ =
+set-taken img t s v v₁ v₂ v₃ old n q o m₁ m₂ m₃ =
     let k = follows emptied v₁ v₂ (base v) _ m₁ m₂ in
     let l = follows (λ (m : model.Volatile). withRest (rulesOf img s (m .rest)) m) v₂ v₃ (base v) _ k m₃ in
-    let f : slots ≡ rebuildEvery img (meaning v .rest .every) t = e ∙ ap (λ (x : List EverySlot). rebuildEvery img x t) o in
-    let z : model.Volatile → List EverySlot → model.Volatile = λ (m : model.Volatile) (x : List EverySlot). withRest (rulesOf img s (emptied (withRest (withEvery x (m .rest)) m) .rest)) (emptied (withRest (withEvery x (m .rest)) m)) in
-    let r : Means v₃ (base v) (cleared (restWith img t s) (s .vol)) = subst (Means v₃ (base v)) (ap (z (meaning v)) f ∙ ap (λ (m : model.Volatile). z m (rebuildEvery img (m .rest .every) t)) (sym q)) l in
+    let z : model.Volatile → List EverySlot → model.Volatile = λ (m : model.Volatile) (x : List EverySlot). withRest (rulesOf img s (emptied (withRest (withEvery (rebuildEvery img x t) (m .rest)) m) .rest)) (emptied (withRest (withEvery (rebuildEvery img x t) (m .rest)) m)) in
+    let r : Means v₃ (base v) (cleared (restWith img t s) (s .vol)) = subst (Means v₃ (base v)) (ap (z (meaning v)) o ∙ ap (λ (m : model.Volatile). z m (m .rest .every)) (sym q)) l in
     same-numbers v₃ (base v) (cleared (restWith img t s) (s .vol)) r (ap (λ (m : model.Volatile). m .next) q ∙ next-is v (meaning v) n) (omega (arith, ap (λ (m : model.Volatile). m .lastNumber) q, n .lastFits))
 
 pub set-left : (s : Store) (v v₁ v₂ v₃ : List ℕ) → AllNumbered v (meaning v) → s .vol ≡ meaning v

@@ -3,18 +3,19 @@ use mathlib.Core.Path.{_≡_, refl, sym, ap, _∙_, subst}
 use mathlib.Core.Bool.{true, false, false≢true}
 use mathlib.Core.List.{List}
 use mathlib.Core.Option.{Option, none, some}
-use Prim.Native.Nat.{ℕ}
+use Prim.Native.Nat.{ℕ, _+_}
 use lib.ListN.{length}
 use Rattle.model.specs.Lists.{present}
 use Rattle.model.specs.Codec.{wide}
-use Rattle.model.specs.Parts.{loadedPart}
+use Rattle.model.specs.Parts.{any, slotRow, loadedPart}
 use Rattle.model.specs.State.{Volatile, Store}
 use Rattle.model.specs.Store.{loadedOf, volatileIn, ruleCount, read, write, Keeps}
 use Rattle.model.proofs.StoreLaws.{write-read}
-use Rattle.rows.specs.Places.{laid}
+use Rattle.rows.specs.Places.{rowAt, tableAt, laid}
 use Rattle.state.specs.Meaning.{AllNumbered}
-use Rattle.store.specs.Places.{setPlace}
+use Rattle.store.specs.Places.{setPlace, slotsPlace}
 use Rattle.store.specs.Volatile.{Wrote, changingIn}
+use Rattle.store.proofs.Parts.{slots-at}
 use Rattle.store.proofs.Stored.{long, time-laid, set-laid, volatile-laid, from-read, volatile-read, ReadsAs}
 
 -- A STORE THAT READS ----------------------------------------------------------------------------------------------------------------------
@@ -41,6 +42,10 @@ said w p = go (read w) refl p
 pub value-read : (w : List ℕ) (s : Store) → read w ≡ some s → (n : ℕ) (v : List ℕ) → n ≡ ruleCount (s .loaded) → AllNumbered v (volatileIn n (changingIn w)) → AllNumbered v (s .vol)
 value-read w s e n v q a =
     subst (λ (m : Volatile). AllNumbered v m) (ap (λ (k : ℕ). volatileIn k (changingIn w)) q ∙ volatile-read w s (from-read w s e)) a
+
+-- its Every slots
+pub old-slots : (w : List ℕ) (s : Store) (n : ℕ) → read w ≡ some s → n ≡ rowAt any w slotsPlace → tableAt slotRow n w (slotsPlace + 1) ≡ s .vol .rest .every
+old-slots w s n e q = ap (λ (m : ℕ). tableAt slotRow m w (slotsPlace + 1)) q ∙ sym (slots-at w) ∙ ap (λ (v : Volatile). v .rest .every) (volatile-read w s (from-read w s e))
 
 -- ALL THREE PARTS, AND TWO ----------------------------------------------------------------------------------------------------------------
 pub all-written : (s s′ : Store) (w w₁ w₂ w₃ : List ℕ) → Keeps s → Keeps s′ → write s ≡ w

@@ -2,9 +2,10 @@
 use crate::Answer;
 use crate::stored;
 use image::rule::Found;
-use model::EverySlot;
+use rows::read;
 use state::place::MAX_RULES;
 use state::place::WORDS;
+use store::table;
 ghost use mathlib.Core.Path.{_≡_};
 ghost use mathlib.Core.Bool.{true};
 ghost use mathlib.Core.List.{List, []};
@@ -29,15 +30,8 @@ fn without_set(v: &mut [u32])
     requires { ⌜ AllNumbered (now v) (meaning (now v)) ⌝ }
     ensures { λ _. ⌜ ((s : Store) → s .vol ≡ meaning (now (v .entry)) → AllNumbered (now (v .exit)) (cleared (restWithout s) (s .vol))) ⌝ }
 {
-    let x = EverySlot {
-        rule: 0,
-        place: 0,
-        period: 0,
-        due: 0,
-    };
-    let slots = [x; 64];
     state::pending::drop_all(v);
-    state::slots::put_every(v, slots, 0);
+    state::slots::drop_every(v);
     state::rules::unset_rules(v, 0);
 }
 
@@ -85,10 +79,8 @@ fn with_set(store: &[u32], image: &[u32], time: u64, v: &mut [u32])
     requires { ⌜ (present (read (now store)) ≡ true) × (imageRefusal (now image) ≡ 0) × AllNumbered (now v) (meaning (now v)) ⌝ }
     ensures { λ _. ⌜ ((s : Store) → read (now (store .entry)) ≡ some s → s .vol ≡ meaning (now (v .entry)) → AllNumbered (now (v .exit)) (cleared (restWith (now (image .entry)) time s) (s .vol))) ⌝ }
 {
-    let old = state::slots::all_slots(v);
-    let new = every::rebuild_every(image, old, time);
-    let slots = new.slots;
-    state::slots::put_every(v, slots, new.count);
+    let n = read::word_at(store, table::SLOTS) as usize;
+    every::rebuild_every(image, store, table::SLOTS + 1, n, time, v);
     state::pending::drop_all(v);
     put_rules(store, image, v);
 }

@@ -1,4 +1,3 @@
 -- Laws that belong to no one function.
-pub mod Shape
 pub mod Slots
 pub mod Same

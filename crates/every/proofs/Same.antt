@@ -1,17 +1,21 @@
 -- Slots compared without their due times. Assumes nothing.
 use mathlib.Core.Path.{_≡_, refl, sym, ap, _∙_}
-use mathlib.Core.Bool.{Bool, true, false, _&&_}
-use mathlib.Core.List.{List, [], _∷_}
-use Prim.Native.Nat.{ℕ, suc, _+_, _≤_, _<_}
+use mathlib.Core.Bool.{Bool, true, false, cond, _&&_}
+use mathlib.Core.List.{List, [], _∷_, _++_, append-assoc, append-nil}
+use Prim.Native.Nat.{ℕ, zero, suc, _+_, _-_, _*_, _≤_, _<_}
 use native.Mathlib.Numerals.{add-one}
 use native.Mathlib.Omega.{arith}
-use lib.Dec.{eqb}
-use lib.ListN.{length, take, drop, getD, drop-of-length-le}
-use lib.Seq.{length-take-le, drop-cons, getD-take}
-use borrow.Author.Tests.{eq-eqb, ne-eqb}
+use lib.Dec.{leb, eqb, eqb·suc-zero}
+use lib.ListN.{length, drop, getD, length-drop, drop-of-length-le}
+use lib.Seq.{drop-cons}
+use borrow.Author.Tests.{eq-eqb, ne-eqb, le-leb, lt-leb, leb-true, leb-false}
 use Rattle.model.specs.declared.EverySlot.{EverySlot}
 use Rattle.model.specs.Slots.{sameSlot}
 use Rattle.model.specs.Store.{sameSlots}
+use Rattle.model.specs.Parts.{slotRow}
+use Rattle.rows.specs.Places.{rowAt, tableAt}
+use Rattle.every.specs.Agree.{sameFrom, Agrees}
+use Rattle.every.proofs.Slots.{Next, row-here, count}
 
 -- a slot against a rule, a place and a period
 module _ (x : EverySlot) (rule place period : ℕ) where
@@ -24,55 +28,89 @@ module _ (x : EverySlot) (rule place period : ℕ) where
   pub by-period : x .rule ≡ rule → x .place ≡ place → eqb (x .period) period ≡ sameSlot rule place period x
   by-period e f = rw (eq-eqb (x .rule) rule e, eq-eqb (x .place) place f)
 
--- lists of different lengths
-four : (a b c : Bool) → a && (b && (c && false)) ≡ false
-four false b c = refl
-four true false c = refl
-four true true false = refl
-four true true true = refl
-
-pub other-length : (xs ys : List EverySlot) → (length xs ≡ length ys → ⊥) → false ≡ sameSlots xs ys
-other-length [] [] h = absurd (h refl)
-other-length [] (y ∷ ys) h = refl
-other-length (x ∷ xs) [] h = refl
-other-length (x ∷ xs) (y ∷ ys) h = sym (rw (sym (other-length xs ys (λ e. h (ap suc e)))) (four (eqb (x .rule) (y .rule)) (eqb (x .place) (y .place)) (eqb (x .period) (y .period))))
-
-pub other-count : (n m : ℕ) (a b : List EverySlot) → n ≤ length a → m ≤ length b → (n ≡ m → ⊥) → false ≡ sameSlots (take n a) (take m b)
-other-count n m a b ha hb h = other-length (take n a) (take m b) (λ e. h (sym (length-take-le n a ha) ∙ e ∙ length-take-le m b hb))
-
+-- three tests, or one test of three parts
 three : (a b c d : Bool) → a && (b && (c && d)) ≡ (a && (b && c)) && d
 three false b c d = refl
 three true false c d = refl
 three true true c d = refl
 
--- the first n, from place i on
-abbrev pub sameFrom : ℕ → List EverySlot → List EverySlot → ℕ → Bool
-sameFrom n a b i = sameSlots (drop i (take n a)) (drop i (take n b))
+-- SLOTS ONE BY ONE ------------------------------------------------------------------------------------------------------------------------------
+-- past the last place nothing is the same
+past : (xs : List EverySlot) (j : ℕ) (ys : List EverySlot) → length xs < j → sameFrom xs j ys ≡ false
+unfolding sameFrom
+past xs j ys h = rw (lt-leb j (length xs) h)
 
-module _ (n : ℕ) (a b : List EverySlot) (ha : n ≤ length a) (hb : n ≤ length b) where
-  module _ (i : ℕ) (d : EverySlot) (h : i < n) where
-    abbrev x : EverySlot
-    x = getD a i d
+module _ (n : ℕ) (w : List ℕ) (k : ℕ) (few : n ≤ 64) where
+  abbrev xs : List EverySlot
+  xs = tableAt slotRow n w k
 
-    abbrev y : EverySlot
-    y = getD b i d
+  -- there is no slot at place j
+  pub none-there : (j : ℕ) (y : EverySlot) → n ≤ j → Agrees xs j (y ∷ []) 65
+  unfolding sameFrom
+  none-there j y h = record { all = λ rest. by rest (leb j (length xs)) refl ∙ sym (past xs 65 rest (omega (arith, count n w k))) }
+    where
+      by : (rest : List EverySlot) (b : Bool) → leb j (length xs) ≡ b → cond b (sameSlots (drop j xs) (y ∷ rest)) false ≡ false
+      by rest true e = let z : drop j xs ≡ [] = drop-of-length-le xs {i = j} (omega (arith, count n w k)) in rw z
+      by rest false e = refl
 
-    split : (l : List EverySlot) → n ≤ length l → drop i (take n l) ≡ getD l i d ∷ drop (i + 1) (take n l)
-    split l w = let size = length-take-le n l w in drop-cons (take n l) i d (omega arith) ∙ rw (getD-take n l i d h, add-one)
+  module _ (j rule place period due : ℕ) (h : j < n) where
+    abbrev here : EverySlot
+    here = rowAt slotRow w (k + j * 5)
 
-    one-slot : sameFrom n a b i ≡ sameSlot (y .rule) (y .place) (y .period) x && sameFrom n a b (i + 1)
-    one-slot = rw (split a ha, split b hb) (three (eqb (x .rule) (y .rule)) (eqb (x .place) (y .place)) (eqb (x .period) (y .period)) (sameFrom n a b (i + 1)))
+    split : drop j xs ≡ here ∷ drop (j + 1) xs
+    split =
+        let d = here in
+        drop-cons xs j d (omega (arith, count n w k)) ∙ rw (add-one, row-here n w k j d h)
 
-    pub slots-differ : sameSlot (y .rule) (y .place) (y .period) x ≡ false → sameFrom n a b i ≡ sameFrom n a b 0 → false ≡ sameSlots (take n a) (take n b)
-    slots-differ e inv = sym (sym inv ∙ one-slot ∙ rw e)
+    one : (rest : List EverySlot) → sameFrom xs j (record { rule = rule; place = place; period = period; due = due } ∷ rest) ≡ sameSlot rule place period here && sameSlots (drop (j + 1) xs) rest
+    unfolding sameFrom
+    one rest =
+        rw (le-leb j (length xs) (omega (arith, count n w k)), split)
+        (three (eqb (here .rule) rule) (eqb (here .place) place) (eqb (here .period) period) (sameSlots (drop (j + 1) xs) rest))
 
-    pub slots-agree : sameSlot (y .rule) (y .place) (y .period) x ≡ true → sameFrom n a b i ≡ sameFrom n a b 0 → sameFrom n a b (i + 1) ≡ sameFrom n a b 0
-    slots-agree e inv = sym (one-slot ∙ rw e) ∙ inv
+    pub slot-agrees : (x : EverySlot) → x ≡ here → sameSlot rule place period x ≡ true → Agrees xs j (record { rule = rule; place = place; period = period; due = due } ∷ []) (j + 1)
+    unfolding sameFrom
+    slot-agrees x e s = record { all = λ rest. one rest ∙ rw (← e, s, le-leb (j + 1) (length xs) (omega (arith, count n w k))) }
 
-  pub all-agree : (i : ℕ) → n ≤ i → sameFrom n a b i ≡ sameFrom n a b 0 → true ≡ sameSlots (take n a) (take n b)
-  all-agree i h inv =
-      let sa = length-take-le n a ha in
-      let sb = length-take-le n b hb in
-      let ea : drop i (take n a) ≡ [] = drop-of-length-le (take n a) {i = i} (omega arith) in
-      let eb : drop i (take n b) ≡ [] = drop-of-length-le (take n b) {i = i} (omega arith) in
-      sym (ap (λ (l : List EverySlot). sameSlots l (drop i (take n b))) ea ∙ ap (sameSlots []) eb) ∙ inv
+    pub slot-differs : (x : EverySlot) → x ≡ here → sameSlot rule place period x ≡ false → Agrees xs j (record { rule = rule; place = place; period = period; due = due } ∷ []) 65
+    slot-differs x e s = record { all = λ rest. one rest ∙ rw (← e, s) (sym (past xs 65 rest (omega (arith, count n w k)))) }
+
+  -- all slots are compared
+  pub compared : (r : ℕ) (ys : List EverySlot) (b : Bool) → b ≡ eqb r n → sameFrom xs 0 ys ≡ sameFrom xs r [] → b ≡ sameSlots xs ys
+  unfolding sameFrom
+  compared r ys b q e = q ∙ ends (leb r n) refl ∙ sym (rw (le-leb 0 (length xs) (omega arith), count n w k) at e)
+    where
+      nothing : (zs : List EverySlot) → sameSlots zs [] ≡ eqb (length zs) 0
+      nothing [] = refl
+      nothing (z ∷ zs) = sym (eqb·suc-zero (length zs))
+
+      same-test : (r n m : ℕ) → r + m ≡ n → eqb r n ≡ eqb m 0
+      same-test r n zero e = eq-eqb r n (omega arith)
+      same-test r n (suc m) e = ne-eqb r n (λ q. omega (arith, q)) ∙ sym (eqb·suc-zero m)
+
+      ends : (b : Bool) → leb r n ≡ b → eqb r n ≡ cond (leb r n) (sameSlots (drop r xs) []) false
+      ends true t =
+          let l = leb-true r n t in
+          let d : length (drop r xs) ≡ n - r = length-drop r xs ∙ rw (count n w k) in
+          rw t (same-test r n (length (drop r xs)) (omega (arith, d)) ∙ sym (nothing (drop r xs)))
+      ends false t = rw t (ne-eqb r n (λ q. omega (arith, q, leb-false r n t)))
+
+-- from place j on these slots are looked for; at place r those that are left
+pub record Going (xs : List EverySlot) (j : ℕ) (ys : List EverySlot) (r : ℕ) (left : List EverySlot) : Type 0 where
+  pub all : (rest : List EverySlot) → sameFrom xs j (ys ++ rest) ≡ sameFrom xs r (left ++ rest)
+
+pub compares-from : (xs : List EverySlot) (j : ℕ) (ys : List EverySlot) → Going xs j ys j ys
+compares-from xs j ys = record { all = λ rest. refl }
+
+module _ (xs : List EverySlot) (j : ℕ) (ys : List EverySlot) (r : ℕ) (left : List EverySlot) (inv : Going xs j ys r left) where
+  pub compares-on : (s : ℕ) (add after : List EverySlot) → Next left add after → Agrees xs r add s → Going xs j ys s after
+  compares-on s add after n a = record { all = λ rest. inv .all rest ∙ rw (n .parts, append-assoc add after rest) (a .all (after ++ rest)) }
+
+  pub compares-all : left ≡ [] → Agrees xs j ys r
+  compares-all e = record { all = λ rest. inv .all rest ∙ rw e }
+
+  pub compares-end : left ≡ [] → sameFrom xs j ys ≡ sameFrom xs r []
+  compares-end e = ap (sameFrom xs j) (sym (append-nil ys)) ∙ compares-all e .all []
+
+pub agrees-none : (xs : List EverySlot) (j : ℕ) (ys : List EverySlot) → ys ≡ [] → Agrees xs j ys j
+agrees-none xs j ys e = record { all = λ rest. rw e }

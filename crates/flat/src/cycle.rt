@@ -28,7 +28,7 @@ ghost use Rattle.flat.specs.Outcome.{Start, Behind, ListOut, ActOut, act
 pub fn flatten_list(
     acts: &[u32],
     blocks: &[u32],
-    calls: &[u32],
+    calls: &[u16],
     list: &mut [u32],
     body: &mut [u32],
     bodies: &mut [u32],
@@ -88,7 +88,7 @@ pub fn flatten_list(
 fn flatten_action(
     acts: &[u32],
     blocks: &[u32],
-    calls: &[u32],
+    calls: &[u16],
     list: &mut [u32],
     body: &mut [u32],
     bodies: &mut [u32],
@@ -186,7 +186,7 @@ fn flatten_action(
 fn flatten_after(
     acts: &[u32],
     blocks: &[u32],
-    calls: &[u32],
+    calls: &[u16],
     list: &mut [u32],
     body: &mut [u32],
     bodies: &mut [u32],
@@ -235,7 +235,7 @@ fn flatten_after(
 fn flatten_call(
     acts: &[u32],
     blocks: &[u32],
-    calls: &[u32],
+    calls: &[u16],
     list: &mut [u32],
     body: &mut [u32],
     bodies: &mut [u32],
@@ -279,7 +279,7 @@ fn flatten_call(
 fn flatten_repeat(
     acts: &[u32],
     blocks: &[u32],
-    calls: &[u32],
+    calls: &[u16],
     list: &mut [u32],
     body: &mut [u32],
     bodies: &mut [u32],
@@ -331,7 +331,7 @@ fn flatten_repeat(
 fn flatten_branch(
     acts: &[u32],
     blocks: &[u32],
-    calls: &[u32],
+    calls: &[u16],
     list: &mut [u32],
     body: &mut [u32],
     bodies: &mut [u32],

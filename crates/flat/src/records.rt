@@ -105,25 +105,25 @@ fn find_called(acts: &[u32], blocks: &[u32], i: usize) -> u32
     }
 }
 
-// Which block each action calls, looked up once for an image.
-pub fn find_calls(acts: &[u32], blocks: &[u32], calls: &mut [u32])
+// Which block each action calls, looked up once for an image. Tables of 4,096 words have no number above 512.
+pub fn find_calls(acts: &[u32], blocks: &[u32], calls: &mut [u16])
     requires { ⌜ (length (now acts) / 8 ≤ length (now calls)) × (length (now blocks) ≤ 4096) ⌝ }
     ensures { λ _. ⌜ Resolved (now (acts .entry)) (now (blocks .entry)) (now (calls .exit)) (length (now (acts .entry)) / 8) ⌝ }
 {
     let n = acts.len() / 8;
     let mut i = 0;
     while i < n {
-        calls[i] = find_called(acts, blocks, i);
+        calls[i] = find_called(acts, blocks, i) as u16;
         i += 1;
     }
 }
 
 // The block that the action in record i calls.
-pub fn called_block(blocks: &[u32], calls: &[u32], i: usize) -> Found
+pub fn called_block(blocks: &[u32], calls: &[u16], i: usize) -> Found
     requires { ⌜ (i < length (now calls)) × (getD (now calls) i 0 ≤ length (now blocks) / 8) ⌝ }
     ensures { λ r. ⌜ r ≡ blockAt (now (blocks .entry)) (getD (now (calls .entry)) i 0) ⌝ }
 {
-    let k = wide(calls[i]);
+    let k = calls[i] as usize;
     if k == 0 {
         return Found::Nothing;
     }

@@ -47,7 +47,7 @@ fn flatten_rule(
     acts: &[u32],
     blocks: &[u32],
     rules: &[u32],
-    calls: &[u32],
+    calls: &[u16],
     own: &mut [u32],
     body: &mut [u32],
     words: &mut [u32],
@@ -102,7 +102,7 @@ fn flatten_each(
     acts: &[u32],
     blocks: &[u32],
     rules: &[u32],
-    calls: &[u32],
+    calls: &[u16],
     own: &mut [u32],
     body: &mut [u32],
     words: &mut [u32],
@@ -168,7 +168,7 @@ fn flatten_tables(
     requires { ⌜ (length (now words) ≤ 8192) × (length (now seen) ≤ 8192) ⌝ }
     ensures { λ r. ⌜ Loading (flattenTables (now (acts .entry)) (now (blocks .entry)) (now (rules .entry)) depth limit) (now (seen .entry)) (now (words .exit)) (now (lists .exit)) r ⌝ }
 {
-    let mut calls = [0u32; 512];
+    let mut calls = [0u16; 512];
     find_calls(acts, blocks, &mut calls);
     let mut own = [0u32; 1072];
     let mut body = [0u32; 1072];

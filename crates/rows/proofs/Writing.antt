@@ -1,15 +1,15 @@
 -- Rows and tables written at places of the words. Assumes nothing.
 use mathlib.Core.Path.{_≡_, refl, sym, ap, _∙_}
 use mathlib.Core.List.{List, [], _∷_, _++_, append-assoc, append-nil}
-use Prim.Native.Nat.{ℕ, zero, suc, _+_, _-_, _*_, _≤_, _<_}
-use native.Mathlib.Nat.{add-zero, le-antisymm}
+use Prim.Native.Nat.{ℕ, zero, suc, _+_, _*_, _≤_, _<_}
+use native.Mathlib.Nat.{add-zero}
 use native.Mathlib.Numerals.{add-one}
 use native.Mathlib.Omega.{arith}
 use lib.ListN.{length, getD, take, drop, set, replicate, length-append, length-drop, length-replicate, replicate-append-replicate, take-append-drop}
 use lib.Seq.{take-at, take-suc, take-length, take-append-le, take-take, drop-at, drop-append-add, drop-drop, length-take-le, set-split}
 use Rattle.model.specs.Codec.{Row, wordsOf}
 use Rattle.model.proofs.RowLaws as row-laws
-use Rattle.rows.specs.Places.{laid, tableWords}
+use Rattle.rows.specs.Places.{laid}
 
 -- WORDS -------------------------------------------------------------------------------------------------------------------------------
 pub laid-long : (w : List ℕ) (k : ℕ) (vs : List ℕ) → k + length vs ≤ length w → length (laid w k vs) ≡ length w
@@ -115,14 +115,3 @@ module _ {A : Type 0} (r : Row A) (p : Long r) where
   goes w w₁ w₂ k j i a d h l e e₁ e₂ =
       let m = words-long (take i a) ∙ ap (λ (x : ℕ). x * n) (length-take-le i a (omega arith)) in
       lays w w₁ w₂ k j (wordsOf r (take i a)) (r .put (getD a i d)) h (e ∙ ap (λ (x : ℕ). k + x) (sym m)) e₁ e₂ ∙ ap (laid w k) (sym (words-more a i d l))
-
-  -- zeros behind the rows
-  pub ends : (w w₁ w₂ : List ℕ) (k j i m most z : ℕ) (a : List A) → k ≤ length w → i ≤ m → m ≤ i → m ≤ length a → j ≡ k + m * n → z ≡ (most - m) * n
-      → w₁ ≡ laid w k (wordsOf r (take i a)) → w₂ ≡ laid w₁ j (replicate z 0) → w₂ ≡ laid w k (tableWords r most (take m a))
-  unfolding tableWords
-  ends w w₁ w₂ k j i m most z a h il mi la e ez e₁ e₂ =
-      let f = length-take-le m a la in
-      let g = words-long (take m a) ∙ ap (λ (x : ℕ). x * n) f in
-      let e₁′ : w₁ ≡ laid w k (wordsOf r (take m a)) = rw (le-antisymm il mi) at e₁ in
-      lays w w₁ w₂ k j (wordsOf r (take m a)) (replicate z 0) h (e ∙ ap (λ (x : ℕ). k + x) (sym g)) e₁′ e₂
-      ∙ ap (λ (x : ℕ). laid w k (wordsOf r (take m a) ++ replicate x 0)) (ez ∙ ap (λ (x : ℕ). (most - x) * n) (sym f))

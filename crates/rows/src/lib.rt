@@ -1,6 +1,5 @@
 // Rows of words at places: what they say, and words that say a value. The rows are those of the layout of a store (model's `Parts`).
 pub mod put;
-pub mod put_tables;
 pub mod read;
 pub mod tables;
 

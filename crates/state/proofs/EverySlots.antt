@@ -1,37 +1,27 @@
 -- The Every slots. Assumes nothing.
 use mathlib.Core.Path.{_≡_, refl, sym, ap, subst, _∙_}
-use mathlib.Core.Bool.{true}
-use mathlib.Core.List.{List, [], _∷_, map}
+use mathlib.Core.List.{List, [], map}
 use Prim.Native.Nat.{ℕ, _+_, _*_, _≤_, _<_}
 use native.Mathlib.Omega.{arith}
-use lib.ListN.{length, getD, take, drop, set}
-use lib.Seq.{take-all, length-take-le}
-use borrow.Author.Tests.{le-leb}
+use lib.ListN.{length, getD, take, drop, set, replicate}
+use lib.Seq.{take-all}
 use borrow.Rule.Slice.PartMut.{putMid}
 use Rattle.model.specs.Codec.{most, wordsOf, allGood}
-use Rattle.model.specs.Parts.{any, slotRow, slotIs}
+use Rattle.model.specs.Parts.{slotRow, slotIs}
 use Rattle.model.specs.State.{withRest, withEvery}
 use Rattle.model.specs.Wheel.{moved}
 use Rattle.model.specs.declared.EverySlot.{EverySlot}
-use Rattle.model.proofs.Bools.{join}
 use Rattle.model.proofs.PartsLaws.{slot-laws}
-use Rattle.rows.specs.Places.{laid, rowAt, tableAt, tableWords}
-use Rattle.rows.proofs.Writing.{lays}
+use Rattle.rows.specs.Places.{laid, rowAt, tableAt}
 use Rattle.state.specs.Meaning.{Sound, Means, Holds, Counted, meaning, base, slotsPart, placeOf, wordsIn}
 use Rattle.state.proofs.Typed.{holds-get, holds-count, holds-few, holds-long, holds-set}
-use Rattle.state.proofs.Good.{Roomy, Words, words-front, words-back, words-laid, any-roomy, wide-roomy, ⊗-roomy, as-roomy}
+use Rattle.state.proofs.Good.{Roomy, Words, words-laid, any-roomy, wide-roomy, ⊗-roomy, as-roomy}
 use Rattle.state.proofs.Mapped.{Mapped, mapped-none, mapped-more, mapped-all}
 use Rattle.state.proofs.Held.{table-read, row-read}
 use Rattle.state.proofs.Frame.{part-is, part-word, table-lent, table-back, table-laid, slots-changed}
 
 pub slot-roomy : Roomy slotRow
 slot-roomy = as-roomy slotIs (⊗-roomy any-roomy (⊗-roomy any-roomy (⊗-roomy any-roomy wide-roomy)))
-
--- rows that were written
-rows-good : (l : List EverySlot) → Words (wordsOf slotRow l) → allGood slotRow l ≡ true
-unfolding wordsOf allGood
-rows-good [] h = refl
-rows-good (x ∷ l) h = join (slot-roomy .fits x (words-front (slotRow .put x) (wordsOf slotRow l) h)) (rows-good l (words-back (slotRow .put x) (wordsOf slotRow l) h))
 
 -- ONE AFTER THE OTHER ---------------------------------------------------------------------------------------------------------------------------
 abbrev get : List ℕ → List EverySlot
@@ -84,7 +74,7 @@ module _ (w : List ℕ) (s : Sound w) where
   unfolding meaning
   slots-are = ap (most 64 slotRow .get) (sym (part-is slotsPart (omega arith) w))
 
-  slots-hold : Holds 64 slotRow lent (meaning w .rest .every)
+  pub slots-hold : Holds 64 slotRow lent (meaning w .rest .every)
   slots-hold = rw slots-are at slots-lent
 
   pub slots-count : getD w (placeOf slotsPart) 0 ≡ length (meaning w .rest .every)
@@ -97,21 +87,17 @@ module _ (w : List ℕ) (s : Sound w) where
   pub slots-read : (n : ℕ) (l : List EverySlot) → n ≡ getD w (placeOf slotsPart) 0 → take n l ≡ tableAt slotRow n w (placeOf slotsPart + 1) → take n l ≡ meaning w .rest .every
   slots-read n l e f = f ∙ ap (λ (i : ℕ). tableAt slotRow i w (placeOf slotsPart + 1)) e ∙ table-read slotRow slot-laws 64 w (placeOf slotsPart) (wordsIn slotsPart) (meaning w .rest .every) slots-hold
 
+  -- the part comes back
+  pub slots-back : (p : List ℕ) (l : List EverySlot) → Holds 64 slotRow p l → Means (putMid (placeOf slotsPart) (wordsIn slotsPart) w p) (base w) (withRest (withEvery l (meaning w .rest)) (meaning w))
+  slots-back p l h = slots-changed w _ p s _ (table-back slotRow slot-laws slotsPart 64 (omega arith) refl w p _ s h) h
+
   pub slots-moved : (p : List ℕ) (time : ℕ) → Holds 64 slotRow p (map (moved time) (most 64 slotRow .get lent))
       → Means (putMid (placeOf slotsPart) (wordsIn slotsPart) w p) (base w) (withRest (withEvery (map (moved time) (meaning w .rest .every)) (meaning w .rest)) (meaning w))
-  slots-moved p time h =
-      let g : Holds 64 slotRow p (map (moved time) (meaning w .rest .every)) = rw slots-are at h in
-      slots-changed w _ p s _ (table-back slotRow slot-laws slotsPart 64 (omega arith) refl w p _ s g) g
+  slots-moved p time h = slots-back p (map (moved time) (meaning w .rest .every)) (rw slots-are at h)
 
-  -- all are written anew
-  pub slots-put : (slots : List EverySlot) (n : ℕ) (w₁ w₂ : List ℕ) → length slots ≡ 64 → n ≤ 64 → w₁ ≡ laid w (placeOf slotsPart) (any .put n) → w₂ ≡ laid w₁ (placeOf slotsPart + 1) (tableWords slotRow 64 (take n slots)) → Words w₂
-      → Means w₂ (base w) (withRest (withEvery (take n slots) (meaning w .rest)) (meaning w))
-  unfolding tableWords
-  slots-put slots n w₁ w₂ long few e₁ e₂ words =
-      let l : List EverySlot = take n slots in
-      let m : length l ≡ n = length-take-le n slots (omega arith) in
-      let e : w₂ ≡ laid w (placeOf slotsPart) (most 64 slotRow .put l) =
-      lays w w₁ w₂ (placeOf slotsPart) (placeOf slotsPart + 1) (n ∷ []) (tableWords slotRow 64 l) (omega (arith, s .long)) refl e₁ e₂ ∙ ap (λ (k : ℕ). laid w (placeOf slotsPart) (k ∷ tableWords slotRow 64 l)) (sym m) in
-      let put = words-laid w (placeOf slotsPart) (most 64 slotRow .put l) w₂ e words in
-      let h : Holds 64 slotRow (most 64 slotRow .put l) l = record { words = refl; good = join (le-leb (length l) 64 (omega arith)) (rows-good l (words-front (wordsOf slotRow l) _ (put .1))) } in
-      rw e (slots-changed w _ _ s l (table-laid slotRow slot-laws slotsPart 64 (omega arith) refl w _ l s h) h)
+  -- none are left
+  pub slots-none : (w₁ : List ℕ) → w₁ ≡ laid w (placeOf slotsPart) (replicate (wordsIn slotsPart) 0) → Means w₁ (base w) (withRest (withEvery [] (meaning w .rest)) (meaning w))
+  unfolding wordsOf allGood
+  slots-none w₁ e =
+      let h : Holds 64 slotRow (replicate (wordsIn slotsPart) 0) [] = record { words = refl; good = refl } in
+      rw e (slots-changed w _ _ s [] (table-laid slotRow slot-laws slotsPart 64 (omega arith) refl w _ [] s h) h)

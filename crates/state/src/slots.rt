@@ -4,9 +4,9 @@ use crate::place;
 use model::EverySlot;
 use rows::SLOT_WORDS;
 ghost use mathlib.Core.Path.{_≡_};
-ghost use mathlib.Core.List.{map};
-ghost use Prim.Native.Nat.{_≤_};
-ghost use lib.ListN.{take};
+ghost use mathlib.Core.List.{[], _∷_, _++_, map};
+ghost use Prim.Native.Nat.{_≤_, _<_};
+ghost use lib.ListN.{getD, take};
 ghost use Rattle.model.specs.Codec.{most};
 ghost use Rattle.model.specs.Parts.{slotRow};
 ghost use Rattle.model.specs.State.{withRest, withEvery};
@@ -85,21 +85,20 @@ pub fn due_slots(v: &[u32], time: u64) -> SlotList
     keep_due(slots, n, time)
 }
 
-// All slots, in their order.
-pub fn all_slots(v: &[u32]) -> SlotList
-    requires { ⌜ Sound (now v) ⌝ }
-    ensures { λ r. ⌜ (take (r .count) (r .slots) ≡ meaning (now (v .entry)) .rest .every) × (r .count ≤ 64) ⌝ }
+// A slot joins behind the others.
+pub fn join(t: &mut [u32], x: EverySlot)
+    requires { ⌜ Counted 64 slotRow (now t) × (getD (now t) 0 0 < 64) ⌝ }
+    ensures { λ _. ⌜ Holds 64 slotRow (now (t .exit)) (most 64 slotRow .get (now (t .entry)) ++ (x ∷ [])) ⌝ }
 {
-    let count = v[place::SLOTS] as usize;
-    let slots = rows::tables::slots_at(v, place::SLOTS + 1, count);
-    SlotList { slots, count }
+    let n = t[0] as usize;
+    rows::put::put_slot(t, 1 + n * SLOT_WORDS, x);
+    t[0] = n as u32 + 1;
 }
 
-// The first n of these slots are all that there are.
-pub fn put_every(v: &mut [u32], slots: [EverySlot; 64], n: usize)
-    requires { ⌜ Sound (now v) × (n ≤ 64) ⌝ }
-    ensures { λ _. ⌜ Means (now (v .exit)) (base (now (v .entry))) (withRest (withEvery (take n slots) (meaning (now (v .entry)) .rest)) (meaning (now (v .entry)))) ⌝ }
+// No slot is left.
+pub fn drop_every(v: &mut [u32])
+    requires { ⌜ Sound (now v) ⌝ }
+    ensures { λ _. ⌜ Means (now (v .exit)) (base (now (v .entry))) (withRest (withEvery [] (meaning (now (v .entry)) .rest)) (meaning (now (v .entry)))) ⌝ }
 {
-    rows::put::put_word(v, place::SLOTS, n as u32);
-    rows::put_tables::put_slots(v, place::SLOTS + 1, slots, n);
+    rows::put::clear(v, place::SLOTS, place::PENDING - place::SLOTS);
 }

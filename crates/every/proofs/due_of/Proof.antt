@@ -2,38 +2,38 @@
 use Prim.Native.Nat.{_≤_, _-_}
 use mathlib.Core.Path.{_≡_, sym, _∙_}
 use mathlib.Core.Option.{none}
-use lib.ListN.{length, take}
+use lib.ListN.{take}
 use native.Mathlib.Omega.{arith}
 use borrow.Author.Needs.{needs}
 use Rattle.model.specs.Lists.{find}
+use Rattle.model.specs.Parts.{slotRow}
 use Rattle.model.specs.Slots.{sameSlot}
-use Rattle.state.proofs.Found.{goes-on}
-use Rattle.every.proofs.Shape.{within}
-use Rattle.every.proofs.Slots.{due-kept, due-fresh}
+use Rattle.rows.specs.Places.{tableAt}
+use Rattle.every.proofs.Slots.{due-kept, not-here, due-fresh}
 use Rattle.every.proofs.due_of.Statement.{statement}
 use Rattle.every.proofs.due_of.Tie as tie
 
 abbrev Inv-loop : tie.InvT-loop
-Inv-loop rule place period fresh old n i₀ i = (i ≤ n) × (n ≤ length (old .slots)) × (find (sameSlot rule place period) (take i (old .slots)) ≡ none)
+Inv-loop words k n rule place period fresh i₀ i = (i ≤ n) × (find (sameSlot rule place period) (take i (tableAt slotRow n words k)) ≡ none)
 
 abbrev μ-loop : tie.MeasureT-loop
-μ-loop rule place period fresh old n i₀ i = n - i
+μ-loop words k n rule place period fresh i₀ i = n - i
 
 loop-holds : tie.Need-loop-holds Inv-loop μ-loop
-loop-holds c = (omega arith, within (c .args .t1) (c .good .0) (c .pre), search needs)
+loop-holds c = (omega arith, search needs)
 
 returns : tie.Need-returns Inv-loop μ-loop
 returns c =
-    let t = c .before .before .before .before in
-    due-kept _ _ _ _ _ (t .loop .inv .2) _ (c .before .before .before .loop-test .taken) (t .loop .inv .1) (sym (c .before .same-slot .ensures) ∙ c .if1 .taken)
+    let l = c .before .before .before .before in
+    due-kept _ _ _ _ _ _ (l .loop .inv .1) (c .before .before .before .loop-test .taken) (c .before .before .slot-at .ensures) _ (sym (c .before .same-slot .ensures) ∙ c .if1 .taken)
 
 loop-again : tie.Need-loop-again Inv-loop μ-loop
 loop-again c =
-    let t = c .before .before .before .before in
-    (omega arith, t .loop .inv .1, goes-on _ _ _ _ _ (t .loop .inv .2) (c .before .before .before .loop-test .taken) (t .loop .inv .1) (sym (c .before .same-slot .ensures) ∙ c .if1 .left))
+    let l = c .before .before .before .before in
+    (omega arith, not-here _ _ _ _ _ _ (l .loop .inv .1) (c .before .before .before .loop-test .taken) (c .before .before .slot-at .ensures) (sym (c .before .same-slot .ensures) ∙ c .if1 .left))
 
 returns-2 : tie.Need-returns-2 Inv-loop μ-loop
-returns-2 c = due-fresh _ _ _ _ _ (c .before .loop .inv .2) (c .before .loop .inv .0) (c .loop-test .left)
+returns-2 c = due-fresh _ _ _ _ _ _ (c .before .loop .inv .1) (c .before .loop .inv .0) (c .loop-test .left)
 
 pub due-of-spec : {M : Type 1} → statement M
 due-of-spec =
@@ -44,6 +44,7 @@ due-of-spec =
     loop-holds
     (λ c. search needs)
     (λ c. search needs)
+    (λ c κs. search needs)
     (λ c κs. search needs)
     returns
     (λ c. search needs)

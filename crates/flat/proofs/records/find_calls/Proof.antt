@@ -40,6 +40,9 @@ loop-holds c = let a = c .before .before .before .args in (refl, none-yet (a .ac
 find-called-requires : tie.Need-find-called-requires Inv-loop μ-loop
 find-called-requires c κs = (c .loop-test .taken, c .before .before .before .before .before .pre .1)
 
+cast-calls : tie.Need-cast-calls Inv-loop μ-loop
+cast-calls c = omega (arith, c .find-called .ensures .1, c .before .before .before .before .before .before .pre .1)
+
 mul-calls : tie.Need-mul-calls Inv-loop μ-loop
 mul-calls c = search needs
 
@@ -77,6 +80,7 @@ find-calls-spec =
     μ-loop
     loop-holds
     find-called-requires
+    cast-calls
     mul-calls
     slice-write-calls
     add-i
