@@ -1,7 +1,7 @@
 /*
  * Cerambiu: a rules engine for the lighting of poultry houses, proved. This is its C interface: eight calls over words that the caller lends, one
- * that says what starts next by the wall clock, one that makes of a tick's effects the list to be sent on the bus, and one that reads a line of a
- * crontab into triggers.
+ * that says what starts next by the wall clock, one that makes of a tick's effects the list to be sent on the bus, one that reads a line of a
+ * crontab into triggers, and one that tells how much room an image needs.
  *
  * Link target/staticlib/libcerambiu.a (`rt staticlib cerambiu`; 90 KiB of code and constants). The library keeps nothing between calls, allocates
  * nothing, reads no clock, calls nothing but memcpy, memmove and memset, and every call returns. All that it remembers of a house is in one store
@@ -15,7 +15,7 @@
  *             bytes.
  *   threads   Two calls may run at once if they share no store that either of them writes.
  *   stack     In bytes, at most, for every input, on x86-64: tick 29,432, load 25,000, run 24,440, next_deadline 24,376, enable 24,360,
- *             unload 24,344, counters 19,160, next_start 19,160, crontab 616, telegrams 88, new 40. The gate computes them from the machine code. The return address is in;
+ *             unload 24,344, counters 19,160, next_start 19,160, room 18,808, crontab 616, telegrams 88, new 40. The gate computes them from the machine code. The return address is in;
  *             not in: what memcpy, memmove and memset use, the arguments that the caller pushes, the dynamic linker, interrupts
  *             (docs/PERFORMANCE.md, "Stack").
  *   refusals  Each call returns 0, or the number of a refusal: the lowest that applies. A refused call has changed nothing: the store is as
@@ -58,10 +58,11 @@ extern "C" {
 #define CERAMBIU_CRONTAB_MAX_TRIGGERS 1440 /* a line of a crontab has at most one for each minute of a day */
 
 /* A run has at most 1 outcome. A tick has at most 1,184: 32 continuations, 16 timers for 64 rules each, 64 Every slots, 64 rules by the wall
- * clock. An outcome has at most as many effects as the image's budget B (1 to 256): a tick has at most 1,184 * B effects, and an image of 365 words
- * is known whose tick has 51,200 (examples/c/room.c). A call that needs more room than was lent is refused with 30 and can be made again with more;
- * with no more the later ticks are refused too, since what is due stays due. Lend for the largest B that you let a rule author use. */
+ * clock. An outcome has at most as many effects as the image's budget (1 to 256), and a tick at most 59,360 for any image. What the set of an image can need,
+ * which is mostly far less, cerambiu_room tells before it is loaded. A call that needs more room than was lent is refused with 30 and can be made again with
+ * more; with no more the later ticks are refused too, since what is due stays due. So lend what cerambiu_room tells, or do not load (examples/c/room.c). */
 #define CERAMBIU_TICK_MAX_OUTCOMES 1184
+#define CERAMBIU_TICK_MAX_EFFECTS 59360
 #define CERAMBIU_OUTCOME_MAX_EFFECTS 256
 
 /* Values of each call that has any. */
@@ -73,6 +74,7 @@ extern "C" {
 #define CERAMBIU_NEXT_START_VALUES 3 /* see enum cerambiu_next_start_mark; minutes, rule */
 #define CERAMBIU_TELEGRAMS_VALUES 2 /* number of effects kept, low word and high word */
 #define CERAMBIU_CRONTAB_VALUES 1   /* number of triggers */
+#define CERAMBIU_ROOM_VALUES 2      /* outcomes, effects */
 
 /* REFUSALS, and who can cause each ------------------------------------------------------------------------------------------------- */
 
@@ -83,7 +85,7 @@ enum cerambiu_refusal {
     CERAMBIU_STORE_SIZE = 1,     /* any call: the store is not 16,384 words */
     CERAMBIU_STORE_RULE = 2,     /* any call but new: the store breaks a store rule (docs/STORE.md, document 01); make it new */
 
-    /* the rule author: load alone */
+    /* the rule author: load and room */
     CERAMBIU_IMAGE_SIZE = 10,    /* under 13 or over 4,096 words */
     CERAMBIU_IMAGE_LIMIT = 11,   /* a limit of the trailer out of range */
     CERAMBIU_IMAGE_TABLE = 12,   /* a table out of place, or no whole number of records */
@@ -99,7 +101,7 @@ enum cerambiu_refusal {
     CERAMBIU_SNAPSHOT_ROWS = 22,  /* two rows of one table with equal address */
 
     /* the host: tick and run */
-    CERAMBIU_NO_ROOM = 30,       /* more outcomes or effects than the lent stores hold */
+    CERAMBIU_NO_ROOM = 30,       /* more outcomes or effects than the lent stores hold; never where what cerambiu_room tells is lent */
     CERAMBIU_NO_NUMBER = 31,     /* the call's continuations would take the next sequence number past 2^64 - 1 */
     CERAMBIU_NO_ACTIVATION_NUMBER = 32, /* the call's activations would take the last activation number past 2^64 - 1 */
 
@@ -421,6 +423,11 @@ uint32_t cerambiu_telegrams(const uint32_t *effects, size_t effect_words, uint32
  * Refusals: 50 to 52. Time: some 90 readings of the line, and the words of the answer. */
 uint32_t cerambiu_crontab(const uint8_t *line, size_t line_bytes, uint32_t sunday, uint32_t *triggers, size_t trigger_words, uint32_t *answer,
                           size_t answer_words);
+
+/* How much a tick or a run can give at the most while this image is loaded, in any store and with any snapshot. Asks no store. Answer: outcomes, effects. Who
+ * lends CERAMBIU_OUTCOME_WORDS and CERAMBIU_EFFECT_WORDS times as many words, or more, to every tick and run is never refused with 30; a unit that has less does
+ * not load the image. Refusals: 10 to 17, as load. */
+uint32_t cerambiu_room(const uint32_t *image, size_t image_words, uint32_t *answer, size_t answer_words);
 
 #ifdef __cplusplus
 }

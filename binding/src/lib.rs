@@ -1,4 +1,4 @@
-//! The eight proved calls, the next start, the list of telegrams and the reader of crontab lines over word slices: `include/cerambiu.h`, which says what the words mean, in safe Rust.
+//! The eight proved calls, the next start, the list of telegrams, the reader of crontab lines and the room that an image needs over word slices: `include/cerambiu.h`, which says what the words mean, in safe Rust.
 //!
 //! The functions of this module give Rust values. Those of [`words`] are the C functions as they are, with the lent words of the answer.
 
@@ -122,6 +122,14 @@ pub fn crontab(line: &[u8], sunday: u32, triggers: &mut [u32]) -> Result<u32, Re
     accepted(number, answer[0])
 }
 
+/// How many outcomes and effects a tick or a run can give at the most while this image is loaded. Who lends [`OUTCOME_WORDS`] and [`EFFECT_WORDS`]
+/// times as many words is never refused with 30.
+pub fn room(image: &[u32]) -> Result<Handled, Refused> {
+    let mut answer = [0; 2];
+    let number = words::room(image, &mut answer);
+    accepted(number, Handled { outcomes: answer[0], effects: answer[1] })
+}
+
 #[cfg(test)]
 mod tests {
     use super::*;
@@ -201,6 +209,30 @@ mod tests {
         assert_eq!(list, [0; 12]);
         assert_eq!(telegrams(&effects[1..], &mut list), Err(Refused(60)));
         assert_eq!(telegrams(&[], &mut []), Ok(0));
+    }
+
+    #[test]
+    fn the_room_that_an_image_needs() {
+        // No trigger: 32 continuations, each of which stands in a list of 3 steps.
+        let room = Handled { outcomes: 32, effects: 96 };
+        assert_eq!(super::room(&IMAGE), Ok(room));
+        assert_eq!(super::room(&IMAGE[..12]), Err(Refused(10)));
+        let (mut store, mut answer) = ([0; STORE_WORDS], [7; 3]);
+        assert_eq!(words::room(&IMAGE, &mut answer), 0);
+        assert_eq!(answer, [32, 96, 0]);
+        assert_eq!(words::room(&[], &mut answer), 10);
+        assert_eq!(answer, [0; 3]);
+        let mut outcomes = vec![0; room.outcomes as usize * OUTCOME_WORDS];
+        let mut effects = vec![0; room.effects as usize * EFFECT_WORDS];
+        assert_eq!(new(&mut store, 0), Ok(()));
+        assert_eq!(load(&mut store, 0, &IMAGE), Ok(()));
+        for _ in 0..40 {
+            let ran = run(&mut store, 5, false, &snapshot(0), &mut outcomes, &mut effects);
+            assert_eq!(ran, Ok(Handled { outcomes: 1, effects: 1 }));
+        }
+        let due = tick(&mut store, &snapshot(1000), &mut outcomes, &mut effects);
+        assert_eq!(due, Ok(Handled { outcomes: 32, effects: 32 }));
+        assert_eq!(tick(&mut store, &snapshot(0), &mut outcomes[..1], &mut []), Ok(Handled { outcomes: 0, effects: 0 }));
     }
 
     #[test]

@@ -81,6 +81,7 @@ mod c {
             answer: *mut u32,
             answer_words: usize,
         ) -> u32;
+        pub fn cerambiu_room(image: *const u32, image_words: usize, answer: *mut u32, answer_words: usize) -> u32;
     }
 }
 
@@ -209,4 +210,10 @@ pub fn crontab(line: &[u8], sunday: u32, triggers: &mut [u32], answer: &mut [u32
             answer.len(),
         )
     }
+}
+
+/// Values: outcomes and effects, in records.
+pub fn room(image: &[u32], answer: &mut [u32]) -> u32 {
+    // SAFETY: as above.
+    unsafe { c::cerambiu_room(image.as_ptr(), image.len(), answer.as_mut_ptr(), answer.len()) }
 }

@@ -1,6 +1,7 @@
 //! `comparison HISTORIES SWEEPS SEED`: the proved functions beside the oracle, over so many generated histories.
 //!
-//! - Refusals: their images and snapshots, valid and hostile, and so many of the accepted ones varied word by word and cut at every length.
+//! - Refusals: their images and snapshots, valid and hostile, and so many of the accepted ones varied word by word and cut at every length; and the room
+//!   that each image needs.
 //! - Evaluation: every condition and value of an image, in random and in the histories' snapshots and stores, with the table of what was met.
 //! - Stores: the proved check beside a reader of the words, on the histories' stores and with every word of good stores changed, one at
 //!   a time, with the table of the rules that are then broken; and the time of a check of a full store beside a sum of its words.
@@ -21,6 +22,7 @@ mod good_stores;
 mod kept;
 mod proved;
 mod refusals;
+mod room;
 mod sleeping;
 mod small_stack;
 mod speed;

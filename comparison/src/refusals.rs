@@ -9,6 +9,7 @@ use oracle::house::Call;
 
 use crate::flat_form;
 use crate::proved;
+use crate::room;
 use crate::worst;
 
 /// What is put in the place of each word of an accepted image or snapshot, beside its neighbours.
@@ -47,6 +48,11 @@ impl Tally {
         };
         *slowest = took.max(*slowest);
         self.count("image", proved, check::image_refusal(image).unwrap_or(0), image);
+        *self.answers.entry(("room", proved)).or_insert(0) += 1;
+        if let Err(text) = room::told(image) {
+            self.differences += 1;
+            println!("{text}: {image:?}");
+        }
         if proved == 0 {
             let oracle = check::flat_size(image).map_or(u32::MAX, |size| size.stored as u32);
             let stored = proved::flat_steps(image) as u32;

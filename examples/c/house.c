@@ -31,8 +31,9 @@ static const uint32_t image[] = {
 
 /* THE HOST. Kept are the store, and behind it the time and the minute of the last tick, and what each light was last told. */
 enum { NOW = CERAMBIU_STORE_WORDS, MINUTE = NOW + 2, LIGHTS };
-/* Room for 32 outcomes of 16 effects, the image's budget: more than five rules can have in a tick. */
-static uint32_t kept[HOUSE_WORDS], outcomes[32 * CERAMBIU_OUTCOME_WORDS], effects[32 * 16 * CERAMBIU_EFFECT_WORDS];
+/* The room that the unit has, and lends to every tick and run: what these rules need (cerambiu_room), and some more. */
+enum { MOST_OUTCOMES = 64, MOST_EFFECTS = 512 };
+static uint32_t kept[HOUSE_WORDS], outcomes[MOST_OUTCOMES * CERAMBIU_OUTCOME_WORDS], effects[MOST_EFFECTS * CERAMBIU_EFFECT_WORDS];
 static uint64_t now_at_boot;
 static uint32_t minute_at_boot, told[TARGETS];
 static bool to_save;
@@ -92,6 +93,13 @@ static void catch_up(uint64_t now, uint32_t at)
     }
 }
 
+/* Whether the unit can lend what the rules may need. If not they are not loaded: so no call is ever refused for lack of room. */
+static bool has_room(void)
+{
+    uint32_t room[CERAMBIU_ROOM_VALUES];
+    return cerambiu_room(image, COUNT(image), room, COUNT(room)) == CERAMBIU_OK && room[0] <= MOST_OUTCOMES && room[1] <= MOST_EFFECTS;
+}
+
 /* Restores, and loads only where there is nothing to restore: then as if a day ago, so that the first turn goes through the last day and the lights
  * are right at once. */
 void house_boot(void)
@@ -102,7 +110,7 @@ void house_boot(void)
         memset(kept, 0, sizeof kept);
         kept[NOW] = (uint32_t)then;
         kept[NOW + 1] = (uint32_t)(then >> 32);
-        if (cerambiu_new(kept, CERAMBIU_STORE_WORDS, then) || cerambiu_load(kept, CERAMBIU_STORE_WORDS, then, image, COUNT(image))) {
+        if (!has_room() || cerambiu_new(kept, CERAMBIU_STORE_WORDS, then) || cerambiu_load(kept, CERAMBIU_STORE_WORDS, then, image, COUNT(image))) {
             site_fault("the rules were refused");
         }
     }

@@ -22,10 +22,10 @@
 #define PATTERN 0xa5
 #define OWN_BYTES 256 /* for the frame that measures */
 
-enum call { NEW, LOAD, UNLOAD, ENABLE, RUN, DRY_RUN, TICK, NEXT_DEADLINE, COUNTERS, NEXT_START, TELEGRAMS, CRONTAB };
+enum call { NEW, LOAD, UNLOAD, ENABLE, RUN, DRY_RUN, TICK, NEXT_DEADLINE, COUNTERS, NEXT_START, TELEGRAMS, CRONTAB, ROOM };
 
 static const char *const names[] = { "new", "load", "unload", "enable", "run", "dry run", "tick", "next_deadline", "counters", "next_start",
-                                     "telegrams", "crontab" };
+                                     "telegrams", "crontab", "room" };
 
 static uint32_t store[CERAMBIU_STORE_WORDS], image[CERAMBIU_IMAGE_MAX_WORDS];
 static size_t image_words;
@@ -51,6 +51,7 @@ static void make(enum call which)
     case NEXT_START: refusal = cerambiu_next_start(store, n, snapshot, s, answer, a); break;
     case TELEGRAMS: refusal = cerambiu_telegrams(effects, es, list, COUNT(list), answer, a); break;
     case CRONTAB: refusal = cerambiu_crontab(line, sizeof(line), 6, list, COUNT(list), answer, a); break;
+    case ROOM: refusal = cerambiu_room(image, image_words, answer, a); break;
     }
 }
 
@@ -204,7 +205,7 @@ static void measure_all(size_t bytes[])
     needs(LOAD);
     look(0, 719);
     needs(TICK);
-    for (enum call which = ENABLE; which <= CRONTAB; which++) {
+    for (enum call which = ENABLE; which <= ROOM; which++) {
         look(which == TICK ? 2000 : 100, which == TICK ? 720 : 719);
         bytes[which] = needs(which);
     }
@@ -229,6 +230,7 @@ static void all_fit(void)
     fits(NEXT_START);
     fits(TELEGRAMS);
     fits(CRONTAB);
+    fits(ROOM);
     fits(UNLOAD);
 }
 
@@ -249,7 +251,7 @@ int main(void)
     for (size_t which = 0; which < COUNT(names); which++) {
         printf("%-14s %12zu %12zu %12zu\n", names[which], bytes[0][which], bytes[1][which], bytes[2][which]);
     }
-    printf("on 64 KB of stack, with each image: new, load, load again, tick, enable, run, dry run, tick, next_deadline, counters, next_start, telegrams, crontab, unload .. ");
+    printf("on 64 KB of stack, with each image: new, load, load again, tick, enable, run, dry run, tick, next_deadline, counters, next_start, telegrams, crontab, room, unload .. ");
     fflush(stdout);
     for (size_t i = 0; i < COUNT(images); i++) {
         images[i]();

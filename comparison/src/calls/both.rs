@@ -7,6 +7,7 @@ use super::house::{expected, House, Lent, Seen};
 use super::starts;
 use super::tally::Tally;
 use crate::kept::{Place, Player};
+use crate::room::{self, Room};
 use crate::store::{Store, PENDING_WORDS, WORDS};
 
 /// What a fresh house of the oracle lends.
@@ -36,6 +37,8 @@ pub struct Both<'a> {
     tally: &'a mut Tally,
     /// Whether a set was loaded that fits only by sharing.
     pub shares: bool,
+    /// What the loaded set was told to need.
+    told: Room,
 }
 
 impl<'a> Both<'a> {
@@ -44,7 +47,7 @@ impl<'a> Both<'a> {
         let mut random = Random::new(seed);
         let counted = if random.once_in(8) { u32::MAX - random.below(8) } else { 0 };
         let ahead = vec![(0, 0)];
-        let mut both = Both { player, house, lent: LARGE, ahead, counted, renumbered: false, random, tally, shares: false };
+        let mut both = Both { player, house, lent: LARGE, ahead, counted, renumbered: false, random, tally, shares: false, told: Room::default() };
         both.fill_counters();
         both
     }
@@ -114,6 +117,7 @@ impl<'a> Both<'a> {
         if let Answer::Counters(counters) = &mut answer {
             counters[..COUNTERS.len()].iter_mut().for_each(|counter| *counter = counter.saturating_add(self.counted));
         }
+        self.told.see(call, &answer, &mut self.tally.rooms)?;
         if let Some(lent) = self.one_word_less(&answer) {
             self.compare(call, &Answer::Refused(30), lent)?;
         }
@@ -203,11 +207,15 @@ impl<'a> Both<'a> {
         ask(counted == Some(last), || format!("{call:?}: the last number is {last}, activations_total of the Rust {counted:?}"))
     }
 
-    /// Room for the answer: exactly what a script lends, else enough and little more.
+    /// Room for the answer: exactly what a script lends, now and then exactly what the loaded set was told to need, else enough and little more.
     fn room(&mut self, answer: &Answer) -> Lent {
         let words = self.random.below(20) as usize;
         if self.lent.outcomes < LARGE.outcomes || matches!(answer, Answer::Refused(30..=32)) {
             return Lent { answer: words, ..self.lent };
+        }
+        if let Some(lent) = self.told.lent(words).filter(|_| self.random.once_in(4)) {
+            self.tally.rooms[room::LENT] += u64::from(matches!(answer, Answer::Outcomes { .. }));
+            return lent;
         }
         let (outcomes, effects) = match answer {
             Answer::Outcomes { list, .. } => needed(list),

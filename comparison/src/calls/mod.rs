@@ -14,8 +14,9 @@
 //! Of each call: number, values, outcomes, effects, all words of the store, and that a refusal changed nothing and left zeros. Behind each the
 //! Rust is asked whether its memory of chains shows, in its counter, a reason or the depth of a continuation (document 02's request 9): that
 //! would be a difference too. Of the numbers of activations, which the Rust has not (request 6), the last one is held to its
-//! `activations_total`. Prints each difference, the counts, and what was met; its status is 1 if there is a difference or a cell that
-//! can be reached is empty.
+//! `activations_total`. Of each image that is loaded: the room that it needs, which no tick or run passes, in the Rust as in the proved
+//! calls (`room`). Prints each difference, the counts, and what was met; its status is 1 if there is a difference or a cell that can be
+//! reached is empty.
 
 mod both;
 mod due;
@@ -207,7 +208,7 @@ impl Calls {
         let whole = self.tally.report() && !self.empty;
         let calls = format!("calls: {} calls, {} differences", self.tally.calls, self.differences);
         let tally = &self.tally;
-        let parts = [tally.wheels(), tally.percents(), tally.sharing(), tally.due(), tally.chains(), tally.numbered()];
+        let parts = [tally.wheels(), tally.percents(), tally.sharing(), tally.due(), tally.chains(), tally.numbered(), tally.rooms()];
         println!("{calls}; {}", parts.join("; "));
         whole && self.differences == 0
     }

@@ -7,6 +7,7 @@ use oracle::house::{Answer, Call};
 use super::due::{self, Due};
 use super::sharing::{self, Sharing};
 use super::starts::{self, Starts};
+use crate::room;
 use crate::store::{Store, MOST_PENDING, MOST_SLOTS, MOST_TIMERS, MOST_VARIABLES, RULES};
 
 /// The eight calls, and the next start.
@@ -78,6 +79,8 @@ pub struct Tally {
     pub starts: Starts,
     /// Ticks with many continuations due.
     pub due: Due,
+    /// What sets were told to need, and what their ticks and runs gave.
+    pub rooms: [u64; room::CELLS.len()],
     answers: BTreeMap<(usize, u32), u64>,
     /// Of what a call said yes, no, a time or none.
     said: BTreeMap<&'static str, u64>,
@@ -145,6 +148,10 @@ impl Tally {
         format!("{many} ticks with 20 to 31 continuations due, {all} with 32")
     }
 
+    pub fn rooms(&self) -> String {
+        format!("{} ticks and runs within the room that their set is told, {} of them lent it exactly", self.rooms[room::WITHIN], self.rooms[room::LENT])
+    }
+
     /// An answer with no values: a refusal.
     pub fn count(&mut self, call: usize, number: u32) {
         self.calls += 1;
@@ -183,6 +190,7 @@ impl Tally {
         empty += named_row("starts", &starts::CELLS, &self.starts.counts);
         empty += usize::from(self.sharing.histories <= sharing::LEAST);
         empty += named_row("due", &due::CELLS, &self.due.counts);
+        empty += named_row("room", &room::CELLS, &self.rooms);
         let most: Vec<u64> = self.most.iter().map(|count| *count as u64).collect();
         named_row("most", &TABLES, &most);
         empty += self.most.iter().zip(FULL).filter(|(most, full)| *most != full).count();

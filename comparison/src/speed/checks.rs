@@ -47,11 +47,12 @@ impl<'a> Words<'a> {
         Some(Words { image, snapshot, store })
     }
 
-    fn checks(&self) -> [Check<'a>; 5] {
+    fn checks(&self) -> [Check<'a>; 6] {
         let check = |name, words, passes| Check { name, words, passes };
         [
             check("image, 10 to 15", self.image, |words| proved::tables_refusal(words) == 0),
             check("image, 10 to 17 (flattens)", self.image, |words| proved::image_refusal(words) == 0),
+            check("room of the image (flattens)", self.image, |words| cerambiu::words::room(words, &mut [0; 2]) == 0),
             check("snapshot, 20 to 22", self.snapshot, |words| proved::snapshot_refusal(words) == 0),
             check("shape of the store", self.store, proved::store_shaped),
             check("whole store (flattens)", self.store, proved::store_check),

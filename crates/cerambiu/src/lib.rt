@@ -1,4 +1,4 @@
-// The C interface: the eight calls and the next start of crate `engine`, `telegrams` and `crontab` under C names, as include/cerambiu.h describes them. A slice
+// The C interface: the eight calls and the next start of crate `engine`, `telegrams`, `crontab` and `room` under C names, as include/cerambiu.h describes them. A slice
 // is a pointer and a length in C. A call returns document 01's number of its refusal, 0 for none, and writes its values into the lent words of the answer. A contract is one
 // equation with the specification's call on words (model's `callOn`), for all arguments.
 use engine::Answer;
@@ -14,6 +14,7 @@ ghost use Rattle.model.specs.OnWords.{callOn};
 ghost use Rattle.model.specs.Crontab.{crontab};
 ghost use Rattle.next.specs.NextStart.{startValues};
 ghost use Rattle.engine.specs.Answers.{numberOf, valuesOf};
+ghost use Rattle.room.specs.Needed.{roomFor};
 ghost use Rattle.engine.specs.Asked.{nextStartOn};
 ghost use Rattle.cerambiu.specs.Called.{called, answered, lentAnswer};
 ghost use Rattle.cerambiu.specs.Told.{tells, told, telegramNumber, telegramValues, sending};
@@ -225,5 +226,15 @@ pub extern "C" fn cerambiu_crontab(
 {
     let a = crontab::read(line, sunday, triggers);
     let values = [a.count];
+    put_asked(answer, a.refusal, &values)
+}
+
+// Asks no store: what an image needs, before it is loaded.
+#[no_mangle]
+pub extern "C" fn cerambiu_room(image: &[u32], answer: &mut [u32]) -> u32
+    ensures { λ r. ⌜ tells r (now (answer .exit)) [] ≡ told (length (now (answer .entry))) (roomFor (now (image .entry))) ⌝ }
+{
+    let a = room::room_for(image);
+    let values = [a.outcomes, a.effects];
     put_asked(answer, a.refusal, &values)
 }

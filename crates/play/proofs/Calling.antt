@@ -102,15 +102,20 @@ module _ (a : ℕ → Asked) (call : ℕ) (lines : List ℕ → List ℕ → Lis
       let t : take n (lw′ ++ drop n lw) ≡ lw′ = take-at lw′ (drop n lw) n (f ∙ sym (l .counts .1)) in
       subst (λ (x : Told). Gathers b o (toldLines call lines x) after r) s (rw t at g)
 
+-- one that is lent nothing
+module _ (a : Asked) (call : ℕ) (lines : List ℕ → List ℕ → List ℕ) where
+  pub told-lines : (number : ℕ) (answer : List ℕ) → tells number answer [] ≡ told 16 a
+      → (b after : List ℕ) (o r : Stream) → Gathers b o (unlessRefused call number (lines answer [])) after r
+      → Gathers b o (toldLines call lines (told 16 a)) after r
+  unfolding tells toldLines
+  told-lines number answer e b after o r g = subst (λ (x : Told). Gathers b o (toldLines call lines x) after r) e g
+
 -- and one that asks a store is lent words of it to be read
 module _ (a : List ℕ → Asked) (call : ℕ) (lines : List ℕ → List ℕ → List ℕ) (size n : ℕ) (w : List ℕ) (l : Lends size w n) where
   pub asks-lines : (number : ℕ) (answer : List ℕ) → tells number answer [] ≡ told 16 (a (take n w))
       → (b after : List ℕ) (o r : Stream) → Gathers b o (unlessRefused call number (lines answer [])) after r
       → Gathers b o (toldLines call lines (told 16 (a (take size w)))) after r
-  unfolding tells toldLines
-  asks-lines number answer e b after o r g =
-      let s : tells number answer [] ≡ told 16 (a (take size w)) = e ∙ ap (λ (x : List ℕ). told 16 (a x)) (l .first) in
-      subst (λ (x : Told). Gathers b o (toldLines call lines x) after r) s g
+  asks-lines number answer e = told-lines (a (take size w)) call lines number answer (e ∙ ap (λ (x : List ℕ). told 16 (a x)) (l .first))
 
 -- A LINE ------------------------------------------------------------------------------------------------------------------------------
 -- the call of a number

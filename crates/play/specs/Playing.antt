@@ -9,6 +9,7 @@ use Rattle.model.specs.OnWords.{callOn}
 use Rattle.model.specs.Asked.{Asked}
 use Rattle.model.specs.Crontab.{crontab}
 use Rattle.engine.specs.Asked.{nextStartOn}
+use Rattle.room.specs.Needed.{roomFor}
 use Rattle.cerambiu.specs.Called.{Called, answered}
 use Rattle.cerambiu.specs.Told.{told, sending}
 use Rattle.script.specs.Table.{rows}
@@ -18,7 +19,7 @@ use Rattle.script.specs.declared.Line.the-variants.{Blank, Command, Bad}
 use Rattle.script.specs.declared.Wrong.the-variants.{LineTooLong}
 use Rattle.script.specs.Print.{peekLine, wrongLine}
 use Rattle.play.specs.declared.Settings.{Settings}
-use Rattle.play.specs.Printed.{callLines, toldLines, telegramLines, triggerLines, startLines}
+use Rattle.play.specs.Printed.{callLines, toldLines, telegramLines, triggerLines, startLines, roomLines}
 
 -- ONE LINE ---------------------------------------------------------------------------------------------------------------------------
 -- the store's words after a line, and what is printed for it
@@ -63,6 +64,7 @@ doings os es t list text a b c d =
     ∷ asking 12 telegramLines (sending (min a es) list)
     ∷ asking 13 triggerLines (crontab text a (min b es))
     ∷ askingStore (t .size) 14 startLines (nextStartOn list)
+    ∷ asking 15 roomLines (roomFor list)
     ∷ []
 
 -- line number k

@@ -105,3 +105,7 @@ startText answer =
 
 unfoldable pub startLines : List ℕ → List ℕ → List ℕ
 startLines answer lent = line (bytesOf "start") (startText answer)
+
+-- the room of an image: outcomes and effects
+unfoldable pub roomLines : List ℕ → List ℕ → List ℕ
+roomLines answer lent = line (bytesOf "room") (numbers (wordsAt answer 0 2))

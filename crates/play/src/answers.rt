@@ -302,3 +302,16 @@ pub fn start(o: Stream, out: &mut [u8], call: u32, number: u32, answer: &[u32]) 
     let q = start_text(p, out, answer);
     output::end(q, out)
 }
+
+// The room of an image.
+pub fn room(o: Stream, out: &mut [u8], call: u32, number: u32, answer: &[u32]) -> Stream
+    requires { ⌜ 1024 ≤ length (now out) ⌝ }
+    ensures { λ r. ⌜ Gathers (now (out .entry)) o (unlessRefused call number (line (bytesOf "room") (numbers (wordsAt (now (answer .entry)) 0 2)))) (now (out .exit)) r ⌝ }
+{
+    if number != 0 {
+        return refused(o, out, call, number);
+    }
+    let p = output::text(o, out, b"room");
+    let q = output::words(p, out, answer, 0, 2);
+    output::end(q, out)
+}

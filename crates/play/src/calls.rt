@@ -5,9 +5,10 @@ ghost use lib.ListN.{length, getD, take, set};
 ghost use Rattle.model.specs.Calls as Calls;
 ghost use Rattle.model.specs.Crontab as Crontab;
 ghost use Rattle.engine.specs.Asked.{nextStartOn};
+ghost use Rattle.room.specs.Needed.{roomFor};
 ghost use Rattle.cerambiu.specs.Told.{told, sending};
 ghost use Rattle.script.specs.Print.{peekLine, largestOf};
-ghost use Rattle.play.specs.Printed.{toldLines, telegramLines, triggerLines, startLines};
+ghost use Rattle.play.specs.Printed.{toldLines, telegramLines, triggerLines, startLines, roomLines};
 ghost use Rattle.play.specs.Playing.{calling, quiet, doings, obeyed};
 ghost use Rattle.play.specs.Gathered.{Gathers, Does};
 ghost use Rattle.play.specs.Played.{Lends, Ranged};
@@ -225,6 +226,15 @@ fn start(o: Stream, size: usize, snapshot: &[u32], store: &[u32], out: &mut [u8]
     answers::start(o, out, calls::START, number, &answer)
 }
 
+fn room(o: Stream, image: &[u32], out: &mut [u8]) -> Stream
+    requires { ⌜ 1024 ≤ length (now out) ⌝ }
+    ensures { λ r. ⌜ Gathers (now (out .entry)) o (toldLines 15 roomLines (told 16 (roomFor (now (image .entry))))) (now (out .exit)) r ⌝ }
+{
+    let mut answer = [0u32; 16];
+    let number = cerambiu::cerambiu_room(image, &mut answer);
+    answers::room(o, out, calls::ROOM_FOR, number, &answer)
+}
+
 // A call of the table, with its numbers, the words of its list and the bytes of its text.
 fn command(
     o: Stream,
@@ -263,6 +273,7 @@ fn command(
         calls::TELEGRAMS => telegrams(o, a as usize, list, effects, out),
         calls::CRONTAB => crontab(o, a as u32, b as usize, text, effects, out),
         calls::START => start(o, t.size, list, store, out),
+        calls::ROOM_FOR => room(o, list, out),
         _ => o,
     }
 }

@@ -105,6 +105,7 @@ rows =
     ∷ row "telegrams" (room ∷ []) Words
     ∷ row "crontab" (sunday ∷ triggerWords ∷ []) Text
     ∷ row "start" [] Words
+    ∷ row "room" [] Words
     ∷ []
 
 abbrev pub rowOf : List Row → ℕ → Row

@@ -40,6 +40,8 @@ pub const CRONTAB: u32 = 13;
 
 pub const START: u32 = 14;
 
+pub const ROOM_FOR: u32 = 15;
+
 // The parameters, by their numbers: as in `names`.
 const TIME: u32 = 0;
 
@@ -102,6 +104,7 @@ fn row(call: u32) -> Shape
         TELEGRAMS => Shape(ROOM, NONE, NONE, NONE, Tail::Words),
         CRONTAB => Shape(SUNDAY, TRIGGER_WORDS, NONE, NONE, Tail::Text),
         START => Shape(NONE, NONE, NONE, NONE, Tail::Words),
+        ROOM_FOR => Shape(NONE, NONE, NONE, NONE, Tail::Words),
         _ => Shape(NONE, NONE, NONE, NONE, Tail::Nothing),
     }
 }

@@ -16,8 +16,8 @@ use crate::calls;
 use crate::put;
 use crate::scan;
 
-const CALLS: [u8; 93] =
-    *b"new,load,unload,enable,tick,run,deadline,counters,lend,size,poke,peek,telegrams,crontab,start";
+const CALLS: [u8; 98] =
+    *b"new,load,unload,enable,tick,run,deadline,counters,lend,size,poke,peek,telegrams,crontab,start,room";
 
 const PARAMS: [u8; 133] =
     *b"time,rule,mark,dry mark,number of outcome words,number of effect words,number of words,place,word,room,Sunday,number of trigger words";

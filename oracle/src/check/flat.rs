@@ -104,6 +104,17 @@ pub(super) fn size(tables: &Tables<'_>, limits: &Limits) -> Size {
     size
 }
 
+/// Of each rule of a set that is within the limits: the steps of its own list, and those stored of its bodies.
+pub(super) fn rule_sizes(tables: &Tables<'_>, limits: &Limits) -> Vec<(u64, u64)> {
+    let mut count = Count { tables, limits, taken: 0 };
+    let size = |rule: &[u32]| {
+        let mut steps = Steps::default();
+        count.list(rule[8], rule[9], &mut steps, Inside::default());
+        (steps.len, steps.bodies)
+    };
+    tables.records(RULES).map(size).collect()
+}
+
 impl Count<'_> {
     fn list(&mut self, first: u32, count: u32, out: &mut Steps, inside: Inside) {
         for index in first..first + count {

@@ -126,6 +126,13 @@ pub(super) fn flat_size(image: &[u32]) -> Option<flat::Size> {
     Some(flat::size(&tables, &flatten_limits(trailer)))
 }
 
+/// The tables of an image that load accepts, the limits that flattening reads, and its budget.
+pub(super) fn accepted(image: &[u32]) -> (Tables<'_>, Limits, u64) {
+    let trailer = &image[image.len() - TRAILER..];
+    let tables = Tables::find(image).unwrap_or(Tables { words: image, starts: [0; TABLES + 1] });
+    (tables, flatten_limits(trailer), u64::from(trailer[0]))
+}
+
 fn limits_in_range(trailer: &[u32]) -> bool {
     trailer
         .iter()

@@ -7,6 +7,7 @@
 mod fields;
 mod flat;
 mod image;
+mod room;
 mod snapshot;
 #[cfg(test)]
 mod tests_flat;
@@ -17,6 +18,7 @@ mod tests_snapshot;
 
 pub use flat::Size;
 pub use image::image_refusal;
+pub use room::{room, Room};
 pub use snapshot::snapshot_refusal;
 
 /// What refusal 16 counts of an image that passes the tests before it.

@@ -1,5 +1,6 @@
 //! The calls of the script language, a row for each, and the parser over the rows.
 
+use crate::check;
 use crate::crontab;
 use crate::house::{Call, House};
 use crate::next_start;
@@ -103,7 +104,18 @@ pub const ROWS: &[Row] = &[
             next_start::next_start(house, &given.list).map(|start| next_start::line(&start))
         }),
     },
+    Row {
+        name: "room",
+        params: &[],
+        tail: Tail::Words,
+        meaning: Meaning::Own(|_, given| room(&given.list)),
+    },
 ];
+
+/// What a player prints for the room that an image needs.
+fn room(image: &[u32]) -> Result<String, u32> {
+    check::room(image).map(|room| format!("room {} {}\n", room.outcomes, room.effects))
+}
 
 impl Given {
     /// A number whose largest is a word.

@@ -136,7 +136,7 @@ fn a_call_and_its_line_are_each_other_back() {
     let lines = [
         "new 18446744073709551615", "load 1 2 3", "unload 0", "enable 5 1", "tick 1 2", "tick",
         "run 5 1 2 3", "deadline", "counters", "lend 6 5", "size 7", "poke 1 2", "peek 3",
-        "telegrams 8192 12 1 10 0 0", "crontab 6 16 0 5 * * 1-5 # up", "crontab 7 0", "start 1 2", "start",
+        "telegrams 8192 12 1 10 0 0", "crontab 6 16 0 5 * * 1-5 # up", "crontab 7 0", "start 1 2", "start", "room 5 1 0",
     ];
     for text in lines {
         let call = parse(text).expect("good text").expect("a call");
@@ -153,6 +153,13 @@ fn the_list_of_telegrams_asks_no_store() {
         "telegrams 8193",
     ]);
     assert_eq!(text, format!("{list}telegrams refused 61\ntelegrams refused 60\ntelegrams 0\nline 7: telegrams: room is over 8192\n"));
+}
+
+#[test]
+fn the_room_that_an_image_needs_asks_no_store() {
+    let image = LOAD.trim_start_matches("load 0");
+    let text = played(&["size 1", &format!("room{}", image.trim_end()), "room", "room x"]);
+    assert_eq!(text, "room 32 96\nroom refused 10\nline 5: room: word 0 is no decimal number\n");
 }
 
 #[test]

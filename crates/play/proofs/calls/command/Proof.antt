@@ -105,7 +105,15 @@ returns-15 c =
 
 returns-16 : tie.Need-returns-16
 unfolding doings
-returns-16 c = rw (List·getD-eq-default (table (c .before .before .before .before .before .before .before)) quiet (past 15 _ (c .match .rest))) (does-quietly _ _ _ _ refl)
+returns-16 c =
+    let made = c .before .before in
+    let match = made .before .before in
+    let s = match .before .before .before .before .before .before .before in
+    does-command _ 15 (table s) (s .args .store .now) _ _ _ _ _ (match .match .keys16) (record { store = refl; lines = made .room .ensures })
+
+returns-17 : tie.Need-returns-17
+unfolding doings
+returns-17 c = rw (List·getD-eq-default (table (c .before .before .before .before .before .before .before)) quiet (past 16 _ (c .match .rest))) (does-quietly _ _ _ _ refl)
 
 pub command-spec : {M : Type 1} → statement M
-command-spec = tie.close (tie.spec (λ c κs. search needs) (λ c κs. search needs) (λ c κs. search needs) cast-enable (λ c κs. search needs) (λ c κs. search needs) cast-run (λ c κs. search needs) (λ c κs. search needs) (λ c κs. search needs) cast-poke (λ c κs. search needs) (λ c κs. search needs) (λ c κs. search needs) cast-crontab (λ c κs. search needs) (λ c κs. search needs) (λ c. search needs) (λ c. search needs) returns (λ c. search needs) (λ c. search needs) returns-2 (λ c. search needs) (λ c. search needs) returns-3 (λ c. search needs) (λ c. search needs) returns-4 (λ c. search needs) (λ c. search needs) (λ c. search needs) (λ c. search needs) returns-5 (λ c. search needs) (λ c. search needs) (λ c. search needs) (λ c. search needs) returns-6 (λ c. search needs) (λ c. search needs) returns-7 (λ c. search needs) (λ c. search needs) returns-8 returns-9 returns-10 (λ c. search needs) returns-11 (λ c. search needs) (λ c. search needs) returns-12 (λ c. search needs) (λ c. search needs) returns-13 (λ c. search needs) (λ c. search needs) returns-14 (λ c. search needs) (λ c. search needs) returns-15 returns-16)
+command-spec = tie.close (tie.spec (λ c κs. search needs) (λ c κs. search needs) (λ c κs. search needs) cast-enable (λ c κs. search needs) (λ c κs. search needs) cast-run (λ c κs. search needs) (λ c κs. search needs) (λ c κs. search needs) cast-poke (λ c κs. search needs) (λ c κs. search needs) (λ c κs. search needs) cast-crontab (λ c κs. search needs) (λ c κs. search needs) (λ c κs. search needs) (λ c. search needs) (λ c. search needs) returns (λ c. search needs) (λ c. search needs) returns-2 (λ c. search needs) (λ c. search needs) returns-3 (λ c. search needs) (λ c. search needs) returns-4 (λ c. search needs) (λ c. search needs) (λ c. search needs) (λ c. search needs) returns-5 (λ c. search needs) (λ c. search needs) (λ c. search needs) (λ c. search needs) returns-6 (λ c. search needs) (λ c. search needs) returns-7 (λ c. search needs) (λ c. search needs) returns-8 returns-9 returns-10 (λ c. search needs) returns-11 (λ c. search needs) (λ c. search needs) returns-12 (λ c. search needs) (λ c. search needs) returns-13 (λ c. search needs) (λ c. search needs) returns-14 (λ c. search needs) (λ c. search needs) returns-15 (λ c. search needs) returns-16 returns-17)

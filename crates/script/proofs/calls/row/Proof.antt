@@ -69,7 +69,11 @@ returns-15 c = rw (c .match .keys15)
 
 returns-16 : tie.Need-returns-16
 unfolding rows shapeOf
-returns-16 c = rw (List·getD-eq-default rows (row "" [] Nothing) (past 15 _ (c .match .rest)))
+returns-16 c = rw (c .match .keys16)
+
+returns-17 : tie.Need-returns-17
+unfolding rows shapeOf
+returns-17 c = rw (List·getD-eq-default rows (row "" [] Nothing) (past 16 _ (c .match .rest)))
 
 pub row-spec : {M : Type 1} → statement M
-row-spec = tie.close (tie.spec returns returns-2 returns-3 returns-4 returns-5 returns-6 returns-7 returns-8 returns-9 returns-10 returns-11 returns-12 returns-13 returns-14 returns-15 returns-16)
+row-spec = tie.close (tie.spec returns returns-2 returns-3 returns-4 returns-5 returns-6 returns-7 returns-8 returns-9 returns-10 returns-11 returns-12 returns-13 returns-14 returns-15 returns-16 returns-17)
