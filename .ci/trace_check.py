@@ -1,5 +1,5 @@
 #!/usr/bin/env python3
-"""trace_check.py [TOP]: holds docs/SPECIFICATION.md and the pages of docs/trace to the repository.
+"""trace_check.py [TOP]: holds docs/SPECIFICATION.md, docs/TWINS.md, docs/ARCHITECTURE.md and the pages of docs/trace to the repository.
 
 Every definition, theorem, script and edit that they name exists; every numbered paragraph of the specification names a definition or a theorem, and
 has a row in docs/trace/DEFINITIONS.md or docs/trace/REFUSALS.md. Prints what is missing; its status is 1 then.
@@ -9,6 +9,7 @@ import re
 import sys
 
 TOP = sys.argv[1] if len(sys.argv) > 1 else os.path.join(os.path.dirname(os.path.abspath(__file__)), "..")
+NAMING = ["docs/TWINS.md", "docs/ARCHITECTURE.md"]  # pages whose names must exist, and that have no rows
 PAGES = ["docs/trace/DEFINITIONS.md", "docs/trace/REFUSALS.md", "docs/trace/EDITS.md"]
 
 
@@ -101,10 +102,10 @@ def main():
     pages = [page for page in PAGES if os.path.exists(os.path.join(TOP, page))]
     wrong += ["%s: not there" % page for page in PAGES if page not in pages]
     scripts = set(scripts_of())
-    for page in ["docs/SPECIFICATION.md"] + pages:
+    for page in ["docs/SPECIFICATION.md"] + NAMING + pages:
         source = text(page)
         wrong += missing_names(page, source, modules, functions)
-        if page != "docs/SPECIFICATION.md":
+        if page in pages:
             wrong += named_lists(page, source, "script", lambda name: name in scripts)
     keyed = set()
     for page in pages[:2]:
