@@ -156,7 +156,7 @@ impl<'a> Both<'a> {
         } else if starts::snapshot(call).is_none() {
             self.tally.wheel(self.player.is_set_back());
         }
-        let shown = without_numbers(&seen);
+        let shown = seen.without_numbers();
         ask(shown == wanted, || first_difference(call, &shown, &wanted))?;
         if let (Call::Tick { snapshot }, Answer::Outcomes { .. }) = (call, answer) {
             self.tally.due.see(snapshot, &before, &self.house.store);
@@ -241,15 +241,6 @@ impl<'a> Both<'a> {
             _ => Some(Lent { answer: 2, outcomes, effects: effects - 1 }),
         }
     }
-}
-
-/// The Rust numbers no activations: outcomes are compared without their last two words.
-fn without_numbers(seen: &Seen) -> Seen {
-    let mut shown = seen.clone();
-    for outcome in shown.outcomes.chunks_exact_mut(cerambiu::OUTCOME_WORDS) {
-        outcome[6..].fill(0);
-    }
-    shown
 }
 
 fn ask(holds: bool, text: impl FnOnce() -> Difference) -> Result<(), Difference> {

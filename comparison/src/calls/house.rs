@@ -37,6 +37,17 @@ pub struct Seen {
     pub effects: Vec<u32>,
 }
 
+impl Seen {
+    /// The Rust numbers no activations: outcomes are compared without their last two words.
+    pub fn without_numbers(&self) -> Seen {
+        let mut shown = self.clone();
+        for outcome in shown.outcomes.chunks_exact_mut(cerambiu::OUTCOME_WORDS) {
+            outcome[6..].fill(0);
+        }
+        shown
+    }
+}
+
 pub struct House {
     pub store: Vec<u32>,
     /// Words of the store that calls are given.

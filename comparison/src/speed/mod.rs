@@ -88,7 +88,7 @@ impl Three {
     /// Whether the proved call and the Rust answer alike.
     fn alike(&self, name: &str, call: &Call) -> bool {
         let answer = self.oracle.clone().call(call);
-        let alike = made(&mut self.store.clone(), call, self.lent) == expected(call, &answer, self.lent);
+        let alike = made(&mut self.store.clone(), call, self.lent).without_numbers() == expected(call, &answer, self.lent);
         if !alike {
             println!("{name}: the answers differ");
         }
