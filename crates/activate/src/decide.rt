@@ -11,7 +11,7 @@ use crate::Mode;
 use eval::Verdict;
 use eval::conditions::conditions_hold;
 
-#[derive(Drop)]
+#[derive(Clone, Copy)]
 pub enum Decision {
     Begins,
     InCooldown,

@@ -1,5 +1,7 @@
 // One activation and one resumption: activate.rs, and `resume` of wheel.rs. Outcomes and effects go into words that the caller
 // lends; where there is no room they are counted, and no word is written.
+#![tactic(auto)]
+
 mod decide;
 mod execute;
 mod outcomes;
@@ -22,13 +24,13 @@ use exec::Job;
 use model::Pending;
 
 // What activations and resumptions did so far: how many outcomes and effects are written, or would be.
-#[derive(Drop)]
+#[derive(Clone, Copy)]
 pub struct Handled {
     pub outcomes: u32,
     pub effects: u32,
 }
 
-#[derive(Drop)]
+#[derive(Clone, Copy)]
 pub enum Mode {
     Auto,
     Manual,

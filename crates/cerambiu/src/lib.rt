@@ -1,6 +1,8 @@
 // The C interface: the eight calls and the next start of crate `engine`, `telegrams`, `crontab` and `room` under C names, as include/cerambiu.h describes them. A slice
 // is a pointer and a length in C. A call returns document 01's number of its refusal, 0 for none, and writes its values into the lent words of the answer. A contract is one
 // equation with the specification's call on words (model's `call_on`), for all arguments.
+#![tactic(auto)]
+
 ghost use Rattle.std.specs.Prelude.{◌≡◌, cond, [], eqb, length};
 ghost use Rattle.model.specs.Calls.{new, load, unload, enable, tick, run, deadline, counters};
 ghost use Rattle.model.specs.OnWords.{call_on};

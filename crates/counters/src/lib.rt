@@ -1,6 +1,8 @@
 // The 12 counters of a store, the Rust's `EngineCounters` without the one that nothing counts, as one record. A counter is named by its place. Document 01: the
 // counters are one record, lent and changed in place (`bump`); its proof is a walk by hand, docs/WALKS.md. A caller that has
 // the record by value counts by `with_bump`, and needs no walk.
+#![tactic(auto)]
+
 ghost use Rattle.std.specs.Prelude.{◌≡◌};
 ghost use Rattle.counters.specs.Counters.{counters_of, raised_at};
 
@@ -30,7 +32,7 @@ pub const CONTINUATIONS_DROPPED: u32 = 10;
 
 pub const TICKS_TIME_UNSYNCED: u32 = 11;
 
-#[derive(Drop)]
+#[derive(Clone, Copy)]
 pub struct Counters {
     pub activations_total: u32,
     pub activations_dry: u32,

@@ -1,4 +1,6 @@
 // A weekly POSIX crontab line, read into AtTime trigger records.
+#![tactic(auto)]
+
 mod parts;
 mod pattern;
 mod scan;
@@ -11,7 +13,7 @@ ghost use Rattle.model.specs.Crontab.{crontab, field_fits, of_the_form, every_da
 ghost use Rattle.crontab.specs.Scanned.{form_refusal};
 
 // The number of a refusal, 0 for none, and how many triggers were written.
-#[derive(Drop)]
+#[derive(Clone, Copy)]
 pub struct Answer {
     pub refusal: u32,
     pub count: u32,

@@ -1,11 +1,13 @@
 // Decimal numbers of any length.
+#![tactic(auto)]
+
 ghost use Rattle.std.specs.Prelude.{◌≡◌, ◌-◌};
 ghost use Rattle.model.specs.Lists.{all};
 ghost use Rattle.model.specs.Digits.{is_digit, value_from};
 ghost use Rattle.decimal.specs.Numbers.{fitted, argument_of};
 
 // A text that is to be a number.
-#[derive(Drop)]
+#[derive(Clone, Copy)]
 pub enum Argument {
     NoNumber,
     TooLarge,
@@ -13,7 +15,7 @@ pub enum Argument {
 }
 
 // Digits as a number of 64 bits.
-#[derive(Drop)]
+#[derive(Clone, Copy)]
 pub enum Value {
     Over,
     Fits(u64),

@@ -1,6 +1,8 @@
 // The eight calls: document 01, "Calls". Each is a function on lent words: the store, an image or a snapshot, and for tick and run the
 // stores of outcomes and effects. A contract is one equation with the specification's call on words (model's `call_on`), for all
 // arguments: the answer's number and values, and all lent words after the call. Beside them stand calls that only ask a store.
+#![tactic(auto)]
+
 ghost use Rattle.std.specs.Prelude.{◌≡◌, [], length};
 ghost use Rattle.model.specs.Calls.{new, load, unload, enable, tick, run, deadline, counters};
 ghost use Rattle.model.specs.OnWords.{call_on};
@@ -19,7 +21,7 @@ mod starts;
 mod stored;
 
 // What a call answers; all but `counters`.
-#[derive(Drop)]
+#[derive(Clone, Copy)]
 pub enum Answer {
     // Of new, load and unload.
     Done,
@@ -35,14 +37,14 @@ pub enum Answer {
 }
 
 // What `counters` answers: the refusal's number or 0, and the 12 counters, then pending, timers, rules, variables.
-#[derive(Drop)]
+#[derive(Clone, Copy)]
 pub struct Counted {
     pub refusal: u32,
     pub values: [u32; 16],
 }
 
 // What `next_start` answers: the refusal's number or 0, and the next start.
-#[derive(Drop)]
+#[derive(Clone, Copy)]
 pub struct Started {
     pub refusal: u32,
     pub start: NextStart,

@@ -1,4 +1,6 @@
 // The Every slots of a set: `rebuild_every` of wheel.rs.
+#![tactic(auto)]
+
 ghost use Rattle.std.specs.Prelude.{◌≡◌, true, [], ◌∷◌, ℕ, ◌≤◌, ◌<◌};
 ghost use Rattle.model.specs.Lists.{find};
 ghost use Rattle.model.specs.Parts.{slot_row};

@@ -1,5 +1,7 @@
 // The step runner: exec.rs. A function changes the words of the state in place, and returns what else came of it; a contract is one
 // equation with a definition of the specification, on what the words mean before it and after it.
+#![tactic(auto)]
+
 pub mod actions;
 mod answers;
 pub mod dry;
@@ -16,7 +18,7 @@ mod variables;
 use model::{Effect, Point, Step};
 
 // What a run knows of its rule: name, place in the image, hold_hcl; and the trigger and the activation number for the outcome, 0 for none.
-#[derive(Drop)]
+#[derive(Clone, Copy)]
 pub struct Job {
     pub rule: u32,
     pub index: u32,
@@ -27,28 +29,28 @@ pub struct Job {
 }
 
 // A step gives at most one effect.
-#[derive(Drop)]
+#[derive(Clone, Copy)]
 pub enum MaybeEffect {
     Nothing,
     One(Effect),
 }
 
 // What came of an action: its effect, the reason that it notes.
-#[derive(Drop)]
+#[derive(Clone, Copy)]
 pub struct PrimResult {
     pub effect: MaybeEffect,
     pub reason: u32,
 }
 
 // Where a run goes on.
-#[derive(Drop)]
+#[derive(Clone, Copy)]
 pub enum Next {
     Ends,
     At(Point),
 }
 
 // What came of one paid step.
-#[derive(Drop)]
+#[derive(Clone, Copy)]
 pub struct StepResult {
     pub effect: MaybeEffect,
     pub reason: u32,
@@ -56,14 +58,14 @@ pub struct StepResult {
 }
 
 // A step of a list, and none past its end.
-#[derive(Drop)]
+#[derive(Clone, Copy)]
 pub enum MaybeStep {
     Nothing,
     One(Step),
 }
 
 // A run under way: `count` effects are written, or would be.
-#[derive(Drop)]
+#[derive(Clone, Copy)]
 pub struct Run {
     pub point: Point,
     pub reason: u32,
@@ -72,14 +74,14 @@ pub struct Run {
 }
 
 // What came of a run.
-#[derive(Drop)]
+#[derive(Clone, Copy)]
 pub struct RunResult {
     pub reason: u32,
     pub count: u32,
 }
 
 // A dry run under way. `bodies` has, from `first` up to `queued`, the lists of the bodies that are still to come.
-#[derive(Drop)]
+#[derive(Clone, Copy)]
 pub struct DryRun {
     pub point: Point,
     pub bodies: [u32; 256],

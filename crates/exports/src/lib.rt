@@ -1,4 +1,6 @@
 // Functions of the proved crates under C names: what `comparison/` calls from Rust and holds against the oracle.
+#![tactic(auto)]
+
 ghost use Rattle.std.specs.Prelude.{◌≡◌, cond, ◌&&◌, eqb, length};
 ghost use Rattle.model.specs.Layout.{parts_fit};
 ghost use Rattle.model.specs.Load.{tables_refusal, image_refusal};

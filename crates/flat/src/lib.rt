@@ -1,5 +1,7 @@
 // Flattening: the action table of a rule image becomes flat steps of four words each, written into a lent tail of words: the bodies of a
 // rule's afters, then its own list. Where the tail has no room, steps are counted and not written: so an empty tail gives the sizes alone.
+#![tactic(auto)]
+
 pub mod body;
 mod context;
 mod cycle;
@@ -10,7 +12,7 @@ mod steps;
 use model::FlattenCtx;
 
 // What looking a block up finds: its first record and its count.
-#[derive(Drop)]
+#[derive(Clone, Copy)]
 pub enum Found {
     Block(u32, u32),
     Nothing,
@@ -18,7 +20,7 @@ pub enum Found {
 
 // What flattening goes by: the calls left, the context, how many steps the list has and how many the bodies, how many more actions may be
 // taken, and whether the bodies so far are those to be compared.
-#[derive(Drop)]
+#[derive(Clone, Copy)]
 pub struct Progress {
     pub depth: usize,
     pub ctx: FlattenCtx,
@@ -30,21 +32,21 @@ pub struct Progress {
 
 // Refused: more actions were taken than the caller allowed. Done: how many steps the list has now, how many the bodies, how many more
 // actions may be taken, and whether the bodies are those to be compared.
-#[derive(Drop)]
+#[derive(Clone, Copy)]
 pub enum Answer {
     Refused,
     Done(usize, usize, usize, bool),
 }
 
 // What flattening a set gives: refusal 16, or so many stored steps.
-#[derive(Drop)]
+#[derive(Clone, Copy)]
 pub enum Loaded {
     Over,
     Steps(usize),
 }
 
 // The same, and whether they are those to be compared.
-#[derive(Drop)]
+#[derive(Clone, Copy)]
 pub enum Made {
     Over,
     Steps(usize, bool),

@@ -1,1 +1,3 @@
 // Demand 3 on worked examples. No code.
+
+#![tactic(auto)]

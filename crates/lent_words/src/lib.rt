@@ -1,5 +1,7 @@
 // Words that a caller lends: zeros in them, and effects written into them in order. Where there is no room for an effect no word is
 // written.
+#![tactic(auto)]
+
 ghost use Rattle.std.specs.Prelude.{◌≡◌, length, replicate};
 ghost use Rattle.lent_words.specs.PutEffects.{put_effect};
 

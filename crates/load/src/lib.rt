@@ -1,4 +1,6 @@
 // What load says of an image: document 01, "Who can cause a refusal", 10 to 17, the lowest first.
+#![tactic(auto)]
+
 ghost use Rattle.std.specs.Prelude.{◌≡◌, not};
 ghost use Rattle.model.specs.Field.{unless};
 ghost use Rattle.model.specs.Image.{few_enough};

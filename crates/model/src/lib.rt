@@ -2,7 +2,9 @@
 // leads into a table of the image, and a nested list is its first record and its count.
 
 // What a word of a record may be: document 01, refusals 13, 14 and 21.
-#[derive(Drop)]
+#![tactic(auto)]
+
+#[derive(Clone, Copy)]
 pub enum Field {
     // Any word.
     Free,
@@ -21,7 +23,7 @@ pub enum Field {
 }
 
 // A record of an image: its kind and the fields behind it.
-#[derive(Drop)]
+#[derive(Clone, Copy)]
 pub struct Record {
     pub kind: u32,
     pub a: u32,
@@ -32,7 +34,7 @@ pub struct Record {
 }
 
 // Action kinds 0 to 22: the arms of `run_prim` and its callees; and kind 28, which stands with the lights.
-#[derive(Drop)]
+#[derive(Clone, Copy)]
 pub enum Action {
     Light {
         target: u32,
@@ -141,7 +143,7 @@ pub enum Action {
 }
 
 // Action kinds 23 to 27; every other action is plain.
-#[derive(Drop)]
+#[derive(Clone, Copy)]
 pub enum FlowAction {
     Wait {
         duration_ms: u32,
@@ -170,7 +172,7 @@ pub enum FlowAction {
 }
 
 // The arms of `eval_condition`.
-#[derive(Drop)]
+#[derive(Clone, Copy)]
 pub enum Condition {
     TimeInRange {
         start: u32,
@@ -250,7 +252,7 @@ pub enum Condition {
 }
 
 // The arms of `eval_reading`: of a lamp or a group by adapter and id, of an input by adapter, address and instance.
-#[derive(Drop)]
+#[derive(Clone, Copy)]
 pub enum Reading {
     LampLevel(u32, u32),
     LampCct(u32, u32),
@@ -278,7 +280,7 @@ pub enum Reading {
     EventOption,
 }
 
-#[derive(Drop)]
+#[derive(Clone, Copy)]
 pub enum Value {
     Literal { low: u32, high: u32 },
     Reading { reading: Reading },
@@ -288,7 +290,7 @@ pub enum Value {
     NoValue,
 }
 
-#[derive(Drop)]
+#[derive(Clone, Copy)]
 pub enum TimeBound {
     Clock { hour: u32, minute: u32 },
     // Sunrise 0, sunset 1; signed milliseconds, as bits.
@@ -297,7 +299,7 @@ pub enum TimeBound {
     NoBound,
 }
 
-#[derive(Drop)]
+#[derive(Clone, Copy)]
 pub enum Trigger {
     TimerFires { timer: u32 },
     Every { period_ms: u32 },
@@ -309,7 +311,7 @@ pub enum Trigger {
 }
 
 // Where an action stands while it is flattened, without the depth; `limit` is the repeat limit.
-#[derive(Drop)]
+#[derive(Clone, Copy)]
 pub struct FlattenCtx {
     pub limit: u32,
     pub in_repeat: bool,
@@ -318,7 +320,7 @@ pub struct FlattenCtx {
 }
 
 // A flat step, the Rust's `FlatStep`: document 01, "Flat steps".
-#[derive(Drop)]
+#[derive(Clone, Copy)]
 pub enum Step {
     // A primitive action, by its record.
     Primitive(u32),
@@ -332,7 +334,7 @@ pub enum Step {
 }
 
 // A jump stands with a place exactly while that place is inside a then-region.
-#[derive(Drop)]
+#[derive(Clone, Copy)]
 pub enum Jump {
     NoJump,
     // Where it is taken, and where it leads: past the else-region.
@@ -340,34 +342,34 @@ pub enum Jump {
 }
 
 // A place in one of a rule's lists, with its jump. List 0 is the rule's own, list p + 1 the body of the after at place p of it.
-#[derive(Drop)]
+#[derive(Clone, Copy)]
 pub struct Point {
     pub list: u32,
     pub place: u32,
     pub jump: Jump,
 }
 
-#[derive(Drop)]
+#[derive(Clone, Copy)]
 pub struct NamedTimer {
     pub name: u32,
     pub due: u64,
 }
 
 // An integer is kept as its 64 bits, a text as its number.
-#[derive(Drop)]
+#[derive(Clone, Copy)]
 pub enum VarValue {
     Int(u64),
     Text(u32),
 }
 
-#[derive(Drop)]
+#[derive(Clone, Copy)]
 pub struct Variable {
     pub name: u32,
     pub value: VarValue,
 }
 
 // `place` is the trigger's place among all triggers of its rule.
-#[derive(Drop)]
+#[derive(Clone, Copy)]
 pub struct EverySlot {
     pub rule: u32,
     pub place: u32,
@@ -376,7 +378,7 @@ pub struct EverySlot {
 }
 
 // A continuation: where it goes on, when, with what budget, and under which trigger, sequence number and activation number.
-#[derive(Drop)]
+#[derive(Clone, Copy)]
 pub struct Pending {
     pub rule: u32,
     pub point: Point,
@@ -388,7 +390,7 @@ pub struct Pending {
 }
 
 // Kind 0 to 11 in `Effect` order, 12 a level, and four words of fields: document 01, "Outcomes and effects".
-#[derive(Drop)]
+#[derive(Clone, Copy)]
 pub struct Effect {
     pub kind: u32,
     pub a: u32,
@@ -398,14 +400,14 @@ pub struct Effect {
 }
 
 // What the list of telegrams answers: the refusal's number, or how many effects are kept.
-#[derive(Drop)]
+#[derive(Clone, Copy)]
 pub enum TelegramAnswer {
     Refused(u32),
     Kept(usize),
 }
 
 // An element of a pattern of a crontab line: the numbers from the first to the last.
-#[derive(Drop)]
+#[derive(Clone, Copy)]
 pub enum Element {
     Malformed,
     Range(u32, u32),

@@ -1,5 +1,7 @@
 // What starts next by the wall clock, from a minute of the week on: document 02, request 7. How many minutes on each trigger is, and
 // the least of them: no minute is asked for by itself.
+#![tactic(auto)]
+
 ghost use Rattle.std.specs.Prelude.{◌≡◌, map, ◌+◌, ◌*◌, ◌%◌, ◌<◌, ◌≤◌, min, eqb};
 ghost use Rattle.words.specs.Saturating.{max32};
 ghost use Rattle.model.specs.Arith.{has_day};
@@ -18,7 +20,7 @@ use image::rule::{name_of, trigger_at, trigger_count};
 use model::Trigger;
 use world::MaybeSun;
 
-#[derive(Drop)]
+#[derive(Clone, Copy)]
 pub enum NextStart {
     NoStart,
     ClockUnknown,
@@ -27,7 +29,7 @@ pub enum NextStart {
 }
 
 // The least minutes so far, and the lowest name of a rule that starts then.
-#[derive(Drop)]
+#[derive(Clone, Copy)]
 struct Best {
     minutes: u32,
     name: u32,

@@ -1,4 +1,6 @@
 // Plays a script: standard input line by line, and the answers to standard output.
+#![tactic(auto)]
+
 mod answers;
 mod calls;
 mod input;
@@ -9,14 +11,14 @@ ghost use Rattle.std.specs.Prelude.{ℕ, ◌≤◌, length, List};
 ghost use Rattle.play.specs.Played.{Follows, Reads, room_of};
 
 // The bytes of a line that are in the buffer, and whether the line is too long for it.
-#[derive(Drop)]
+#[derive(Clone, Copy)]
 pub struct Cut {
     pub len: usize,
     pub long: bool,
 }
 
 // The words of the store, of outcomes and of effects that later calls are lent.
-#[derive(Drop)]
+#[derive(Clone, Copy)]
 pub struct Settings {
     pub size: usize,
     pub outcomes: usize,
@@ -24,7 +26,7 @@ pub struct Settings {
 }
 
 // The words of a record that a line shows: so many from word `from` on, of `width`.
-#[derive(Drop)]
+#[derive(Clone, Copy)]
 pub struct Columns {
     pub width: usize,
     pub from: usize,
@@ -32,14 +34,14 @@ pub struct Columns {
 }
 
 // The output: bytes that are gathered, and whether it is still open.
-#[derive(Drop)]
+#[derive(Clone, Copy)]
 pub struct Stream {
     pub at: usize,
     pub open: bool,
 }
 
 // Where a script stands: lines ended, the line that is being read, what is lent, the output.
-#[derive(Drop)]
+#[derive(Clone, Copy)]
 pub struct Session {
     pub line: u64,
     pub cut: Cut,

@@ -1,1 +1,3 @@
 // Theorems about the specification: see specs/ and proofs/.
+
+#![tactic(auto)]

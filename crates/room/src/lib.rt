@@ -1,5 +1,7 @@
 // The most outcomes and effects that a tick or run can give while a set is loaded, from its image alone: so that a caller lends room once, or
 // does not load a set that needs more than the unit has.
+#![tactic(auto)]
+
 ghost use Rattle.std.specs.Prelude.{◌≡◌, cond, true, ◌+◌, ◌-◌, ◌*◌, ◌≤◌, ◌<◌, min, max};
 ghost use Rattle.model.specs.Image as image_specs;
 ghost use Rattle.model.specs.Image.{size_of};
@@ -15,7 +17,7 @@ use image::rule::{trigger_at, trigger_count};
 use model::Trigger;
 
 // Load refuses the image, with this number; or, where that is 0, its set needs room for so many outcomes and so many effects.
-#[derive(Drop)]
+#[derive(Clone, Copy)]
 pub struct Needed {
     pub refusal: u32,
     pub outcomes: u32,
@@ -23,7 +25,7 @@ pub struct Needed {
 }
 
 // Of all rules: how often a tick starts them, the effects of these starts, the longest list.
-#[derive(Drop)]
+#[derive(Clone, Copy)]
 pub struct Sums {
     pub starts: u64,
     pub effects: u64,

@@ -1,4 +1,6 @@
 // Rows of words at places: what they say, and words that say a value. The rows are those of the layout of a store (model's `Parts`).
+#![tactic(auto)]
+
 pub mod put;
 pub mod read;
 pub mod tables;
@@ -17,13 +19,13 @@ pub const SLOT_WORDS: usize = 5;
 pub const PENDING_WORDS: usize = 15;
 
 // The Rust's `Option<u32>` and `Option<u64>`.
-#[derive(Drop)]
+#[derive(Clone, Copy)]
 pub struct OptionU32 {
     pub present: bool,
     pub value: u32,
 }
 
-#[derive(Drop)]
+#[derive(Clone, Copy)]
 pub struct OptionU64 {
     pub present: bool,
     pub value: u64,

@@ -1,4 +1,6 @@
 // The script language of the player: a line of bytes and the call that it is. One line is one call; a '#' starts a comment.
+#![tactic(auto)]
+
 pub mod calls;
 pub mod complain;
 mod names;
@@ -13,7 +15,7 @@ ghost use Rattle.script.specs.Scan.{Parses};
 
 // What a line says. A call is its number in the table, with up to four numbers, 0 past those that it has; `words` words of a list stand at
 // the start of the lent list, and a text is the last `bytes` bytes of the line.
-#[derive(Drop)]
+#[derive(Clone, Copy)]
 pub enum Line {
     Blank,
     Command {
@@ -29,7 +31,7 @@ pub enum Line {
 }
 
 // What stands behind the numbers of a call.
-#[derive(Drop)]
+#[derive(Clone, Copy)]
 pub enum Tail {
     Nothing,
     Words,
@@ -37,11 +39,11 @@ pub enum Tail {
 }
 
 // A row of the table of calls: up to four parameters, and what stands behind them.
-#[derive(Drop)]
+#[derive(Clone, Copy)]
 pub struct Shape(pub u32, pub u32, pub u32, pub u32, pub Tail);
 
 // What is wrong with a line: by the numbers of the call, of its parameter, of a word of its list.
-#[derive(Drop)]
+#[derive(Clone, Copy)]
 pub enum Wrong {
     NoSuchCall,
     Missing { call: u32, param: u32 },
@@ -55,35 +57,35 @@ pub enum Wrong {
 }
 
 // The next word of a text: from its first byte to the place behind its last.
-#[derive(Drop)]
+#[derive(Clone, Copy)]
 pub enum Word {
     NoWord,
     At(usize, usize),
 }
 
 // A number as it was taken from a text, and the place behind it.
-#[derive(Drop)]
+#[derive(Clone, Copy)]
 pub enum Taken {
     Refused(Wrong),
     Taking(u64, usize),
 }
 
 // The place behind all numbers of a call.
-#[derive(Drop)]
+#[derive(Clone, Copy)]
 pub enum Got {
     Failed(Wrong),
     Behind(usize),
 }
 
 // A name's call.
-#[derive(Drop)]
+#[derive(Clone, Copy)]
 pub enum Named {
     Unknown,
     Call(u32),
 }
 
 // The next word of a list, and the place behind it.
-#[derive(Drop)]
+#[derive(Clone, Copy)]
 pub enum Step {
     End,
     Stop(Wrong),
@@ -91,7 +93,7 @@ pub enum Step {
 }
 
 // A list of words at its end: how many were read, or what is wrong with the next.
-#[derive(Drop)]
+#[derive(Clone, Copy)]
 pub enum Ended {
     Stopped(Wrong),
     Count(usize),

@@ -13,8 +13,8 @@ use Rattle.model.specs.State.{Env, Volatile, RuleSet, Store}
 use Rattle.model.specs.Activate.{Handled, and_then}
 use Rattle.model.specs.Wheel.{cyclic_dist, in_window, week_minute, is_set_back, make_up, fire_wall_at, fire_wall_schedules, service_tick}
 use Rattle.model.specs.Calls.{tick, given, committed, tick_with, call}
-use Rattle.set_back_lem.specs.Ticks.{before_wall, set_back_at, set_back, remembering, former_wall_at, former_wall, back_by}
-use Rattle.set_back_lem.proofs.Remembered.{minute-kept}
+use Rattle.set_back.specs.Ticks.{before_wall, set_back_at, set_back, remembering, former_wall_at, former_wall, back_by}
+use Rattle.set_back.proofs.Remembered.{minute-kept}
 
 module _ (e : Env) where
   -- the wall part, of each clock and each remembered minute

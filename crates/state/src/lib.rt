@@ -11,6 +11,8 @@
 // any record is accepted, so what is ordered there are the store's own numbers. `assign_numbers` gives each record its number at the end.
 //
 // Activation numbers likewise (32): the last one given counts up to 2^64 - 1, and beside it stands how many were needed beyond it.
+#![tactic(auto)]
+
 ghost use Rattle.std.specs.Prelude.{◌≡◌, ◌+◌, ◌≤◌, length};
 ghost use Rattle.counters.specs.Counters.{counters_of};
 ghost use Rattle.model.specs.Codec.{words_of};
@@ -37,13 +39,13 @@ pub mod timers;
 pub mod variables;
 
 // Some records of each kind, in order.
-#[derive(Drop)]
+#[derive(Clone, Copy)]
 pub struct TimerList {
     pub timers: [NamedTimer; 16],
     pub count: usize,
 }
 
-#[derive(Drop)]
+#[derive(Clone, Copy)]
 pub struct SlotList {
     pub slots: [EverySlot; 64],
     pub count: usize,

@@ -5,7 +5,7 @@ ghost use Rattle.state.specs.Tables.{First};
 ghost use Rattle.state.specs.Cuts.{rows_in, table_of, word_in, wide_in, has_word, passes, test_fits, Fits, Table, RowSet};
 
 // Which rows are kept.
-#[derive(Drop)]
+#[derive(Clone, Copy)]
 pub enum Test {
     // Word `at` is another one.
     Other(usize, u32),

@@ -16,7 +16,7 @@ use rows::VARIABLE_WORDS;
 // The word of a row that is its name.
 const NAME: usize = 0;
 
-#[derive(Drop)]
+#[derive(Clone, Copy)]
 pub enum VarFound {
     Absent,
     Found(VarValue),

@@ -1,4 +1,6 @@
 // Fewer telegrams on the bus: the shortest list of a tick's effects that leaves every lamp the same.
+#![tactic(auto)]
+
 ghost use Rattle.std.specs.Prelude.{◌≡◌, Bool, zero, suc, ◌+◌, ◌*◌, ◌/◌, ◌<◌, ◌≤◌, leb, length, replicate};
 ghost use Rattle.model.specs.Telegrams.{cuts, sets, effect_at, are_effects, answer, kept_store};
 ghost use Rattle.telegrams.specs.Recursion.{is_set, set_again, kept_head, keep_last, effects_from};

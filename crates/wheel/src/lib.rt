@@ -1,4 +1,6 @@
 // The tick and the next deadline: wheel.rs.
+#![tactic(auto)]
+
 mod continuations;
 pub mod deadline;
 pub mod minutes;

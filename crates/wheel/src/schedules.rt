@@ -33,7 +33,7 @@ const CATCH_UP_MINUTES: u64 = 60;
 const SET_BACK_MINUTES: u64 = 120;
 
 // A rule's turn: what was done so far, and whether a sun was missed so far.
-#[derive(Drop)]
+#[derive(Clone, Copy)]
 pub struct WallTurn {
     pub handled: Handled,
     pub missed: bool,

@@ -24,7 +24,7 @@ const BY_TIME: u32 = 3;
 const BY_SOLAR: u32 = 4;
 
 // The kind of the first due trigger, and whether a sun was asked for that is not known.
-#[derive(Drop)]
+#[derive(Clone, Copy)]
 pub struct WallKind {
     pub kind: OptionU32,
     pub unsynced: bool,

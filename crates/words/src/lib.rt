@@ -1,5 +1,7 @@
 // Arithmetic on machine words that Rust's standard library has and Rattle has not. Each contract is one equation with a
 // definition of specs/, over ℕ for unsigned numbers and over ℤ for signed ones.
+#![tactic(auto)]
+
 ghost use Rattle.std.specs.Prelude.{◌≡◌};
 ghost use Rattle.words.specs.Saturating.{max32, max64, saturating_add, saturating_sub};
 ghost use Rattle.words.specs.Pairs.{joined, low_of, high_of};

@@ -1,0 +1,13 @@
+-- `fields::all_fresh` meets its contract: a loop that leaves at the first number where the test fails. Assumes nothing.
+use mathlib.Core.Path.{◌≡◌}
+use mathlib.Core.Bool.{true}
+use Prim.Native.Nat.{◌≤◌, ◌-◌}
+use Rattle.model.specs.Lists.{every}
+use Rattle.model.specs.Field.{fresh_key}
+use Rattle.fields.proofs.all_fresh.Given as goal
+
+abbrev pub invariant-loop-i : goal.invariant-loop-i
+invariant-loop-i l = (l.i ≤ l.n) × (every l.i (fresh_key l.s l.start l.width l.key) ≡ true)
+
+abbrev pub decreases-loop-i : goal.decreases-loop-i
+decreases-loop-i l = l.n - l.i

@@ -1,0 +1,22 @@
+-- `fields::mark` meets its contract. Assumes nothing.
+use Prim.Native.Nat.{◌-◌}
+use native.Mathlib.Omega.{arith}
+use native.Mathlib.Nat.{le_antisymm}
+use borrow.Author.Rules.{rules}
+use Rattle.fields.proofs.Marks.{begins, goes}
+use Rattle.fields.proofs.mark.Goals as goal
+
+pub loop-j-init : goal.loop-j-init
+loop-j-init c = (search rules, begins _ _ _ _)
+
+pub overflow_add-j : goal.overflow_add-j
+overflow_add-j c = omega arith
+
+pub loop-j-smaller : goal.loop-j-smaller
+loop-j-smaller c = omega arith
+
+pub loop-j-preserved : goal.loop-j-preserved
+loop-j-preserved c = (omega arith, goes _ _ _ _ _ _ _ _ c.loop-j.invariant.1 c.cell.ensures c.mixed-m.ensures)
+
+pub returns : goal.returns
+returns c = rw (le_antisymm c.loop-j-test.false c.loop-j.invariant.0) c.loop-j.invariant.1
