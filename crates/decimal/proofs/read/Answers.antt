@@ -7,22 +7,22 @@ use Rattle.decimal.proofs.DigitLaws.{not-decimal, large, small, fits-is, over-is
 use Rattle.decimal.proofs.read.Goals as goal
 
 pub returns-then-not-all_digits : goal.returns-then-not-all_digits
-returns-then-not-all_digits c = not-decimal _ _ (sym c.all_digits.ensures ∙ not-true _ c.if-not-all_digits.true)
+returns-then-not-all_digits c = not-decimal _ _ (sym c.all_digits.ensures ∙ not-true _ c.if-not-all_digits.true-raw)
 
 pub returns-in-Over : goal.returns-in-Over
 returns-in-Over c =
     let a = c.args in
-    let o = over-is (value_from 0 a.word.now) (sym c.enum_told-1.given.1 ∙ c.before.before.value_of_lem.ensures) in
-    large a.most a.word.now (sym c.all_digits.ensures ∙ not-false _ c.if-not-all_digits.false) (omega (arith, o))
+    let o = over-is (value_from 0 a.word.now) (sym c.in-Over.is ∙ c.value_of.ensures) in
+    large a.most a.word.now (sym c.all_digits.ensures ∙ not-false _ c.if-not-all_digits.false-raw) (omega (arith, o))
 
 pub returns-then-n-most : goal.returns-then-n-most
 returns-then-n-most c =
     let a = c.args in
-    let v = fits-is (value_from 0 a.word.now) c.n-1.given.0.0 (sym c.n-1.given.1 ∙ n.before.before.value_of_lem.ensures) in
-    small a.most a.word.now (sym c.all_digits.ensures ∙ not-false _ c.if-not-all_digits.false) c.n-1.given.0.0 v c.if-n-most.true
+    let v = fits-is (value_from 0 a.word.now) c.in-Fits.n (sym c.in-Fits.is ∙ c.value_of.ensures) in
+    small a.most a.word.now (sym c.all_digits.ensures ∙ not-false _ c.if-not-all_digits.false-raw) c.in-Fits.n v c.if-n-most.true
 
 pub returns-else-n-most : goal.returns-else-n-most
 returns-else-n-most c =
     let a = c.args in
-    let v = fits-is (value_from 0 a.word.now) c.n-1.given.0.0 (sym c.n-1.given.1 ∙ n.before.before.value_of_lem.ensures) in
-    large a.most a.word.now (sym c.all_digits.ensures ∙ not-false _ c.if-not-all_digits.false) (rw (← v) c.if-n-most.false)
+    let v = fits-is (value_from 0 a.word.now) c.in-Fits.n (sym c.in-Fits.is ∙ c.value_of.ensures) in
+    large a.most a.word.now (sym c.all_digits.ensures ∙ not-false _ c.if-not-all_digits.false-raw) (rw (← v) c.if-n-most.false)

@@ -12,7 +12,7 @@ pub loop-j-init : goal.loop-j-init
 loop-j-init c = (search rules, starts _)
 
 pub returns-then-not-agrees : goal.returns-then-not-agrees
-returns-then-not-agrees c = ap not (leaves _ _ _ _ c.loop-j-test.true c.agrees.ensures (ap not c.if-not-agrees.true))
+returns-then-not-agrees c = ap not (leaves _ _ _ _ c.loop-j-test.true c.agrees.ensures c.if-not-agrees.true-raw)
 
 pub overflow_add-j : goal.overflow_add-j
 overflow_add-j c = omega arith
@@ -21,7 +21,7 @@ pub loop-j-smaller : goal.loop-j-smaller
 loop-j-smaller c = omega arith
 
 pub loop-j-preserved : goal.loop-j-preserved
-loop-j-preserved c = (search rules, goes _ _ _ c.loop-j.invariant.1 c.agrees.ensures (ap not c.if-not-agrees.false))
+loop-j-preserved c = (search rules, goes _ _ _ c.loop-j.invariant.1 c.agrees.ensures c.if-not-agrees.false-raw)
 
 pub returns : goal.returns
 returns c = ap not (ends _ _ _ c.loop-j-test.false c.loop-j.invariant.0 c.loop-j.invariant.1)

@@ -1,0 +1,81 @@
+-- `flat::records::find_block` meets its contract: what is left to search is what the whole search finds. Assumes nothing.
+use mathlib.Core.Path.{◌≡◌, ◌∙◌}
+use mathlib.Core.List.{List, [], map}
+use mathlib.Core.Option.{Option}
+use Prim.Native.Nat.{ℕ, suc, ◌+◌, ◌*◌, ◌-◌, ◌/◌, ◌≤◌, ◌<◌}
+use native.Mathlib.Numerals.{add-one}
+use native.Mathlib.Nat.{sub-zero}
+use native.Mathlib.Omega.{arith}
+use borrow.Author.Rules.{rules}
+use borrow.Author.Tests.{eq-eqb, ne_eqb}
+use lib.Dec.{eqb}
+use lib.ListN.{length, get_or}
+use Rattle.model.specs.declared.Record.{Record}
+use Rattle.model.specs.Lists.{find, up_from}
+use Rattle.model.specs.Rules.{record_in}
+use Rattle.model.specs.Flat.{block_named}
+use Rattle.flat.specs.Outcome.{found_in, block_at}
+use Rattle.flat.proofs.records.find_block.Goals as goal
+
+-- the first of k records of the name, from record i on
+abbrev searched : List ℕ → ℕ → ℕ → ℕ → Option Record
+searched t name i k = find (λ (r : Record). eqb r.kind name) (map (record_in t) (up_from i k))
+
+module _ (t : List ℕ) (n i name : ℕ) (h : i < n) (r : Record) (e : r ≡ record_in t i) where
+  more : n - i ≡ suc (n - (i + 1))
+  more = omega arith
+
+  here : r.kind ≡ name → block_at t (i + 1) ≡ found_in (searched t name i (n - i))
+  unfolding block_at
+  here k =
+      let g : get_or t (i * 8) 0 ≡ name = rw e at k in
+      rw (add-one i, more, eq-eqb (get_or t (i * 8) 0) name g)
+
+  past : (r.kind ≡ name → ⊥) → found_in (searched t name (i + 1) (n - (i + 1))) ≡ found_in (searched t name i (n - i))
+  past k =
+      let g : get_or t (i * 8) 0 ≡ name → ⊥ = rw e at k in
+      rw (more, ne_eqb (get_or t (i * 8) 0) name g, add-one i)
+
+none_left : (t : List ℕ) (n i name : ℕ) → n ≤ i → block_at t 0 ≡ found_in (searched t name i (n - i))
+unfolding block_at
+none_left t n i name h = let e : n - i ≡ 0 = omega arith in rw e
+
+whole : (t : List ℕ) (name : ℕ) → found_in (searched t name 0 (length t / 8 - 0)) ≡ found_in (block_named [] t name)
+unfolding block_named
+whole t name = rw (sub-zero (length t / 8))
+
+pub loop-i-init : goal.loop-i-init
+loop-i-init c = (omega arith, whole c.args.blocks.now c.args.name)
+
+pub read_record-r-requires : goal.read_record-r-requires
+read_record-r-requires c = search rules
+
+pub overflow_add-i : goal.overflow_add-i
+overflow_add-i c = search rules
+
+pub overflow_cast-result : goal.overflow_cast-result
+overflow_cast-result c = omega (arith, c.requires)
+
+pub returns-then-r-name : goal.returns-then-r-name
+returns-then-r-name c =
+    let a = c.args in
+    let x = c.read_record-r in (
+      here a.blocks.now (length a.blocks.now / 8) c.loop-i.i a.name c.loop-i-test.true x.result x.ensures c.if-r-name.true ∙ c.loop-i.invariant.1,
+      omega (arith, c.loop-i-test.true),
+    )
+
+pub loop-i-smaller : goal.loop-i-smaller
+loop-i-smaller c = search rules
+
+pub loop-i-preserved : goal.loop-i-preserved
+loop-i-preserved c =
+    let a = c.args in
+    let x = c.read_record-r in (
+      search rules,
+      past a.blocks.now (length a.blocks.now / 8) c.loop-i.i a.name c.loop-i-test.true x.result x.ensures c.if-r-name.false ∙ c.loop-i.invariant.1,
+    )
+
+pub returns : goal.returns
+returns c =
+    let a = c.args in
+    (none_left a.blocks.now (length a.blocks.now / 8) c.loop-i.i a.name c.loop-i-test.false ∙ c.loop-i.invariant.1, omega arith)

@@ -1,0 +1,66 @@
+-- `flat::records::find_calls` meets its contract: after i turns the calls of the first i records are looked up. Assumes nothing.
+use mathlib.Core.Path.{◌≡◌, refl}
+use mathlib.Core.List.{List}
+use Prim.Native.Nat.{ℕ, ◌+◌, ◌-◌, ◌/◌, ◌≤◌, ◌<◌}
+use native.Mathlib.Omega.{arith}
+use native.Mathlib.Decide.{dec_le}
+use borrow.Author.Rules.{rules}
+use lib.ListN.{length, set, length-set}
+use lib.Seq.{get_or-set_same, get_or-set_other}
+use Rattle.flat.specs.Outcome.{action_in, block_at, called_in, Resolved}
+use Rattle.flat.proofs.records.find_calls.Goals as goal
+
+module _ (acts blocks calls : List ℕ) where
+  none_yet : Resolved acts blocks calls 0
+  unfolding Resolved
+  none_yet i h = absurd (omega arith)
+
+  one_more : (k x : ℕ) → Resolved acts blocks calls k → k < length calls → block_at blocks x ≡ called_in blocks (action_in acts k) → x ≤ length blocks / 8
+      → Resolved acts blocks (set calls k x) (k + 1)
+  unfolding Resolved
+  one_more k x h l e f i g = elim (dec_le k i) [
+    | yes m ↦ let j : i ≡ k = omega arith in rw (j, get_or-set_same calls k x 0 l) (f, e)
+    | no m ↦ let o : i ≡ k → ⊥ = λ j. omega arith in rw (get_or-set_other calls k i x 0 o) (h i (omega arith))
+  ]
+
+  all_done : (n k : ℕ) → n ≤ k → Resolved acts blocks calls k → Resolved acts blocks calls n
+  unfolding Resolved
+  all_done n k l h i g = h i (omega arith)
+
+pub loop-i-init : goal.loop-i-init
+loop-i-init c = let a = c.args in (refl, none_yet a.acts.now a.blocks.now a.calls.now)
+
+pub find_called-requires : goal.find_called-requires
+find_called-requires c = (c.loop-i-test.true, c.requires.1)
+
+pub overflow_cast-calls : goal.overflow_cast-calls
+overflow_cast-calls c = omega (arith, c.find_called.ensures.1, c.requires.1)
+
+pub offset_bounds-calls-i : goal.offset_bounds-calls-i
+offset_bounds-calls-i c = search rules
+
+pub bounds-calls-i : goal.bounds-calls-i
+bounds-calls-i c = omega (arith, c.loop-i.invariant.0, c.requires, c.loop-i-test.true)
+
+pub overflow_add-i : goal.overflow_add-i
+overflow_add-i c = search rules
+
+pub loop-i-smaller : goal.loop-i-smaller
+loop-i-smaller c = omega (arith, c.loop-i-test.true)
+
+pub loop-i-preserved : goal.loop-i-preserved
+loop-i-preserved c =
+    let a = c.args in
+    let l = c.loop-i in
+    let f = c.find_called in (
+      simp length-set l.invariant.0,
+      one_more a.acts.now a.blocks.now l.calls l.i f.result l.invariant.1 (omega (arith, l.invariant.0, c.requires, c.loop-i-test.true)) f.ensures.0 f.ensures.1,
+    )
+
+pub shape_of-calls : goal.shape_of-calls
+shape_of-calls c = c.loop-i.invariant.0
+
+pub returns : goal.returns
+returns c =
+    let a = c.args in
+    let l = c.loop-i in all_done a.acts.now a.blocks.now l.calls (length a.acts.now / 8) l.i c.loop-i-test.false l.invariant.1

@@ -1,0 +1,5 @@
+-- `image::check::limit_fits` meets its contract. Assumes nothing.
+use Rattle.image.proofs.check.limit_fits.Goals as goal
+
+pub returns : goal.returns
+returns c = rw (c.trailer_word-limit.ensures, c.requires.1.0, c.requires.1.1)

@@ -1,0 +1,7 @@
+-- `image::check::names_differ` meets its contract. Assumes nothing.
+use Rattle.model.specs.Image.{names_differ}
+use Rattle.image.proofs.check.names_differ.Goals as goal
+
+pub returns : goal.returns
+unfolding names_differ
+returns c = rw (← c.first_of.ensures, ← c.before.type_size.ensures) c.distinct.ensures

@@ -1,0 +1,13 @@
+-- `image::passing::table_passes` meets its contract: a loop that leaves at the first number where the test fails. Assumes nothing.
+use mathlib.Core.Path.{◌≡◌}
+use mathlib.Core.Bool.{true}
+use Prim.Native.Nat.{◌≤◌, ◌-◌}
+use Rattle.model.specs.Lists.{every}
+use Rattle.image.specs.Passing.{record_both}
+use Rattle.image.proofs.passing.table_passes.Given as goal
+
+abbrev pub invariant-loop-i : goal.invariant-loop-i
+invariant-loop-i l = (l.i ≤ l.n) × (every l.i (record_both l.image l.t) ≡ true)
+
+abbrev pub decreases-loop-i : goal.decreases-loop-i
+decreases-loop-i l = l.n - l.i

@@ -1,0 +1,41 @@
+-- `image::refusal` meets its contract. Assumes nothing.
+use mathlib.Core.Path.{sym, ◌∙◌}
+use borrow.Author.Tests.{not-false}
+use borrow.Author.Rules.{rules}
+use Rattle.model.specs.Load.{tables_refusal}
+use Rattle.image.proofs.Refusals.{refused, passed, short, long, sized}
+use mathlib.Core.Path.{ap}
+use mathlib.Core.Bool.{not}
+use Rattle.image.proofs.refusal.Goals as goal
+
+pub returns-then-image-lt13 : goal.returns-then-image-lt13
+unfolding tables_refusal
+returns-then-image-lt13 c = rw (short _ c.if-image-lt13.true)
+
+pub returns-then-image-gt4096 : goal.returns-then-image-gt4096
+unfolding tables_refusal
+returns-then-image-gt4096 c = rw (long _ c.if-image-lt13.false c.if-image-gt4096.true)
+
+pub returns-then-not-limits_fit : goal.returns-then-not-limits_fit
+unfolding tables_refusal
+returns-then-not-limits_fit c =
+    rw (sized _ c.if-image-lt13.false c.if-image-gt4096.false)
+    (refused _ _ _ _ c.limits_fit.ensures (ap not c.if-not-limits_fit.true))
+
+pub returns-then-not-places_fit : goal.returns-then-not-places_fit
+unfolding tables_refusal
+returns-then-not-places_fit c =
+    rw (sized _ c.if-image-lt13.false c.if-image-gt4096.false)
+    (passed _ _ _ _ _ c.limits_fit.ensures (ap not c.if-not-limits_fit.false)
+    (refused _ _ _ _ c.places_fit.ensures (ap not c.if-not-places_fit.true)))
+
+pub records_refusal-requires : goal.records_refusal-requires
+records_refusal-requires c = (search rules, sym c.places_fit.ensures ∙ not-false _ (ap not c.if-not-places_fit.false))
+
+pub returns : goal.returns
+unfolding tables_refusal
+returns c =
+    rw (sized _ c.if-image-lt13.false c.if-image-gt4096.false)
+    (passed _ _ _ _ _ c.limits_fit.ensures (ap not c.if-not-limits_fit.false)
+    (passed _ _ _ _ _ c.places_fit.ensures (ap not c.if-not-places_fit.false)
+    c.records_refusal.ensures))
