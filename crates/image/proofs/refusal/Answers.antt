@@ -4,8 +4,6 @@ use borrow.Author.Tests.{not-false}
 use borrow.Author.Rules.{rules}
 use Rattle.model.specs.Load.{tables_refusal}
 use Rattle.image.proofs.Refusals.{refused, passed, short, long, sized}
-use mathlib.Core.Path.{ap}
-use mathlib.Core.Bool.{not}
 use Rattle.image.proofs.refusal.Goals as goal
 
 pub returns-then-image-lt13 : goal.returns-then-image-lt13
@@ -20,22 +18,25 @@ pub returns-then-not-limits_fit : goal.returns-then-not-limits_fit
 unfolding tables_refusal
 returns-then-not-limits_fit c =
     rw (sized _ c.if-image-lt13.false c.if-image-gt4096.false)
-    (refused _ _ _ _ c.limits_fit.ensures (ap not c.if-not-limits_fit.true))
+    (refused _ _ _ _ c.limits_fit.ensures c.if-not-limits_fit.true-raw)
 
 pub returns-then-not-places_fit : goal.returns-then-not-places_fit
 unfolding tables_refusal
 returns-then-not-places_fit c =
     rw (sized _ c.if-image-lt13.false c.if-image-gt4096.false)
-    (passed _ _ _ _ _ c.limits_fit.ensures (ap not c.if-not-limits_fit.false)
-    (refused _ _ _ _ c.places_fit.ensures (ap not c.if-not-places_fit.true)))
+    (passed _ _ _ _ _ c.limits_fit.ensures c.if-not-limits_fit.false-raw
+    (refused _ _ _ _ c.places_fit.ensures c.if-not-places_fit.true-raw))
 
 pub records_refusal-requires : goal.records_refusal-requires
-records_refusal-requires c = (search rules, sym c.places_fit.ensures ∙ not-false _ (ap not c.if-not-places_fit.false))
+records_refusal-requires c = record {
+  sized = search rules;
+  image_value = sym c.places_fit.ensures ∙ not-false _ c.if-not-places_fit.false-raw;
+}
 
 pub returns : goal.returns
 unfolding tables_refusal
 returns c =
     rw (sized _ c.if-image-lt13.false c.if-image-gt4096.false)
-    (passed _ _ _ _ _ c.limits_fit.ensures (ap not c.if-not-limits_fit.false)
-    (passed _ _ _ _ _ c.places_fit.ensures (ap not c.if-not-places_fit.false)
+    (passed _ _ _ _ _ c.limits_fit.ensures c.if-not-limits_fit.false-raw
+    (passed _ _ _ _ _ c.places_fit.ensures c.if-not-places_fit.false-raw
     c.records_refusal.ensures))

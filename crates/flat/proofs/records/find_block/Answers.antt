@@ -1,25 +1,19 @@
 -- `flat::records::find_block` meets its contract: what is left to search is what the whole search finds. Assumes nothing.
 use mathlib.Core.Path.{◌≡◌, ◌∙◌}
-use mathlib.Core.List.{List, [], map}
-use mathlib.Core.Option.{Option}
+use mathlib.Core.List.{List, []}
 use Prim.Native.Nat.{ℕ, suc, ◌+◌, ◌*◌, ◌-◌, ◌/◌, ◌≤◌, ◌<◌}
 use native.Mathlib.Numerals.{add-one}
 use native.Mathlib.Nat.{sub-zero}
 use native.Mathlib.Omega.{arith}
 use borrow.Author.Rules.{rules}
 use borrow.Author.Tests.{eq-eqb, ne_eqb}
-use lib.Dec.{eqb}
 use lib.ListN.{length, get_or}
 use Rattle.model.specs.declared.Record.{Record}
-use Rattle.model.specs.Lists.{find, up_from}
 use Rattle.model.specs.Rules.{record_in}
 use Rattle.model.specs.Flat.{block_named}
 use Rattle.flat.specs.Outcome.{found_in, block_at}
+use Rattle.flat.proofs.records.find_block.Invariants.{searched}
 use Rattle.flat.proofs.records.find_block.Goals as goal
-
--- the first of k records of the name, from record i on
-abbrev searched : List ℕ → ℕ → ℕ → ℕ → Option Record
-searched t name i k = find (λ (r : Record). eqb r.kind name) (map (record_in t) (up_from i k))
 
 module _ (t : List ℕ) (n i name : ℕ) (h : i < n) (r : Record) (e : r ≡ record_in t i) where
   more : n - i ≡ suc (n - (i + 1))
@@ -59,10 +53,10 @@ overflow_cast-result c = omega (arith, c.requires)
 pub returns-then-r-name : goal.returns-then-r-name
 returns-then-r-name c =
     let a = c.args in
-    let x = c.read_record-r in (
-      here a.blocks.now (length a.blocks.now / 8) c.loop-i.i a.name c.loop-i-test.true x.result x.ensures c.if-r-name.true ∙ c.loop-i.invariant.1,
-      omega (arith, c.loop-i-test.true),
-    )
+    let x = c.read_record-r in record {
+      result_value = here a.blocks.now (length a.blocks.now / 8) c.loop-i.i a.name c.loop-i-test.true x.result x.ensures c.if-r-name.true ∙ c.loop-i.invariant.1;
+      upper_bound = omega (arith, c.loop-i-test.true);
+    }
 
 pub loop-i-smaller : goal.loop-i-smaller
 loop-i-smaller c = search rules
@@ -78,4 +72,7 @@ loop-i-preserved c =
 pub returns : goal.returns
 returns c =
     let a = c.args in
-    (none_left a.blocks.now (length a.blocks.now / 8) c.loop-i.i a.name c.loop-i-test.false ∙ c.loop-i.invariant.1, omega arith)
+    record {
+      result_value = none_left a.blocks.now (length a.blocks.now / 8) c.loop-i.i a.name c.loop-i-test.false ∙ c.loop-i.invariant.1;
+      upper_bound = omega arith;
+    }

@@ -39,9 +39,15 @@ pub returns-in-Call : goal.returns-in-Call
 returns-in-Call c =
     let a = c.args in
     let f = c.find_block in
-    (calls a.blocks.now c.read_action.result (action_in a.acts.now a.i) _ f.result c.read_action.ensures c.in-Call.is f.ensures.0, f.ensures.1)
+    record {
+      result_value = calls a.blocks.now c.read_action.result (action_in a.acts.now a.i) _ f.result c.read_action.ensures c.in-Call.is f.ensures.result_value;
+      upper_bound = f.ensures.upper_bound;
+    }
 
 pub returns-in_default : goal.returns-in_default
 returns-in_default c =
     let a = c.args in
-    (no_call a.blocks.now c.read_action.result c.in_default.keys2 ∙ ap (called_in a.blocks.now) c.read_action.ensures, omega arith)
+    record {
+      result_value = no_call a.blocks.now c.read_action.result c.in_default.in_default-own.keys2 ∙ ap (called_in a.blocks.now) c.read_action.ensures;
+      upper_bound = omega arith;
+    }

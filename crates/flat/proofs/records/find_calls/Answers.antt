@@ -34,7 +34,7 @@ pub find_called-requires : goal.find_called-requires
 find_called-requires c = (c.loop-i-test.true, c.requires.1)
 
 pub overflow_cast-calls : goal.overflow_cast-calls
-overflow_cast-calls c = omega (arith, c.find_called.ensures.1, c.requires.1)
+overflow_cast-calls c = omega (arith, c.find_called.ensures.upper_bound, c.requires.1)
 
 pub offset_bounds-calls-i : goal.offset_bounds-calls-i
 offset_bounds-calls-i c = search rules
@@ -54,7 +54,7 @@ loop-i-preserved c =
     let l = c.loop-i in
     let f = c.find_called in (
       simp length-set l.invariant.0,
-      one_more a.acts.now a.blocks.now l.calls l.i f.result l.invariant.1 (omega (arith, l.invariant.0, c.requires, c.loop-i-test.true)) f.ensures.0 f.ensures.1,
+      one_more a.acts.now a.blocks.now l.calls l.i f.result l.invariant.1 (omega (arith, l.invariant.0, c.requires, c.loop-i-test.true)) f.ensures.result_value f.ensures.upper_bound,
     )
 
 pub shape_of-calls : goal.shape_of-calls

@@ -15,7 +15,7 @@ loop-k-init c =
     (omega arith, refl, refl, rw (rules-none a.acts.now a.blocks.now a.rules.now a.depth a.limit) (at-start a.seen.now a.words.now a.lists.now))
 
 pub offset_bounds-words-at : goal.offset_bounds-words-at
-offset_bounds-words-at c = omega (arith, c.place-at.ensures.0, c.loop-k.invariant.3.room-is, c.requires.1.1.2)
+offset_bounds-words-at c = omega (arith, c.place-at.ensures.0, c.loop-k.invariant.3.room-is, c.requires.in_bounds.2)
 
 pub slice_bounds-flatten_rule-count : goal.slice_bounds-flatten_rule-count
 slice_bounds-flatten_rule-count c = omega (arith, c.place-at.ensures.0)
@@ -27,7 +27,7 @@ pub slice_bounds-flatten_rule-end : goal.slice_bounds-flatten_rule-end
 slice_bounds-flatten_rule-end c = omega (arith, c.place-at.ensures.0)
 
 pub offset_bounds-seen-behind : goal.offset_bounds-seen-behind
-offset_bounds-seen-behind c = omega (arith, c.place-behind.ensures.0, c.requires.1.1.3)
+offset_bounds-seen-behind c = omega (arith, c.place-behind.ensures.0, c.requires.in_bounds.3)
 
 pub slice_bounds-flatten_rule-count-in-loop-k : goal.slice_bounds-flatten_rule-count-in-loop-k
 slice_bounds-flatten_rule-count-in-loop-k c = omega (arith, c.place-behind.ensures.0)
@@ -42,7 +42,11 @@ pub flatten_rule-requires : goal.flatten_rule-requires
 flatten_rule-requires c =
     let l = c.loop-k in
     let u = l.invariant in
-    (c.requires.0, (c.requires.1.0, (omega (arith, u.1, c.requires.1.1.0), omega (arith, u.2, c.requires.1.1.1), c.loop-k-test.true, omega (arith, u.3.taken_is))))
+    record {
+      checked_tables = c.requires.checked_tables;
+      resolved = c.requires.resolved;
+      in_bounds = (omega (arith, u.1, c.requires.in_bounds.0), omega (arith, u.2, c.requires.in_bounds.1), c.loop-k-test.true, omega (arith, u.3.taken_is));
+    }
 
 pub shape_of-own-in_default : goal.shape_of-own-in_default
 shape_of-own-in_default c = c.flatten_rule.auto.own ∙ c.loop-k.invariant.1
@@ -69,12 +73,12 @@ returns-in_default c =
 pub overflow_add-size : goal.overflow_add-size
 overflow_add-size c =
     let z = rw c.in-Done.is at c.flatten_rule.ensures in
-    omega (arith, z.few, c.loop-k.invariant.3.bounded, c.loop-k.invariant.0, c.requires.0.rules-few)
+    omega (arith, z.few, c.loop-k.invariant.3.bounded, c.loop-k.invariant.0, c.requires.checked_tables.rules-few)
 
 pub overflow_cast-size : goal.overflow_cast-size
 overflow_cast-size c =
     let z = rw c.in-Done.is at c.flatten_rule.ensures in
-    omega (arith, z.few, c.loop-k.invariant.3.bounded, c.loop-k.invariant.0, c.requires.0.rules-few)
+    omega (arith, z.few, c.loop-k.invariant.3.bounded, c.loop-k.invariant.0, c.requires.checked_tables.rules-few)
 
 pub overflow_cast-listed : goal.overflow_cast-listed
 overflow_cast-listed c =
@@ -82,7 +86,7 @@ overflow_cast-listed c =
     omega (arith, z.short)
 
 pub put_list-requires : goal.put_list-requires
-put_list-requires c = omega (arith, c.loop-k-test.true, c.requires.0.rules-few)
+put_list-requires c = omega (arith, c.loop-k-test.true, c.requires.checked_tables.rules-few)
 
 pub overflow_add-size-in-loop-k : goal.overflow_add-size-in-loop-k
 overflow_add-size-in-loop-k c =
@@ -92,10 +96,10 @@ overflow_add-size-in-loop-k c =
 pub overflow_add-size-in-loop-k-2 : goal.overflow_add-size-in-loop-k-2
 overflow_add-size-in-loop-k-2 c =
     let z = rw c.in-Done.is at c.flatten_rule.ensures in
-    omega (arith, z.few, c.loop-k.invariant.3.bounded, c.loop-k.invariant.0, c.requires.0.rules-few)
+    omega (arith, z.few, c.loop-k.invariant.3.bounded, c.loop-k.invariant.0, c.requires.checked_tables.rules-few)
 
 pub overflow_add-k : goal.overflow_add-k
-overflow_add-k c = omega (arith, c.loop-k-test.true, c.requires.0.rules-few)
+overflow_add-k c = omega (arith, c.loop-k-test.true, c.requires.checked_tables.rules-few)
 
 pub loop-k-smaller : goal.loop-k-smaller
 loop-k-smaller c = omega (arith, c.loop-k-test.true)

@@ -8,29 +8,38 @@ use Rattle.flat.proofs.RuleLists.{loaded-over, loaded-steps}
 use Rattle.flat.proofs.rules.flatten_rules.Goals as goal
 
 pub offset_bounds-image-end : goal.offset_bounds-image-end
-offset_bounds-image-end c = omega (arith, short c.args.image.now c.requires.0)
+offset_bounds-image-end c = omega (arith, short c.args.image.now c.requires.checked)
 
 pub slice_bounds-flatten_image-count : goal.slice_bounds-flatten_image-count
-slice_bounds-flatten_image-count c = omega (arith, short c.args.image.now c.requires.0)
+slice_bounds-flatten_image-count c = omega (arith, short c.args.image.now c.requires.checked)
 
 pub slice_bounds-flatten_image-start : goal.slice_bounds-flatten_image-start
-slice_bounds-flatten_image-start c = omega (arith, short c.args.image.now c.requires.0)
+slice_bounds-flatten_image-start c = omega (arith, short c.args.image.now c.requires.checked)
 
 pub slice_bounds-flatten_image-end : goal.slice_bounds-flatten_image-end
-slice_bounds-flatten_image-end c = omega (arith, short c.args.image.now c.requires.0)
+slice_bounds-flatten_image-end c = omega (arith, short c.args.image.now c.requires.checked)
 
 pub flatten_image-requires : goal.flatten_image-requires
 flatten_image-requires c =
     let i = c.args.image.now in
-    (c.requires.0, (c.requires.1, omega (arith, tail-size i (length i))))
+    record {
+      checked = c.requires.checked;
+      words_len_bound = (c.requires.words_len_bound, omega (arith, tail-size i (length i)));
+    }
 
 pub returns-in_default : goal.returns-in_default
 returns-in_default c =
     let fs = flatten_rules c.args.image.now in
-    (loaded-over fs (rw c.in_default.is at c.flatten_image.ensures), tt)
+    record {
+      value = loaded-over fs (rw c.in_default.is at c.flatten_image.ensures);
+      stored = tt;
+    }
 
 pub returns : goal.returns
 returns c =
     let fs = flatten_rules c.args.image.now in
     let z = rw c.in-Steps.is at c.flatten_image.ensures in
-    (loaded-steps fs _ z.few z.count, z.parts)
+    record {
+      value = loaded-steps fs _ z.few z.count;
+      stored = z.parts;
+    }

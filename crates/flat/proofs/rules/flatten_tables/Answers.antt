@@ -8,12 +8,16 @@ use Rattle.flat.proofs.RuleLists.{cleared, rules-count}
 use Rattle.flat.proofs.rules.flatten_tables.Goals as goal
 
 pub find_calls-requires : goal.find_calls-requires
-find_calls-requires c = (omega (arith, c.requires.0.tables.few), c.requires.0.blocks-few)
+find_calls-requires c = (omega (arith, c.requires.checked_tables.tables.few), c.requires.checked_tables.blocks-few)
 
 pub flatten_each-requires : goal.flatten_each-requires
 flatten_each-requires c =
     let f = c.find_calls in
-    (c.requires.0, ((f.ensures, omega (arith, c.requires.0.tables.few, f.auto.calls)), (omega arith, omega arith, c.requires.1.0, c.requires.1.1)))
+    record {
+      checked_tables = c.requires.checked_tables;
+      resolved = (f.ensures, omega (arith, c.requires.checked_tables.tables.few, f.auto.calls));
+      in_bounds = (omega arith, omega arith, c.requires.words_len_bound.0, c.requires.words_len_bound.1);
+    }
 
 pub returns-in_default : goal.returns-in_default
 returns-in_default c = rw c.in_default.is at c.flatten_each.ensures

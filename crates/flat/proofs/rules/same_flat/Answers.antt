@@ -4,12 +4,13 @@ use borrow.Author.Tests.{not-true, not-false}
 use Rattle.model.specs.Flat.{flatten_rules}
 use Rattle.flat.proofs.Counts.{few-stored}
 use Rattle.flat.proofs.FlatPart.{not_made, other-words, other-count, same_rows, rules-length}
-use mathlib.Core.Path.{ap}
-use mathlib.Core.Bool.{not}
 use Rattle.flat.proofs.rules.same_flat.Goals as goal
 
 pub flatten_image-requires : goal.flatten_image-requires
-flatten_image-requires c = (c.requires.0, (omega arith, c.requires.1.1))
+flatten_image-requires c = record {
+  checked = c.requires.checked;
+  words_len_bound = (omega arith, c.requires.steps_len_bound);
+}
 
 pub returns-in_default : goal.returns-in_default
 returns-in_default c =
@@ -21,7 +22,7 @@ returns-then-not-same c =
     let a = c.args in
     let f = c.flatten_image in
     let z = rw c.in-Steps.is at f.ensures in
-    other-words (flatten_rules a.image.now) a.lists.now a.steps.now _ _ f.new.words f.new.lists z (not-true _ (ap not c.if-not-same.true))
+    other-words (flatten_rules a.image.now) a.lists.now a.steps.now _ _ f.new.words f.new.lists z (not-true _ c.if-not-same.true-raw)
 
 pub overflow_mul-n : goal.overflow_mul-n
 overflow_mul-n c =
@@ -42,4 +43,4 @@ returns c =
     let f = c.flatten_image in
     let z = rw c.in-Steps.is at f.ensures in
     let s = c.same_words in
-    same_rows (flatten_rules a.image.now) a.lists.now a.steps.now _ _ f.new.words f.new.lists z (not-false _ (ap not c.if-not-same.false)) c.if-n-steps.false f.auto.lists (omega (arith, rules-length a.image.now, c.requires.1.0)) s.result s.ensures
+    same_rows (flatten_rules a.image.now) a.lists.now a.steps.now _ _ f.new.words f.new.lists z (not-false _ c.if-not-same.false-raw) c.if-n-steps.false f.auto.lists (omega (arith, rules-length a.image.now, c.requires.rules_bound)) s.result s.ensures

@@ -10,8 +10,6 @@ use Rattle.model.specs.Flat.{Row}
 use Rattle.flat.specs.Words.{layout, same_at}
 use Rattle.flat.specs.Outcome.{holds_at}
 use Rattle.flat.proofs.Rows.{paste-behinds}
-use mathlib.Core.Path.{ap}
-use mathlib.Core.Bool.{not}
 use Rattle.flat.proofs.steps.append_steps.Goals as goal
 
 differed : (seen : List ℕ) (m : ℕ) (same : Bool) (rs : List Row) → same ≡ false → false ≡ same && holds_at seen m rs
@@ -35,13 +33,13 @@ shape_of-words-then-not-same c = search rules
 
 pub returns-then-not-same : goal.returns-then-not-same
 returns-then-not-same c =
-    let a = c.args in (
-      (λ rs e. (
-        paste-behinds a.words.now _ a.from.now a.n a.size rs c.requires.1 e (λ h. c.copy_words.ensures.0 h c.requires.1),
-        differed a.seen.now a.n a.same rs (not-true a.same (ap not c.if-not-same.true)),
-      )),
-      c.copy_words.ensures.1,
-    )
+    let a = c.args in record {
+      behinds = (λ rs e. (
+        paste-behinds a.words.now _ a.from.now a.n a.size rs c.requires.1 e (λ h. c.copy_words.ensures.words_after h c.requires.1),
+        differed a.seen.now a.n a.same rs (not-true a.same c.if-not-same.true-raw),
+      ));
+      words_unchanged = c.copy_words.ensures.words_unchanged;
+    }
 
 pub overflow_mul-n-2 : goal.overflow_mul-n-2
 overflow_mul-n-2 c = search rules
@@ -57,10 +55,10 @@ shape_of-words c = search rules
 
 pub returns : goal.returns
 returns c =
-    let a = c.args in (
-      (λ rs e. (
-        paste-behinds a.words.now _ a.from.now a.n a.size rs c.requires.1 e (λ h. c.copy_words.ensures.0 h c.requires.1),
-        compared a.seen.now a.from.now a.n a.size a.same _ rs (not-false a.same (ap not c.if-not-same.false)) c.same_at.ensures e,
-      )),
-      c.copy_words.ensures.1,
-    )
+    let a = c.args in record {
+      behinds = (λ rs e. (
+        paste-behinds a.words.now _ a.from.now a.n a.size rs c.requires.1 e (λ h. c.copy_words.ensures.words_after h c.requires.1),
+        compared a.seen.now a.from.now a.n a.size a.same _ rs (not-false a.same c.if-not-same.false-raw) c.same_at.ensures e,
+      ));
+      words_unchanged = c.copy_words.ensures.words_unchanged;
+    }

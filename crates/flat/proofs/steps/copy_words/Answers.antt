@@ -57,10 +57,19 @@ returns-after-loop-i c =
     let l = c.loop-i in
     let a = c.args in
     let e : l.i ≡ a.len = omega arith in
-    ((λ h k. rw e at l.invariant.1), front a.words.now a.from.now a.at l.words l.i (omega arith) (omega arith) l.invariant.1)
+    record {
+      words_after = (λ h k. rw e at l.invariant.1);
+      words_unchanged = front a.words.now a.from.now a.at l.words l.i (omega arith) (omega arith) l.invariant.1;
+    }
 
 pub returns-else-at-len : goal.returns-else-at-len
-returns-else-at-len c = ((λ h k. absurd (omega arith)), refl)
+returns-else-at-len c = record {
+  words_after = (λ h k. absurd (omega arith));
+  words_unchanged = refl;
+}
 
 pub returns-else-len-from : goal.returns-else-len-from
-returns-else-len-from c = ((λ h k. absurd (omega arith)), refl)
+returns-else-len-from c = record {
+  words_after = (λ h k. absurd (omega arith));
+  words_unchanged = refl;
+}

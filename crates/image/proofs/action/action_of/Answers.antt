@@ -4,7 +4,7 @@ use Rattle.image.proofs.Match.{past}
 use Rattle.image.proofs.action.action_of.Goals as goal
 
 pub input_action_of-requires : goal.input_action_of-requires
-input_action_of-requires c = let r = c.args.r in past 0 8 r.kind zero-le c.in_default.rest
+input_action_of-requires c = let r = c.args.r in past 0 8 r.kind zero-le c.in_default.in_default-own.rest
 
 pub returns-in-0 : goal.returns-in-0
 returns-in-0 c = rw c.in-0.is

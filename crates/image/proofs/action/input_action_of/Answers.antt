@@ -3,7 +3,7 @@ use Rattle.image.proofs.Match.{past}
 use Rattle.image.proofs.action.input_action_of.Goals as goal
 
 pub timer_action_of-requires : goal.timer_action_of-requires
-timer_action_of-requires c = let r = c.args.r in past 8 5 r.kind c.requires c.in_default.rest
+timer_action_of-requires c = let r = c.args.r in past 8 5 r.kind c.requires c.in_default.in_default-own.rest
 
 pub returns-in-8 : goal.returns-in-8
 returns-in-8 c = rw c.in-8.is

@@ -37,4 +37,4 @@ pub returns-in-22 : goal.returns-in-22
 returns-in-22 c = rw c.in-22.is
 
 pub returns-in_default : goal.returns-in_default
-returns-in_default c = let r = c.args.r in no-action r (past 13 10 r.kind c.requires c.in_default.rest) c.if-kind-eq28.false
+returns-in_default c = let r = c.args.r in no-action r (past 13 10 r.kind c.requires c.in_default.in_default-own.rest) c.if-kind-eq28.false

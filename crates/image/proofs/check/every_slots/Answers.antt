@@ -24,4 +24,4 @@ pub loop-i-preserved : goal.loop-i-preserved
 loop-i-preserved c = (search rules, adds _ _ _ _ c.loop-i.invariant.1 c.slots.ensures, omega arith, search rules)
 
 pub returns : goal.returns
-returns c = rw (← c.before.before.type_size.ensures) (whole _ _ _ _ c.loop-i-test.false c.loop-i.invariant.0 c.loop-i.invariant.1)
+returns c = rw (← c.size_of-n.ensures) (whole _ _ _ _ c.loop-i-test.false c.loop-i.invariant.0 c.loop-i.invariant.1)

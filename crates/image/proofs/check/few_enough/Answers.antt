@@ -5,12 +5,12 @@ use Rattle.image.proofs.check.few_enough.Goals as goal
 
 pub returns-then-size_of-le64-2 : goal.returns-then-size_of-le64-2
 unfolding few_enough
-returns-then-size_of-le64-2 c = rw (← c.every_slots.ensures, ← c.before.before.before.before.type_size.ensures, le-leb _ _ c.if-size_of-le64.true, ← c.size_of-then-size_of-le64.ensures, le-leb _ _ c.if-size_of-le64-2.true)
+returns-then-size_of-le64-2 c = rw (← c.every_slots.ensures, ← c.size_of.ensures, le-leb _ _ c.if-size_of-le64.true, ← c.size_of-then-size_of-le64.ensures, le-leb _ _ c.if-size_of-le64-2.true)
 
 pub returns-else-size_of-le64-2 : goal.returns-else-size_of-le64-2
 unfolding few_enough
-returns-else-size_of-le64-2 c = rw (← c.before.before.before.type_size.ensures, le-leb _ _ c.if-size_of-le64.true, ← c.size_of-then-size_of-le64.ensures, lt-leb _ _ c.if-size_of-le64-2.false)
+returns-else-size_of-le64-2 c = rw (← c.size_of.ensures, le-leb _ _ c.if-size_of-le64.true, ← c.size_of-then-size_of-le64.ensures, lt-leb _ _ c.if-size_of-le64-2.false)
 
 pub returns-else-size_of-le64 : goal.returns-else-size_of-le64
 unfolding few_enough
-returns-else-size_of-le64 c = rw (← c.before.type_size.ensures, lt-leb _ _ c.if-size_of-le64.false)
+returns-else-size_of-le64 c = rw (← c.size_of.ensures, lt-leb _ _ c.if-size_of-le64.false)

@@ -2,4 +2,4 @@
 use Rattle.image.proofs.check.limit_fits.Goals as goal
 
 pub returns : goal.returns
-returns c = rw (c.trailer_word-limit.ensures, c.requires.1.0, c.requires.1.1)
+returns c = rw (c.trailer_word-limit.ensures, c.requires.least_value.0, c.requires.least_value.1)

@@ -5,15 +5,13 @@ use native.Mathlib.Omega.{arith}
 use borrow.Author.Rules.{rules}
 use Rattle.fields.proofs.Every.{starts, goes, leaves, ends}
 use Rattle.model.specs.Image.{place_fits}
-use mathlib.Core.Path.{ap}
-use mathlib.Core.Bool.{not}
 use Rattle.image.proofs.check.tables_follow.Goals as goal
 
 pub loop-t-init : goal.loop-t-init
 loop-t-init c = (search rules, starts _)
 
 pub returns-then-not-place_fits : goal.returns-then-not-place_fits
-returns-then-not-place_fits c = leaves _ _ _ _ c.loop-t-test.true c.place_fits.ensures (ap not c.if-not-place_fits.true)
+returns-then-not-place_fits c = leaves _ _ _ _ c.loop-t-test.true c.place_fits.ensures c.if-not-place_fits.true-raw
 
 pub overflow_add-t : goal.overflow_add-t
 overflow_add-t c = omega arith
@@ -22,7 +20,7 @@ pub loop-t-smaller : goal.loop-t-smaller
 loop-t-smaller c = omega arith
 
 pub loop-t-preserved : goal.loop-t-preserved
-loop-t-preserved c = (search rules, goes _ _ _ c.loop-t.invariant.1 c.place_fits.ensures (ap not c.if-not-place_fits.false))
+loop-t-preserved c = (search rules, goes _ _ _ c.loop-t.invariant.1 c.place_fits.ensures c.if-not-place_fits.false-raw)
 
 pub returns : goal.returns
 returns c = ends _ _ _ c.loop-t-test.false c.loop-t.invariant.0 c.loop-t.invariant.1

@@ -9,4 +9,4 @@ returns-then-end-start c = rw (← c.first_of-end.ensures, ← c.first_of-start.
 
 pub returns : goal.returns
 unfolding size_of
-returns c = rw (c.width_of_lem.ensures.0, c.first_of-end.ensures, c.first_of-start.ensures)
+returns c = rw (c.width_of.ensures.0, c.first_of-end.ensures, c.first_of-start.ensures)

@@ -4,4 +4,4 @@ use Rattle.image.proofs.layout.word_at.Goals as goal
 
 pub returns : goal.returns
 unfolding word_at
-returns c = rw (← c.before.width_of_lem.ensures.0, ← c.first_of.ensures) c.cell.ensures
+returns c = rw (← c.width_of.ensures.0, ← c.first_of.ensures) c.cell.ensures

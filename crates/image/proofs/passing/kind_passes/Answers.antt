@@ -6,4 +6,4 @@ use Rattle.image.proofs.passing.kind_passes.Goals as goal
 pub returns : goal.returns
 returns c =
     let a = c.args in
-    c.row_passes.ensures ∙ kind-both a.image.now a.i a.t a.at c.requires.1.0.0 c.requires.1.0.1 c.requires.1.1.0 _ c.row_of-row.ensures _ c.last_kind.ensures
+    c.row_passes.ensures ∙ kind-both a.image.now a.i a.t a.at c.requires.le_t.0 c.requires.le_t.1 c.requires.at_value.0 _ c.row_of-row.ensures _ c.last_kind.ensures

@@ -42,5 +42,5 @@ returns-in-10 c = rw c.in-10.is
 pub returns-in_default : goal.returns-in_default
 unfolding class_of
 returns-in_default c =
-    let e : c.args.class ≡ 11 = omega (arith, past 0 11 c.args.class zero-le c.in_default.rest) in
+    let e : c.args.class ≡ 11 = omega (arith, past 0 11 c.args.class zero-le c.in_default.in_default-own.rest) in
     rw e

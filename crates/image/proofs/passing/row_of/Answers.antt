@@ -13,7 +13,7 @@ pub returns-in-4 : goal.returns-in-4
 returns-in-4 c = rw c.in-4.is c.action_row.ensures
 
 pub returns-in-5 : goal.returns-in-5
-returns-in-5 c = rw c.in-5.is c.Value-row.ensures
+returns-in-5 c = rw c.in-5.is c.value_row.ensures
 
 pub returns-in_default : goal.returns-in_default
 returns-in_default c =

@@ -4,15 +4,13 @@ use Prim.Native.Nat.{◌-◌}
 use native.Mathlib.Omega.{arith}
 use Rattle.fields.proofs.Every.{starts, goes, leaves, ends}
 use Rattle.image.proofs.OnePass.{tables-split}
-use mathlib.Core.Path.{ap}
-use mathlib.Core.Bool.{not}
 use Rattle.image.proofs.passing.tables_pass.Goals as goal
 
 pub loop-t-init : goal.loop-t-init
 loop-t-init c = (omega arith, starts _)
 
 pub returns-then-not-table_passes : goal.returns-then-not-table_passes
-returns-then-not-table_passes c = rw (← tables-split c.args.image.now) (leaves _ _ _ _ c.loop-t-test.true c.table_passes.ensures (ap not c.if-not-table_passes.true))
+returns-then-not-table_passes c = rw (← tables-split c.args.image.now) (leaves _ _ _ _ c.loop-t-test.true c.table_passes.ensures c.if-not-table_passes.true-raw)
 
 pub overflow_add-t : goal.overflow_add-t
 overflow_add-t c = omega arith
@@ -21,7 +19,7 @@ pub loop-t-smaller : goal.loop-t-smaller
 loop-t-smaller c = omega arith
 
 pub loop-t-preserved : goal.loop-t-preserved
-loop-t-preserved c = (omega arith, goes _ _ _ c.loop-t.invariant.1 c.table_passes.ensures (ap not c.if-not-table_passes.false))
+loop-t-preserved c = (omega arith, goes _ _ _ c.loop-t.invariant.1 c.table_passes.ensures c.if-not-table_passes.false-raw)
 
 pub returns : goal.returns
 returns c = rw (← tables-split c.args.image.now) (ends _ _ _ c.loop-t-test.false c.loop-t.invariant.0 c.loop-t.invariant.1)

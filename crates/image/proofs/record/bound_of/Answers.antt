@@ -11,4 +11,4 @@ pub returns-in-1 : goal.returns-in-1
 returns-in-1 c = rw c.in-1.is
 
 pub returns-in_default : goal.returns-in_default
-returns-in_default c = let r = c.args.r in no_bound r (past 0 2 r.kind zero-le c.in_default.rest)
+returns-in_default c = let r = c.args.r in no_bound r (past 0 2 r.kind zero-le c.in_default.in_default-own.rest)

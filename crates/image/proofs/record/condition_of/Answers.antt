@@ -4,7 +4,7 @@ use Rattle.image.proofs.Match.{past}
 use Rattle.image.proofs.record.condition_of.Goals as goal
 
 pub device_condition_of-requires : goal.device_condition_of-requires
-device_condition_of-requires c = let r = c.args.r in past 0 7 r.kind zero-le c.in_default.rest
+device_condition_of-requires c = let r = c.args.r in past 0 7 r.kind zero-le c.in_default.in_default-own.rest
 
 pub returns-in-0 : goal.returns-in-0
 returns-in-0 c = rw c.in-0.is

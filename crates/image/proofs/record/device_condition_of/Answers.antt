@@ -3,7 +3,7 @@ use Rattle.image.proofs.Match.{past}
 use Rattle.image.proofs.record.device_condition_of.Goals as goal
 
 pub state_condition_of-requires : goal.state_condition_of-requires
-state_condition_of-requires c = let r = c.args.r in past 7 4 r.kind c.requires c.in_default.rest
+state_condition_of-requires c = let r = c.args.r in past 7 4 r.kind c.requires c.in_default.in_default-own.rest
 
 pub returns-in-7 : goal.returns-in-7
 returns-in-7 c = rw c.in-7.is

@@ -71,4 +71,4 @@ pub returns-in-21 : goal.returns-in-21
 returns-in-21 c = rw c.in-21.is
 
 pub returns-in_default : goal.returns-in_default
-returns-in_default c = let a = c.args in last-reading a.code a.a a.b a.c (past 0 22 a.code zero-le c.in_default.rest)
+returns-in_default c = let a = c.args in last-reading a.code a.a a.b a.c (past 0 22 a.code zero-le c.in_default.in_default-own.rest)

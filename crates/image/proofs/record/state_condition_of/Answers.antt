@@ -19,4 +19,4 @@ pub returns-in-15 : goal.returns-in-15
 returns-in-15 c = rw c.in-15.is
 
 pub returns-in_default : goal.returns-in_default
-returns-in_default c = let r = c.args.r in no-condition r (past 11 5 r.kind c.requires c.in_default.rest)
+returns-in_default c = let r = c.args.r in no-condition r (past 11 5 r.kind c.requires c.in_default.in_default-own.rest)

@@ -17,4 +17,4 @@ pub returns-in-3 : goal.returns-in-3
 returns-in-3 c = rw c.in-3.is
 
 pub returns-in_default : goal.returns-in_default
-returns-in_default c = let r = c.args.r in other-trigger r (past 0 4 r.kind zero-le c.in_default.rest)
+returns-in_default c = let r = c.args.r in other-trigger r (past 0 4 r.kind zero-le c.in_default.in_default-own.rest)

@@ -24,4 +24,4 @@ pub returns-in-2 : goal.returns-in-2
 returns-in-2 c = rw (c.in-2.is, c.reading_of-in-2.ensures)
 
 pub returns-in_default : goal.returns-in_default
-returns-in_default c = let r = c.args.r in no_value r (past 0 3 r.kind zero-le c.in_default.rest)
+returns-in_default c = let r = c.args.r in no_value r (past 0 3 r.kind zero-le c.in_default.in_default-own.rest)

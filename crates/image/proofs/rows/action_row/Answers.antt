@@ -95,4 +95,4 @@ returns-in-28 c = record { classes = rw c.in-28.is }
 
 pub returns-in_default : goal.returns-in_default
 unfolding class_of
-returns-in_default c = record { classes = no_row void 5 action_rows c.args.kind (past 0 29 c.args.kind zero-le c.in_default.rest) }
+returns-in_default c = record { classes = no_row void 5 action_rows c.args.kind (past 0 29 c.args.kind zero-le c.in_default.in_default-own.rest) }

@@ -15,4 +15,4 @@ pub returns-in-2 : goal.returns-in-2
 returns-in-2 c = rw c.in-2.is
 
 pub returns-in_default : goal.returns-in_default
-returns-in_default c = past_row block_row c.args.j (past 0 3 c.args.j zero-le c.in_default.rest)
+returns-in_default c = past_row block_row c.args.j (past 0 3 c.args.j zero-le c.in_default.in_default-own.rest)

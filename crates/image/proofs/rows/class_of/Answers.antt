@@ -81,4 +81,4 @@ returns-in-23 c = rw c.in-23.is
 
 pub returns-in_default : goal.returns-in_default
 unfolding class_of
-returns-in_default c = sym (get_or-eq_default classes void (past 0 24 c.args.c zero-le c.in_default.rest))
+returns-in_default c = sym (get_or-eq_default classes void (past 0 24 c.args.c zero-le c.in_default.in_default-own.rest))

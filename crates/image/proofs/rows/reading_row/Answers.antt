@@ -77,4 +77,4 @@ returns-in-22 c = record { classes = rw c.in-22.is }
 
 pub returns-in_default : goal.returns-in_default
 unfolding class_of
-returns-in_default c = record { classes = no_row void 5 reading_rows c.args.code (past 0 23 c.args.code zero-le c.in_default.rest) }
+returns-in_default c = record { classes = no_row void 5 reading_rows c.args.code (past 0 23 c.args.code zero-le c.in_default.in_default-own.rest) }

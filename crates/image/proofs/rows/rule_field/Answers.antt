@@ -36,4 +36,4 @@ pub returns-in-9 : goal.returns-in-9
 returns-in-9 c = rw c.in-9.is
 
 pub returns-in_default : goal.returns-in_default
-returns-in_default c = past_row rule_row c.args.j (past 0 10 c.args.j zero-le c.in_default.rest)
+returns-in_default c = past_row rule_row c.args.j (past 0 10 c.args.j zero-le c.in_default.in_default-own.rest)

@@ -23,4 +23,4 @@ returns-in-4 c = record { classes = rw c.in-4.is }
 
 pub returns-in_default : goal.returns-in_default
 unfolding class_of
-returns-in_default c = record { classes = no_row void 5 trigger_rows c.args.kind (past 0 5 c.args.kind zero-le c.in_default.rest) }
+returns-in_default c = record { classes = no_row void 5 trigger_rows c.args.kind (past 0 5 c.args.kind zero-le c.in_default.in_default-own.rest) }

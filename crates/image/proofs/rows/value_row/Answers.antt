@@ -19,4 +19,4 @@ returns-in-2 c = rw c.in-2.is (offset-row _ c.args.code c.reading_row-reference.
 
 pub returns-in_default : goal.returns-in_default
 unfolding class_of
-returns-in_default c = let a = c.args in record { classes = no_row void 5 (value_rows a.code) a.kind (past 0 3 a.kind zero-le c.in_default.rest) }
+returns-in_default c = let a = c.args in record { classes = no_row void 5 (value_rows a.code) a.kind (past 0 3 a.kind zero-le c.in_default.in_default-own.rest) }

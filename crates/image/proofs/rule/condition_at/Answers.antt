@@ -6,9 +6,9 @@ use Rattle.image.proofs.rule.condition_at.Goals as goal
 
 pub overflow_add-word_at : goal.overflow_add-word_at
 overflow_add-word_at c =
-    omega (arith, c.word_at.ensures, condition-small c.args.image.now c.args.i c.args.k c.requires.0.passes c.requires.1.0 c.requires.1.1)
+    omega (arith, c.word_at.ensures, condition-small c.args.image.now c.args.i c.args.k c.requires.accepted.passes c.requires.i_bound c.requires.k_in_bounds)
 
 pub returns : goal.returns
 returns c =
     c.condition_of.ensures
-    ∙ rw (c.record_at.ensures, c.word_at.ensures) (sym (condition-at c.args.image.now c.args.i c.args.k c.requires.1.1))
+    ∙ rw (c.record_at.ensures, c.word_at.ensures) (sym (condition-at c.args.image.now c.args.i c.args.k c.requires.k_in_bounds))

@@ -11,7 +11,7 @@ use Rattle.image.proofs.rule.rule_named.Goals as goal
 
 pub loop-i-init : goal.loop-i-init
 unfolding rule_named
-loop-i-init c = (search rules, search-begins _ _ _ c.type_size.ensures)
+loop-i-init c = (search rules, search-begins _ _ _ c.size_of-n.ensures)
 
 pub returns-then-word_at-name : goal.returns-then-word_at-name
 unfolding found
