@@ -3,7 +3,7 @@ use mathlib.Core.Path.{◌≡◌, refl, sym, ◌∙◌, ap, ap₂, subst}
 use mathlib.Core.Logic.{◌⊎◌, inl, inr}
 use Prim.Native.Nat.{ℕ, zero, suc, ◌+◌, ◌≤◌, ◌<◌, zero-le}
 use native.Mathlib.Omega.{arith}
-use mathlib.Core.Bool.{Bool, true, false, not, ◌||◌, false≢true, true≢false}
+use mathlib.Core.Bool.{Bool, true, false, not, ◌||◌, cond, false≢true, true≢false}
 use mathlib.Core.List.{List, [], ◌∷◌, ◌++◌, map}
 use mathlib.Core.Option.{Option, none, some}
 use lib.Dec.{leb, eqb}
@@ -275,16 +275,19 @@ module _ (m : ℕ) where
       let w = told c l d f.shown in
       let rest = and_r (not (is_new c)) _ e in
       let l' = post_all (events_at c d) l in
+      let b' = budget_after_call (is_refused d.answer) c b in
+      let budget = budget_for (suc m) b' (lines cs (answers d.store cs)) in
+      let xs = lines (c ∷ cs) (answers s (c ∷ cs)) in
+      let with-budget = λ (z : ℕ). effects_shown (suc m) xs ≡ shown_over (act m z) s l (c ∷ cs) in
       by (is_in (suc m) (numbers_in d))
       (λ t.
       let eb = budget-now b c s l a w t q in
       let le = given-now c d l k h w t in
-      rw t
+      subst with-budget (sym (ap (λ z. cond z b budget) t))
       (ap₂ ◌+◌ (shown-same b c s l a h w eb) (all-behind b d.store l' cs rest f.agree (known-after c s l k a h) le (first-behind b (is_refused d.answer) c d.trace l k le eb))))
       (λ t.
-      let b' = budget_after_call (is_refused d.answer) c b in
       let o = subst (λ x. LoadedWith x b') (sym (call-leaves c s)) (loads-with (is_refused d.answer) c s.loaded b k q) in
-      rw t (ap₂ ◌+◌ (shown-zero _ c s l a h w t) (all_shown b' d.store l' cs rest f.agree (known-after c s l k a h) o)))
+      subst with-budget (sym (ap (λ z. cond z b budget) t)) (ap₂ ◌+◌ (shown-zero _ c s l a h w t) (all_shown b' d.store l' cs rest f.agree (known-after c s l k a h) o)))
 
 -- FROM A STORE MADE NEW --------------------------------------------------------------------------------------------------------------------
 fresh-sound : (t : ℕ) → Sound (fresh t)
