@@ -8,7 +8,6 @@ pub mod Mapped
 pub mod Behind
 pub mod Selecting
 pub mod Listing
-pub mod Front
 pub mod Lengths
 pub mod Cutting
 pub mod Tables

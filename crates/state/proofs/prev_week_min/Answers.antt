@@ -1,0 +1,6 @@
+-- `state::prev_week_min` meets its contract. Assumes nothing.
+use Rattle.state.proofs.CounterWords.{week-at}
+use Rattle.state.proofs.prev_week_min.Goals as goal
+
+pub returns : goal.returns
+returns c = week-at _ c.requires _ c.option32_at.ensures

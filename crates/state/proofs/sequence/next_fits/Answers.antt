@@ -1,0 +1,7 @@
+-- `state::sequence::next_fits` meets its contract. Assumes nothing.
+use native.Mathlib.Omega.{arith}
+use Rattle.state.proofs.Assigning.{next_fits}
+use Rattle.state.proofs.sequence.next_fits.Goals as goal
+
+pub returns : goal.returns
+returns c = next_fits _ _ _ c.wide_at.ensures c.wide_at-next.ensures (omega arith)
