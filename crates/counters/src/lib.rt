@@ -1,6 +1,5 @@
 // The 12 counters of a store, the Rust's `EngineCounters` without the one that nothing counts, as one record. A counter is named by its place. Document 01: the
-// counters are one record, lent and changed in place (`bump`); its proof is a walk by hand, docs/WALKS.md. A caller that has
-// the record by value counts by `with_bump`, and needs no walk.
+// counters are one record, lent and changed in place (`bump`). A caller that has the record by value counts by `with_bump`.
 #![tactic(auto)]
 
 ghost use Rattle.std.specs.Prelude.{◌≡◌};

@@ -1,11 +1,12 @@
 -- `counters::count` meets its contract. In an arm the place is known, so that the definition computes to the list with the
+-- callee's answer there; past the last place it changes nothing. Assumes nothing.
 use mathlib.Core.Path.{sym}
 use lib.Seq.{set_out}
+use borrow.Author.Rules.{rules}
 use Rattle.counters.specs.Counters.{counters_of}
 use Rattle.counters.proofs.Match.{past}
 use Rattle.counters.proofs.count.Goals as goal
 
--- callee's answer there; past the last place it changes nothing. Assumes nothing.
 pub returns-in-0 : goal.returns-in-0
 unfolding counters_of
 returns-in-0 c = rw (c.in-0.is, c.saturating_add_u32.ensures)
@@ -56,4 +57,4 @@ returns-in-11 c = rw (c.in-11.is, c.saturating_add_u32-in-11.ensures)
 
 pub returns-in_default : goal.returns-in_default
 unfolding counters_of
-returns-in_default c = sym (set_out _ _ _ (past 12 c.args.which c.in_default.rest))
+returns-in_default c = sym (set_out _ _ _ (past 12 c.args.which (search rules)))
