@@ -15,12 +15,15 @@ unfolding value_of
 reading_of-requires-in-2 c = search rules
 
 pub returns-in-0 : goal.returns-in-0
+unfolding value_of
 returns-in-0 c = rw c.in-0.is
 
 pub returns-in-1 : goal.returns-in-1
+unfolding value_of
 returns-in-1 c = rw (c.in-1.is, c.reading_of.ensures)
 
 pub returns-in-2 : goal.returns-in-2
+unfolding value_of
 returns-in-2 c = rw (c.in-2.is, c.reading_of-in-2.ensures)
 
 pub returns-in_default : goal.returns-in_default

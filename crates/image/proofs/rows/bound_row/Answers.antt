@@ -7,9 +7,11 @@ use Rattle.image.proofs.Match.{past}
 use Rattle.image.proofs.rows.bound_row.Goals as goal
 
 pub returns-in-0 : goal.returns-in-0
+unfolding class_of
 returns-in-0 c = record { classes = rw c.in-0.is }
 
 pub returns-in-1 : goal.returns-in-1
+unfolding class_of
 returns-in-1 c = record { classes = rw c.in-1.is }
 
 pub returns-in_default : goal.returns-in_default
