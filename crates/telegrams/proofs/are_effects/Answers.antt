@@ -13,10 +13,10 @@ pub loop-k-init : goal.loop-k-init
 loop-k-init c = (refl, search rules, starts _)
 
 pub returns-then-not-has_kind : goal.returns-then-not-has_kind
-returns-then-not-has_kind c = as-every _ _ refl c.if-effects-ne0.false _ (leaves _ _ _ _ c.loop-k-test.true c.has_kind.ensures c.if-not-has_kind.true-raw)
+returns-then-not-has_kind c = as-every _ _ refl c.if-effects-ne0.false _ (leaves _ _ _ _ c.loop-k-test.true c.has_kind.ensures (search rules))
 
 pub loop-k-preserved : goal.loop-k-preserved
-loop-k-preserved c = (refl, omega arith, goes _ _ _ c.loop-k.invariant.2 c.has_kind.ensures c.if-not-has_kind.false-raw)
+loop-k-preserved c = (refl, omega arith, goes _ _ _ c.loop-k.invariant.2 c.has_kind.ensures (search rules))
 
 pub returns : goal.returns
 returns c = as-every _ _ refl c.if-effects-ne0.false _ (ends _ _ _ c.loop-k-test.false c.loop-k.invariant.1 c.loop-k.invariant.2)

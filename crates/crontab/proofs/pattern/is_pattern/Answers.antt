@@ -22,14 +22,14 @@ returns-then-not-is_range c =
     let s = c.args in
     let l = c.loop-lo in
     let star = sym c.is_asterisk.ensures ∙ c.if-is_asterisk.false in
-    ranges-stop s.lo s.hi s.s.now star l.at _ _ c.find-end.ensures.0 c.find-end.ensures.2 c.element.ensures l.invariant.1 _ c.is_range.ensures c.if-not-is_range.true-raw
+    ranges-stop s.lo s.hi s.s.now star l.at _ _ c.find-end.ensures.0 c.find-end.ensures.2 c.element.ensures l.invariant.1 _ c.is_range.ensures (search rules)
 
 pub returns-then-end-s : goal.returns-then-end-s
 returns-then-end-s c =
     let s = c.args in
     let l = c.loop-lo in
     let star = sym c.is_asterisk.ensures ∙ c.if-is_asterisk.false in
-    ranges-end s.lo s.hi s.s.now star l.at _ _ c.find-end.ensures.0 c.find-end.ensures.2 c.element.ensures l.invariant.1 _ c.is_range.ensures c.if-not-is_range.false-raw c.if-end-s.true
+    ranges-end s.lo s.hi s.s.now star l.at _ _ c.find-end.ensures.0 c.find-end.ensures.2 c.element.ensures l.invariant.1 _ c.is_range.ensures (search rules) c.if-end-s.true
 
 pub overflow_add-at : goal.overflow_add-at
 overflow_add-at c = omega (arith, lt_of_ne c.find-end.ensures.2 c.if-end-s.false)
@@ -44,5 +44,5 @@ loop-lo-preserved c =
     let star = sym c.is_asterisk.ensures ∙ c.if-is_asterisk.false in
     let h = lt_of_ne c.find-end.ensures.2 c.if-end-s.false in (
       omega (arith, h),
-      ranges-on s.lo s.hi s.s.now star l.at _ _ c.find-end.ensures.0 c.find-end.ensures.2 c.element.ensures l.invariant.1 _ c.is_range.ensures c.if-not-is_range.false-raw h,
+      ranges-on s.lo s.hi s.s.now star l.at _ _ c.find-end.ensures.0 c.find-end.ensures.2 c.element.ensures l.invariant.1 _ c.is_range.ensures (search rules) h,
     )
