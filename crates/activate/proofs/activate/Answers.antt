@@ -4,7 +4,7 @@ use Rattle.activate.proofs.activate.Goals as goal
 
 pub returns-in-Begins : goal.returns-in-Begins
 returns-in-Begins c =
-    begins c.args.snapshot.now c.args.image.now c.args.part.now c.args.own c.args.i c.args.kind c.args.mode c.args.v.now c.args.x _ _ j.Job-of.result c.name_of.result c.is_dry-dry.result j.Job-of.ensures c.name_of.ensures c.is_dry-dry.ensures c.decide.result c.decide.ensures _ _ _ c.in-Begins.is c.execute.ensures
+    begins c.args.snapshot.now c.args.image.now c.args.part.now c.args.own c.args.i c.args.kind c.args.mode c.args.v.now c.args.x _ _ c.job_of-job.result c.name_of.result c.is_dry-dry.result c.job_of-job.ensures c.name_of.ensures c.is_dry-dry.ensures c.decide.result c.decide.ensures _ _ _ c.in-Begins.is c.execute.ensures
 
 pub returns-in-InCooldown : goal.returns-in-InCooldown
 returns-in-InCooldown c =
@@ -16,4 +16,4 @@ returns-in-Rejected c =
 
 pub returns-in-Unevaluable : goal.returns-in-Unevaluable
 returns-in-Unevaluable c =
-    unevaluable c.args.snapshot.now c.args.image.now c.args.part.now c.args.own c.args.i c.args.kind c.args.mode c.args.v.now c.args.x _ _ j.Job-of.result c.name_of.result c.is_dry-dry.result j.Job-of.ensures c.name_of.ensures c.is_dry-dry.ensures c.decide.result c.decide.ensures _ c.push_outcome.result _ c.in-Unevaluable.is c.note_wet_partial.ensures c.push_outcome.ensures
+    unevaluable c.args.snapshot.now c.args.image.now c.args.part.now c.args.own c.args.i c.args.kind c.args.mode c.args.v.now c.args.x _ _ c.job_of-job.result c.name_of.result c.is_dry-dry.result c.job_of-job.ensures c.name_of.ensures c.is_dry-dry.ensures c.decide.result c.decide.ensures _ c.push_outcome.result _ c.in-Unevaluable.is c.note_wet_partial.ensures c.push_outcome.ensures
