@@ -2,18 +2,18 @@
 use mathlib.Core.Path.{◌≡◌, refl, sym, ap, ◌∙◌}
 use mathlib.Core.Logic.{⊎_elim}
 use mathlib.Core.Bool.{Bool, true, false, cond, not, ◌&&◌, ◌||◌, and-false}
-use mathlib.Core.List.{List, [], ◌∷◌, ◌++◌, map}
+use mathlib.Core.List.{List, [], ◌∷◌}
 use Prim.Native.Nat.{ℕ, zero, suc, ◌+◌, ◌*◌, ◌-◌, ◌/◌, ◌%◌, ◌^◌, ◌≤◌, ◌<◌}
 use native.Mathlib.Nat.{div-add-mod, mod-lt, eq-or-lt_of_le}
 use native.Mathlib.Omega.{arith}
-use borrow.Author.Tests.{eq-eqb, ne_eqb, eqb-true, eqb-false, not-true, le-leb, lt-leb, leb-true, leb-false}
-use lib.Dec.{eqb, leb, ltb, lit<}
-use lib.ListN.{length, get_or}
+use borrow.Author.Tests.{eq-eqb, ne_eqb, eqb-true, eqb-false, not-true, lt-leb}
+use lib.Dec.{eqb, leb, lit<}
+use lib.ListN.{get_or}
 use Rattle.model.specs.Arith.{has_day}
 use Rattle.model.specs.Lists.{any, every, keep, up_from, total}
-use Rattle.model.specs.Wheel.{week_minutes, cyclic_dist, in_window, weekdays, minute_due}
+use Rattle.model.specs.Wheel.{cyclic_dist, in_window, minute_due}
 use Rattle.model.proofs.Bools.{both, every-at, or-false}
-use Rattle.model.specs.Crontab.{field_covers, starts, minutes, day_here, day_bit, days}
+use Rattle.model.specs.Crontab.{field_covers, starts, minutes, day_here, days}
 use Rattle.model.specs.CrontabMeaning.{matches, day_there, minute_before}
 
 -- LISTS OF NUMBERS

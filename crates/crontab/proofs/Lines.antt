@@ -1,8 +1,8 @@
 -- The fields of a line, its minutes and days, counted and written. Assumes nothing.
 use mathlib.Core.Logic.{⊎_elim}
 use mathlib.Core.Path.{◌≡◌, refl, sym, ap, ◌∙◌}
-use mathlib.Core.Bool.{Bool, true, false, cond, not, ◌&&◌, ◌||◌, and-false}
-use mathlib.Core.List.{List, [], ◌∷◌, ◌++◌, map, append-nil, append_assoc}
+use mathlib.Core.Bool.{Bool, true, false, not, ◌&&◌}
+use mathlib.Core.List.{List, [], ◌∷◌, ◌++◌, append-nil, append_assoc}
 use Prim.Native.Nat.{ℕ, zero, suc, ◌+◌, ◌*◌, ◌-◌, ◌/◌, ◌%◌, ◌^◌, ◌≤◌, ◌<◌}
 use native.Mathlib.Nat.{div-add-mod, mod-lt, eq-or-lt_of_le}
 use native.Mathlib.Numerals.{add-one}
@@ -11,11 +11,11 @@ use borrow.Author.Tests.{not-true, not-false, le-leb, lt-leb, leb-true, ne_eqb}
 use lib.Dec.{leb, lit<}
 use lib.ListN.{length, get_or, drop, replicate, set, length-set, length-replicate, length-append}
 use lib.Seq.{sets, length-sets, get_or-set_same, get_or-set_other}
-use Rattle.model.specs.Lists.{every, flatten, keep, total, up_from}
+use Rattle.model.specs.Lists.{every, keep, total, up_from}
 use Rattle.model.specs.Field.{unless}
 use Rattle.model.specs.Answers.{lent}
-use Rattle.model.specs.Asked.{Asked, declined, shown_asked}
-use Rattle.model.specs.Crontab.{until, is_blank, field, lowest, highest, is_asterisk, is_pattern, covers, field_fits, field_covers, field_free, starts, minutes, day_here, day_bit, days, of_the_form, every_date, has_room, refusal, trigger_words, table_words, answer_of, crontab}
+use Rattle.model.specs.Asked.{declined, shown_asked}
+use Rattle.model.specs.Crontab.{until, is_blank, lowest, highest, is_asterisk, is_pattern, covers, field_fits, field_covers, field_free, starts, minutes, day_here, day_bit, days, of_the_form, every_date, has_room, refusal, trigger_words, table_words, crontab}
 use Rattle.crontab.specs.Scanned.{part, StartsField, written, Marked, marked, marked_minutes, form_refusal}
 use Rattle.crontab.proofs.Scans.{field-part}
 

@@ -2,16 +2,16 @@
 use mathlib.Core.Path.{◌≡◌, refl, sym, ap, ◌∙◌}
 use mathlib.Core.Bool.{Bool, true, false, cond, not, ◌&&◌, ◌||◌, false≢true}
 use mathlib.Core.Option.{Option, none, some}
-use mathlib.Core.List.{List, [], ◌∷◌, ◌++◌, map, append_assoc, append-nil}
-use Prim.Native.Nat.{ℕ, zero, suc, ◌+◌, ◌*◌, ◌-◌, ◌/◌, ◌%◌, ◌^◌, ◌≤◌, ◌<◌}
+use mathlib.Core.List.{List, [], ◌∷◌, ◌++◌, map, append_assoc}
+use Prim.Native.Nat.{ℕ, zero, suc, ◌+◌, ◌*◌, ◌-◌, ◌/◌, ◌%◌, ◌≤◌, ◌<◌}
 use native.Mathlib.Nat.{div-add-mod, mod-lt}
 use native.Mathlib.Omega.{arith}
-use borrow.Author.Tests.{eq-eqb, ne_eqb, lt-ltb, le-ltb, le-leb, eqb-true, eqb-false, leb-true, ltb-false, not-true}
+use borrow.Author.Tests.{eq-eqb, lt-ltb, le-leb, leb-true, ltb-false, not-true}
 use lib.Dec.{eqb, leb, ltb, lit<}
 use lib.ListN.{length, get_or, take, drop, replicate, length-append, get_or-append}
 use lib.Seq.{get_or-append-add}
 use Rattle.model.specs.Arith.{has_day}
-use Rattle.model.specs.Lists.{any, all, every, keep, present, up_from, total}
+use Rattle.model.specs.Lists.{any, all, every, keep, present, up_from}
 use Rattle.model.specs.Rows.{triggers, field_of}
 use Rattle.model.specs.Field.{fits}
 use Rattle.model.specs.Image.{width_of, word_at, leads, record_passes}
@@ -20,14 +20,14 @@ use Rattle.model.specs.declared.Trigger.TheVariants.{AtTime}
 use Rattle.model.specs.Rules.{trigger_of, record_in}
 use Rattle.model.specs.Wheel.{minute_due, due_wall_kind, WallKind, by_time}
 use Rattle.model.specs.State.{Env}
-use Rattle.model.proofs.Bools.{both, join, every-at, not-refused, neither}
+use Rattle.model.proofs.Bools.{both, every-at, not-refused, neither}
 use Rattle.model.specs.declared.Element.{Element}
 use Rattle.model.specs.declared.Element.TheVariants.{Malformed, Range}
-use Rattle.model.specs.Crontab.{until, is_hyphen, split, onto, is_comma, range_of, element_of, elements_of, is_range, holds, is_asterisk, is_pattern, covers, number_of, field_fits, field_covers, field, lowest, highest, starts, minutes, day_here, day_bit, days, of_the_form, refusal, trigger_words, table_words, crontab, answer_of}
+use Rattle.model.specs.Crontab.{until, is_hyphen, split, onto, is_comma, range_of, element_of, elements_of, is_range, holds, is_asterisk, is_pattern, covers, number_of, field_fits, field_covers, field, starts, minutes, day_here, days, of_the_form, refusal, trigger_words, table_words, crontab, answer_of}
 use Rattle.model.specs.Asked.{declined}
 use Rattle.model.specs.CrontabMeaning.{matches, day_there, triggers_in, minute_before, due_at, earlier, in_order, on_days}
 use Rattle.crontab.specs.Programme.{Programme}
-use Rattle.crontab.proofs.Calendar.{minutes-due, any-keep, day-there, days-here, on-day, total-seven}
+use Rattle.crontab.proofs.Calendar.{minutes-due, day-there, days-here, on-day, total-seven}
 
 abbrev pub at_minute : ℕ → ℕ → Trigger
 at_minute ds t = AtTime (t / 60) (t % 60) ds

@@ -1,7 +1,7 @@
 -- What owning a `DryRun` tells of its array. Assumes nothing.
-use mathlib.Core.Path.{◌≡◌, sym, ◌∙◌}
+use mathlib.Core.Path.{◌≡◌}
 use mathlib.Core.List.{List}
-use lib.ListN.{length, length-map}
+use lib.ListN.{length}
 use mir.Val.{Val}
 use denote.Laws.{Is}
 use denote.Struct.Declared.{row}
@@ -9,4 +9,4 @@ use Rattle.exec.specs.declared.DryRun.{DryRun}
 use Rattle.exec.specs.contracts.DryRun.{the_type}
 
 pub long : (r : DryRun) {vs : List Val} → Is (row the_type) r vs → length r.bodies ≡ 256
-long r g = sym (length-map r.bodies _) ∙ g.1.1.1.0.1.0.1
+long r g = g.1.1.1.0.1.0.1

@@ -1,5 +1,5 @@
 -- Flattening a whole image, and where each rule's part stands in the flat part.
-use Rattle.std.specs.Prelude.{Bool, true, false, cond, not, ◌&&◌, eqb, ◌≡◌, List, [], ◌++◌, map, ℕ, ◌+◌, ◌*◌, ◌-◌, ◌/◌, ◌≤◌, ◌<◌, length, take, get_or, replicate}
+use Rattle.std.specs.Prelude.{Bool, true, false, cond, not, ◌&&◌, eqb, ◌≡◌, List, ◌++◌, map, ℕ, ◌+◌, ◌*◌, ◌-◌, ◌/◌, ◌≤◌, ◌<◌, length, take, get_or, replicate}
 use Rattle.model.specs.declared.FlattenCtx.{FlattenCtx}
 use Rattle.model.specs.Lists.{up_from, flatten}
 use Rattle.model.specs.Codec.{words_of}

@@ -14,7 +14,7 @@ use crate::{Answer, Found, Progress};
 use model::FlowAction;
 
 // `count` actions from record `first` on, one after the other. Only nested lists and calls recurse.
-#[cycle(flatten_action_flatten_after_flatten_branch_flatten_call_flatten_list_flatten_repeat)]
+#[cycle(flattening)]
 pub fn flatten_list(
     acts: &[u32],
     blocks: &[u32],
@@ -67,7 +67,7 @@ pub fn flatten_list(
 }
 
 // The action of record i.
-#[cycle(flatten_action_flatten_after_flatten_branch_flatten_call_flatten_list_flatten_repeat)]
+#[cycle(flattening)]
 fn flatten_action(
     acts: &[u32],
     blocks: &[u32],
@@ -157,7 +157,7 @@ fn flatten_action(
 }
 
 // An after of record i: its body is a list of its own, and goes behind the rule's bodies.
-#[cycle(flatten_action_flatten_after_flatten_branch_flatten_call_flatten_list_flatten_repeat)]
+#[cycle(flattening)]
 fn flatten_after(
     acts: &[u32],
     blocks: &[u32],
@@ -198,7 +198,7 @@ fn flatten_after(
 }
 
 // A call: the block's actions are written into the list around.
-#[cycle(flatten_action_flatten_after_flatten_branch_flatten_call_flatten_list_flatten_repeat)]
+#[cycle(flattening)]
 fn flatten_call(
     acts: &[u32],
     blocks: &[u32],
@@ -243,7 +243,7 @@ fn flatten_call(
 
 // A repeat of record i: its body is flattened once, as a list of its own, at the place of its first copy. If that does not fit, neither
 // its steps nor its after bodies are kept.
-#[cycle(flatten_action_flatten_after_flatten_branch_flatten_call_flatten_list_flatten_repeat)]
+#[cycle(flattening)]
 fn flatten_repeat(
     acts: &[u32],
     blocks: &[u32],
@@ -296,7 +296,7 @@ fn flatten_repeat(
 }
 
 // A conditional of record i: both regions are written into the list around, behind its step.
-#[cycle(flatten_action_flatten_after_flatten_branch_flatten_call_flatten_list_flatten_repeat)]
+#[cycle(flattening)]
 fn flatten_branch(
     acts: &[u32],
     blocks: &[u32],

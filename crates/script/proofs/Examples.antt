@@ -2,7 +2,7 @@
 use mathlib.Core.Path.{◌≡◌, refl}
 use mathlib.Core.List.{List, [], ◌∷◌, ◌++◌, map}
 use mathlib.Core.Option.{none, some}
-use mathlib.Core.Bool.{true, false}
+use mathlib.Core.Bool.{true}
 use Prim.Native.Nat.{ℕ}
 use Prim.Native.String.{String}
 use lib.ListN.{length}
@@ -10,7 +10,7 @@ use Rattle.model.specs.Text.{bytes_of}
 use Rattle.script.specs.Words.{up_to, is_space, words_of, past_space, past_word, past_words}
 use Rattle.model.specs.Digits.{is_digit, value_from}
 use Rattle.decimal.specs.Numbers.{argument_of}
-use Rattle.script.specs.Table.{Row, row, rows, most_of, words, word, Words, Text}
+use Rattle.script.specs.Table.{Row, row, rows, most_of, word, Words}
 use Rattle.script.specs.Script.{Parsed, Line, plain, command, call_named, parse, parse_call, numbers_from, ending, behind_name, list_from}
 use Rattle.script.specs.Script.{Blank, Command, Bad}
 use Rattle.script.specs.Script.{NoSuchCall, Missing, NotDecimal, OutOfRange, WordNotDecimal, WordOutOfRange, TooManyWords, ListTooLong, LineTooLong}

@@ -1,23 +1,21 @@
 -- A call read from the words of a line. Assumes nothing.
 use mathlib.Core.Path.{◌≡◌, refl, sym, ap, ◌∙◌}
-use mathlib.Core.Bool.{Bool, true, false}
 use mathlib.Core.List.{List, [], ◌∷◌, ◌++◌, append-nil, append_assoc}
 use mathlib.Core.Option.{Option, none, some}
 use Prim.Native.Nat.{ℕ, zero, suc, ◌+◌, ◌-◌, ◌≤◌, ◌<◌, zero-le}
 use native.Mathlib.Numerals.{add-one}
 use native.Mathlib.Omega.{arith}
 use borrow.Author.Tests.{lt-ltb, le-ltb}
-use lib.Dec.{ltb}
 use lib.ListN.{length, get_or, take, drop, set, replicate, length-set, length-drop, take-append-drop, drop_of_length-le}
-use lib.Seq.{take-suc-set, drop-set-lt, drop-drop, drop-nil, drop-cons, drop-append-le, take_all, take_at, length-take-le}
+use lib.Seq.{take-suc-set, drop-set-lt, drop-drop, drop-cons, drop-append-le, take_all, take_at, length-take-le}
 use Rattle.words.specs.Saturating.{max32}
 use Rattle.script.specs.Words.{words_of, uncommented, past_space, past_word, past_words}
 use Rattle.decimal.specs.declared.Argument.{Argument}
 use Rattle.decimal.specs.declared.Argument.TheVariants.{NoNumber, TooLarge, Number}
 use Rattle.decimal.specs.Numbers.{argument_of}
 use Rattle.script.specs.Table.{Row, rows, row_of, no_param, most_of, Tail, Nothing, Words, Text}
-use Rattle.script.specs.Script.{Parsed, plain, command, pick, Line, Blank, Command, Bad, Wrong, NoSuchCall, Missing, NotDecimal, OutOfRange, ListTooLong, TooManyWords, Numbered, Stops, Goes, numbers_from, line_with, at_end, with_list, with_text, tailed, ending, going_on, parse_call, call_named, comment_of, behind_name, called_by, parse_words, parse, Listed, listed, list_from, stopped}
-use Rattle.script.specs.Scan.{part, over, WordAt, Parses, Takes, TakesNumber, TakesAll, TakesThem, Taken, Refused, Taking, taken_of, Got, Failed, Behind, last_of, ListStep, Stop, Item, step_of, ListEnds, Ended, Stopped, Count, end_with, Named, Unknown, Call, named_by}
+use Rattle.script.specs.Script.{Parsed, plain, command, Line, Blank, Command, Bad, Wrong, NoSuchCall, Missing, ListTooLong, TooManyWords, Stops, Goes, numbers_from, line_with, at_end, with_list, tailed, ending, parse_call, call_named, comment_of, behind_name, called_by, parse, Listed, listed, list_from, stopped}
+use Rattle.script.specs.Scan.{part, over, WordAt, Parses, Takes, TakesAll, TakesThem, Taken, Refused, Taking, taken_of, Got, Failed, Behind, last_of, ListStep, Stop, Item, step_of, ListEnds, Ended, Stopped, Count, end_with, Named, Unknown, Call, named_by}
 use Rattle.script.specs.declared.Step.{Step}
 use Rattle.script.specs.declared.Step.TheVariants.{End}
 

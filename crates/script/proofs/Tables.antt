@@ -1,13 +1,13 @@
 -- The table of calls and its names, by tests that antt computes over a whole table. Assumes nothing.
 use mathlib.Core.Path.{◌≡◌, refl, sym, ap, ◌∙◌}
 use mathlib.Core.Bool.{Bool, true, false, cond, not, ◌&&◌}
-use mathlib.Core.List.{List, [], ◌∷◌, ◌++◌, map}
+use mathlib.Core.List.{List, [], ◌∷◌, map}
 use mathlib.Core.Option.{none, some}
 use Prim.Native.Nat.{ℕ, zero, suc, ◌+◌, ◌-◌, ◌≤◌, ◌<◌}
 use native.Mathlib.Nat.{le_of_suc-le-suc, not-suc-le-zero}
 use native.Mathlib.Numerals.{add-one}
 use native.Mathlib.Omega.{arith}
-use borrow.Author.Tests.{eqb-true, leb-true, ltb-true, ltb-false, lt-ltb, le-ltb, eq-eqb, ne_eqb}
+use borrow.Author.Tests.{eqb-true, leb-true, ltb-true, ltb-false, eq-eqb, ne_eqb}
 use lib.Dec.{eqb, leb, ltb}
 use lib.ListN.{length, get_or, take, drop, length-drop, drop_of_length-le, get_or-eq_default, get_or-map}
 use lib.Seq.{take_all, drop-cons, drop-drop, length-take-le}
@@ -15,7 +15,6 @@ use Rattle.model.specs.Lists as lists
 use Rattle.model.specs.Lists.{all, position, position_from}
 use Rattle.model.proofs.Bools.{both}
 use Rattle.fields.proofs.Every as every
-use Rattle.model.specs.Text.{bytes_of}
 use Rattle.script.specs.Words.{up_to}
 use Rattle.script.specs.Table.{Row, row, rows, row_of, names_of, Param, param, params, no_param, most_of, Nothing}
 use Rattle.script.specs.Script.{pick, same_bytes}

@@ -11,7 +11,7 @@ use Rattle.decimal.specs.declared.Argument.{Argument}
 use Rattle.decimal.specs.declared.Argument.TheVariants.{NoNumber, TooLarge, Number}
 use Rattle.decimal.specs.Numbers.{argument_of}
 use Rattle.script.specs.Table.{Row, row_of, most_of, no_param, Tail, Nothing, Words, Text}
-use Rattle.script.specs.Script.{Parsed, plain, command, Line, Blank, Bad, Wrong, NoSuchCall, Missing, NotDecimal, OutOfRange, TooManyWords, Numbered, Stops, Goes, with_number, numbers_from, Listed, list_from, line_with, at_end, with_list, with_text, tailed, ending, going_on, parse_call, call_named, comment_of, behind_name, called_by, parse_words, parse}
+use Rattle.script.specs.Script.{Parsed, plain, command, Blank, Bad, Wrong, NoSuchCall, Missing, NotDecimal, OutOfRange, TooManyWords, with_number, numbers_from, Listed, list_from, line_with, at_end, with_list, tailed, ending, going_on, parse_call, call_named, behind_name, called_by, parse_words, parse}
 use Rattle.decimal.proofs.DigitLaws.{taken-most}
 
 -- each number is at most the largest of its parameter; past the numbers, and past the parameters, stands 0

@@ -1,5 +1,5 @@
 -- What the player prints: document 01, "Outcomes and effects", and the answers of the other calls. Each line ends.
-use Rattle.std.specs.Prelude.{ℕ, zero, suc, ◌+◌, ◌/◌, ◌%◌, Bool, true, false, List, [], ◌∷◌, ◌++◌, ltb, eqb, ℤ, pos, negsuc, get_or}
+use Rattle.std.specs.Prelude.{ℕ, zero, suc, ◌+◌, ◌/◌, ◌%◌, Bool, List, [], ◌∷◌, ◌++◌, ltb, eqb, ℤ, pos, negsuc, get_or}
 use Rattle.std.proofs.Math.Option.{Option, none, some}
 use Rattle.words.specs.Saturating.{max32, max64}
 use Rattle.words.specs.Signed.{signed32}

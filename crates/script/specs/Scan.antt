@@ -5,7 +5,7 @@ use Rattle.decimal.specs.declared.Argument.{Argument}
 use Rattle.decimal.specs.declared.Argument.TheVariants.{NoNumber, TooLarge, Number}
 use Rattle.script.specs.Words.{words_of, is_space, past_space, past_word, past_words}
 use Rattle.script.specs.Table.{Tail, Nothing, Words, Text}
-use Rattle.script.specs.Script.{Parsed, Numbered, Stops, Goes, numbers_from, Listed, listed, list_from, stopped, Line, Wrong, NotDecimal, OutOfRange, WordNotDecimal, WordOutOfRange}
+use Rattle.script.specs.Script.{Parsed, Stops, Goes, numbers_from, Listed, listed, list_from, stopped, Line, Wrong, NotDecimal, OutOfRange, WordNotDecimal, WordOutOfRange}
 pub use Rattle.script.specs.declared.Step.{Step}
 pub use Rattle.script.specs.declared.Step.TheVariants.{Stop, Item}
 use Rattle.script.specs.declared.Step.TheVariants.{End}

@@ -1,18 +1,16 @@
 -- What the functions do in a turn, over lists and numbers. Assumes nothing.
 use mathlib.Core.Path.{◌≡◌, refl, sym, ap, ◌∙◌}
-use mathlib.Core.Bool.{Bool, true, false, cond, not, ◌&&◌, ◌||◌}
-use mathlib.Core.List.{List, [], ◌∷◌, ◌++◌, map, append-nil}
+use mathlib.Core.Bool.{Bool, true, false}
+use mathlib.Core.List.{List, [], ◌∷◌, ◌++◌}
 use Prim.Native.Nat.{ℕ, zero, suc, ◌+◌, ◌*◌, ◌-◌, ◌/◌, ◌%◌, ◌≤◌, ◌<◌}
 use native.Mathlib.Omega.{arith}
 use native.Mathlib.Numerals.{add-one}
 use lib.Dec.{leb, eqb}
-use lib.ListN.{length, take, drop, replicate, get_or, length-replicate, length-append}
-use lib.Seq.{drop-length}
-use borrow.Author.Tests.{le-leb, lt-leb, not-true, not-false, eq-eqb, ne_eqb}
-use Rattle.model.specs.Lists.{up_from, every}
+use lib.ListN.{length, replicate, get_or, length-replicate, length-append}
+use borrow.Author.Tests.{le-leb, lt-leb, eq-eqb, ne_eqb}
+use Rattle.model.specs.Lists.{every}
 use Rattle.model.specs.Answers.{words_of_effects, lent}
 use Rattle.model.specs.declared.Effect.{Effect}
-use Rattle.model.specs.declared.TelegramAnswer.{TelegramAnswer}
 use Rattle.model.specs.declared.TelegramAnswer.TheVariants.{Refused, Kept}
 use Rattle.model.specs.Telegrams.{is_level, cuts, sets, kept, effect_at, effects_in, are_effects, has_room, answer, kept_store}
 use Rattle.telegrams.specs.Recursion.{is_set, set_again, kept_head, keep_last, effects_from}

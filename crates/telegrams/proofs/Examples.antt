@@ -1,6 +1,6 @@
 -- Worked examples of the kept list. Assumes nothing.
 use mathlib.Core.Path.{◌≡◌, refl}
-use mathlib.Core.List.{List, [], ◌∷◌}
+use mathlib.Core.List.{[], ◌∷◌}
 use Prim.Native.Nat.{ℕ}
 use Rattle.model.specs.Lists.{every}
 use Rattle.model.specs.declared.Effect.{Effect}

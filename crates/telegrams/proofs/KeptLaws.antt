@@ -1,12 +1,12 @@
 -- The kept list by recursion on the list, and its laws: the same cuts, the same lamps, kept again it is itself. Assumes nothing.
-use mathlib.Core.Path.{◌≡◌, refl, sym, ap, ◌∙◌}
-use mathlib.Core.Bool.{Bool, true, false, cond, not, ◌&&◌, ◌||◌, false≢true}
+use mathlib.Core.Path.{◌≡◌, refl, ap, ◌∙◌}
+use mathlib.Core.Bool.{Bool, true, false, cond, false≢true}
 use mathlib.Core.List.{List, [], ◌∷◌}
 use mathlib.Core.Option.{Option, none, some}
 use Prim.Native.Nat.{ℕ, zero, suc}
 use borrow.Author.Tests.{eqb-true}
 use lib.Dec.{eqb}
-use Rattle.model.specs.Lists.{present, keep}
+use Rattle.model.specs.Lists.{present}
 use Rattle.model.specs.declared.Effect.{Effect}
 use Rattle.model.proofs.Bools.{both}
 use Rattle.model.specs.Telegrams.{is_level, cuts, sets, cutting, stretch, later, Setting, setting, last_set}

@@ -2,13 +2,11 @@
 use mathlib.Core.Path.{◌≡◌, refl, sym, ap, ◌∙◌}
 use mathlib.Core.Bool.{Bool, true, false, cond, not, ◌&&◌, ◌||◌, false≢true, and-false}
 use mathlib.Core.List.{List, [], ◌∷◌, map}
-use Prim.Native.Nat.{ℕ, zero, suc, ◌+◌, ◌≤◌, ◌<◌}
-use native.Mathlib.Omega.{arith}
-use lib.Dec.{eqb, leb, ltb, leb-zero, leb-suc-zero, leb-suc-suc}
-use lib.ListN.{length, get_or}
+use Prim.Native.Nat.{ℕ, zero, suc}
+use lib.Dec.{leb, leb-zero, leb-suc-zero, leb-suc-suc}
+use lib.ListN.{length}
 use Rattle.model.specs.Lists.{keep, up_from, every}
 use Rattle.model.specs.declared.Effect.{Effect}
-use Rattle.model.proofs.Bools.{both}
 use Rattle.model.specs.Telegrams.{is_level, cuts, sets, at, supersedes, superseded, select, kept}
 use Rattle.telegrams.specs.Recursion.{is_set, set_again, keep_last}
 use Rattle.telegrams.proofs.KeptLaws.{by, level-not-cut}

@@ -1,18 +1,18 @@
 -- No list that sets the same lamps in the same stretches has fewer levels than the kept list. Assumes nothing.
 use mathlib.Core.Path.{◌≡◌, refl, sym, ap, ◌∙◌}
-use mathlib.Core.Bool.{Bool, true, false, cond, not, ◌&&◌, ◌||◌, false≢true}
+use mathlib.Core.Bool.{Bool, true, false, cond, ◌||◌, false≢true}
 use mathlib.Core.List.{List, [], ◌∷◌}
 use mathlib.Core.Option.{Option, none, some}
-use Prim.Native.Nat.{ℕ, zero, suc, ◌+◌, ◌≤◌, zero-le}
+use Prim.Native.Nat.{ℕ, zero, suc, ◌≤◌, zero-le}
 use native.Mathlib.Nat.{le_refl, le_trans}
 use native.Mathlib.Omega.{arith}
-use borrow.Author.Tests.{eqb-true, ne_eqb, eq-eqb}
+use borrow.Author.Tests.{eqb-true, eq-eqb}
 use lib.Dec.{eqb}
 use lib.ListN.{length}
 use Rattle.model.specs.Lists.{present, keep}
 use Rattle.model.specs.declared.Effect.{Effect}
 use Rattle.model.proofs.Bools.{both, or-true}
-use Rattle.model.specs.Telegrams.{is_level, cuts, sets, stretch, later, Setting, setting, last_set}
+use Rattle.model.specs.Telegrams.{is_level, cuts, sets, stretch, later, setting, last_set}
 use Rattle.telegrams.specs.Recursion.{is_set, set_again, keep_last}
 use Rattle.telegrams.proofs.KeptLaws.{by, keeps, leaves, level-not-cut, again-level}
 

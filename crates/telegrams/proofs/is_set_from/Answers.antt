@@ -1,6 +1,5 @@
 -- `telegrams::is_set_from` meets its contract: what is left of the stretch sets the lamp, or nothing does. Assumes nothing.
 use mathlib.Core.Path.{refl, sym, ◌∙◌}
-use Prim.Native.Nat.{◌-◌}
 use native.Mathlib.Omega.{arith}
 use Rattle.telegrams.proofs.CodeLaws.{set-cut, set_here, set_on, set-end}
 use Rattle.telegrams.proofs.is_set_from.Goals as goal
@@ -8,25 +7,13 @@ use Rattle.telegrams.proofs.is_set_from.Goals as goal
 pub loop-j-init : goal.loop-j-init
 loop-j-init c = (refl, omega arith, refl)
 
-pub cuts_at-requires : goal.cuts_at-requires
-cuts_at-requires c = omega arith
-
 pub returns-then-cuts_at : goal.returns-then-cuts_at
 returns-then-cuts_at c = set-cut _ _ _ c.loop-j-test.true _ c.cuts_at.ensures c.if-cuts_at.true ∙ c.loop-j.invariant.2
-
-pub sets_at-requires : goal.sets_at-requires
-sets_at-requires c = omega arith
 
 pub returns-then-sets_at : goal.returns-then-sets_at
 returns-then-sets_at c =
     set_here _ _ _ c.loop-j-test.true _ _ c.cuts_at.ensures c.if-cuts_at.false c.sets_at.ensures c.if-sets_at.true
     ∙ c.loop-j.invariant.2
-
-pub overflow_add-j : goal.overflow_add-j
-overflow_add-j c = omega arith
-
-pub loop-j-smaller : goal.loop-j-smaller
-loop-j-smaller c = omega arith
 
 pub loop-j-preserved : goal.loop-j-preserved
 loop-j-preserved c = (

@@ -1,6 +1,5 @@
 -- `telegrams::put_kept` meets its contract: what is left to be written gives the whole. Assumes nothing.
 use mathlib.Core.Path.{refl}
-use Prim.Native.Nat.{◌-◌}
 use native.Mathlib.Omega.{arith}
 use Rattle.telegrams.proofs.CodeLaws.{put-begin, put-turn, put-end}
 use Rattle.telegrams.proofs.put_kept.Goals as goal
@@ -11,15 +10,9 @@ loop-k-init c = (refl, omega arith, put-begin _ _)
 pub put_if_kept-n-requires : goal.put_if_kept-n-requires
 put_if_kept-n-requires c = (c.loop-k.invariant.2.few, c.loop-k-test.true)
 
-pub overflow_add-k : goal.overflow_add-k
-overflow_add-k c = omega arith
-
-pub loop-k-smaller : goal.loop-k-smaller
-loop-k-smaller c = omega arith
-
 pub loop-k-preserved : goal.loop-k-preserved
 loop-k-preserved c =
-    (refl, omega arith, put-turn _ _ _ _ _ _ _ c.loop-k.invariant.2 c.loop-k-test.true p.«put-if-kept».ensures.0 p.«put-if-kept».ensures.1)
+    (refl, omega arith, put-turn _ _ _ _ _ _ _ c.loop-k.invariant.2 c.loop-k-test.true c.put_if_kept-n.ensures.0 c.put_if_kept-n.ensures.1)
 
 pub shape_of-list : goal.shape_of-list
 shape_of-list c = c.loop-k.invariant.2.long

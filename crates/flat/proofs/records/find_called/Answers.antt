@@ -1,13 +1,9 @@
 -- `flat::records::find_called` meets its contract. Assumes nothing.
 use mathlib.Core.Path.{◌≡◌, refl, sym, ap, ◌∙◌}
-use mathlib.Core.List.{List, [], ◌∷◌}
+use mathlib.Core.List.{List, []}
 use Prim.Native.Nat.{ℕ}
 use native.Mathlib.Omega.{arith}
-use borrow.Author.Rules.{rules}
-use types.Run.{OneOf, miss}
-use denote.Enum.Declared.{tag_of}
 use Rattle.model.specs.declared.FlowAction.{FlowAction}
-use Rattle.model.specs.contracts.FlowAction.{the_type}
 use Rattle.model.specs.declared.FlowAction.TheVariants.{Wait, After, Call, Repeat, Conditional, Plain}
 use Rattle.model.specs.Flat.{block_named}
 use Rattle.flat.specs.Outcome.{action_in, found_in, block_at, called_in}
@@ -17,23 +13,14 @@ calls : (blocks : List ℕ) (x y : FlowAction) (b r : ℕ) → x ≡ y → x ≡
 calls blocks x y b r e f h = h ∙ sym (ap (called_in blocks) (sym e ∙ f))
 
 -- no call
-no_call : (blocks : List ℕ) (x : FlowAction) → OneOf (0 ∷ 1 ∷ 3 ∷ 4 ∷ 5 ∷ []) (tag_of the_type x) → block_at blocks 0 ≡ called_in blocks x
+no_call : (blocks : List ℕ) (x : FlowAction) → ((b : ℕ) → x ≡ Call b → ⊥) → block_at blocks 0 ≡ called_in blocks x
 unfolding block_at
 no_call blocks (Wait ms) o = refl
 no_call blocks (After ms f k) o = refl
-no_call blocks (Call b) o = absurd (miss (0 ∷ 1 ∷ 3 ∷ 4 ∷ 5 ∷ []) 2 tt o)
+no_call blocks (Call b) o = absurd (o b refl)
 no_call blocks (Repeat t f k) o = refl
 no_call blocks (Conditional q yf yk ef ek) o = refl
 no_call blocks Plain o = refl
-
-pub read_action-requires : goal.read_action-requires
-read_action-requires c = search rules
-
-pub enum_known-block : goal.enum_known-block
-enum_known-block c = search rules
-
-pub find_block-requires : goal.find_block-requires
-find_block-requires c = search rules
 
 pub returns-in-Call : goal.returns-in-Call
 returns-in-Call c =
@@ -48,6 +35,6 @@ pub returns-in_default : goal.returns-in_default
 returns-in_default c =
     let a = c.args in
     record {
-      result_value = no_call a.blocks.now c.read_action.result c.in_default.in_default-own.keys2 ∙ ap (called_in a.blocks.now) c.read_action.ensures;
+      result_value = no_call a.blocks.now c.read_action.result c.in_default.not-Call ∙ ap (called_in a.blocks.now) c.read_action.ensures;
       upper_bound = omega arith;
     }

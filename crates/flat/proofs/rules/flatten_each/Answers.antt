@@ -1,8 +1,7 @@
 -- `flat::rules::flatten_each` meets its contract: after k turns the parts of the first k rules stand in front. Assumes nothing.
 use mathlib.Core.Path.{refl, ◌∙◌}
-use Prim.Native.Nat.{◌-◌, ◌/◌}
+use Prim.Native.Nat.{◌/◌}
 use native.Mathlib.Omega.{arith}
-use borrow.Author.Rules.{rules}
 use lib.ListN.{length}
 use Rattle.flat.specs.Load.{rule_at, rules_up_to}
 use Rattle.flat.proofs.Rows.{whole_length}

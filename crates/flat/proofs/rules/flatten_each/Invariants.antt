@@ -1,7 +1,6 @@
 -- `flat::rules::flatten_each` meets its contract: after k turns the parts of the first k rules stand in front. Assumes nothing.
 use mathlib.Core.Path.{◌≡◌}
 use Prim.Native.Nat.{◌-◌, ◌/◌, ◌≤◌}
-use borrow.Author.Rules.{rules}
 use lib.ListN.{length}
 use Rattle.flat.specs.Load.{rules_up_to}
 use Rattle.flat.proofs.RuleLists.{Front}

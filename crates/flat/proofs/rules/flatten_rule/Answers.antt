@@ -1,6 +1,5 @@
 -- `flat::rules::flatten_rule` meets its contract: the bodies, then the own list. Assumes nothing.
 use native.Mathlib.Omega.{arith}
-use borrow.Author.Rules.{rules}
 use lib.ListN.{length}
 use Rattle.flat.specs.Load.{rule_context}
 use Rattle.flat.specs.Outcome.{list_at}

@@ -1,7 +1,6 @@
 -- `flat::rules::flatten_tables` meets its contract: all parts, and 0 behind them. Assumes nothing.
 use Prim.Native.Nat.{◌/◌}
 use native.Mathlib.Omega.{arith}
-use borrow.Author.Rules.{rules}
 use lib.ListN.{length}
 use Rattle.flat.specs.Load.{flatten_tables}
 use Rattle.flat.proofs.RuleLists.{cleared, rules-count}

@@ -1,6 +1,5 @@
 -- `flat::rules::same_flat` meets its contract: the steps are compared as they are flattened. Assumes nothing.
 use native.Mathlib.Omega.{arith}
-use borrow.Author.Tests.{not-true, not-false}
 use Rattle.model.specs.Flat.{flatten_rules}
 use Rattle.flat.proofs.Counts.{few-stored}
 use Rattle.flat.proofs.FlatPart.{not_made, other-words, other-count, same_rows, rules-length}
@@ -22,7 +21,7 @@ returns-then-not-same c =
     let a = c.args in
     let f = c.flatten_image in
     let z = rw c.in-Steps.is at f.ensures in
-    other-words (flatten_rules a.image.now) a.lists.now a.steps.now _ _ f.new.words f.new.lists z (not-true _ c.if-not-same.true-raw)
+    other-words (flatten_rules a.image.now) a.lists.now a.steps.now _ _ f.new.words f.new.lists z c.if-not-same.true
 
 pub overflow_mul-n : goal.overflow_mul-n
 overflow_mul-n c =
@@ -43,4 +42,4 @@ returns c =
     let f = c.flatten_image in
     let z = rw c.in-Steps.is at f.ensures in
     let s = c.same_words in
-    same_rows (flatten_rules a.image.now) a.lists.now a.steps.now _ _ f.new.words f.new.lists z (not-false _ c.if-not-same.false-raw) c.if-n-steps.false f.auto.lists (omega (arith, rules-length a.image.now, c.requires.rules_bound)) s.result s.ensures
+    same_rows (flatten_rules a.image.now) a.lists.now a.steps.now _ _ f.new.words f.new.lists z c.if-not-same.false c.if-n-steps.false f.auto.lists (omega (arith, rules-length a.image.now, c.requires.rules_bound)) s.result s.ensures

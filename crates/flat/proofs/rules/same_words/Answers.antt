@@ -1,7 +1,7 @@
 -- `flat::rules::same_words` meets its contract: after i turns the first i words are the same. Assumes nothing.
 use mathlib.Core.Path.{refl, sym, ap}
 use mathlib.Core.List.{List}
-use Prim.Native.Nat.{ℕ, ◌-◌}
+use Prim.Native.Nat.{ℕ}
 use native.Mathlib.Omega.{arith}
 use lib.ListN.{length, get_or}
 use Rattle.flat.proofs.FlatPart.{same_false, agree-more, agree-all}

@@ -4,7 +4,6 @@ use mathlib.Core.Bool.{Bool, true, false, ◌&&◌}
 use mathlib.Core.List.{List}
 use Prim.Native.Nat.{ℕ, ◌*◌}
 use borrow.Author.Rules.{rules}
-use borrow.Author.Tests.{not-true, not-false}
 use lib.ListN.{take}
 use Rattle.model.specs.Flat.{Row}
 use Rattle.flat.specs.Words.{layout, same_at}
@@ -36,7 +35,7 @@ returns-then-not-same c =
     let a = c.args in record {
       behinds = (λ rs e. (
         paste-behinds a.words.now _ a.from.now a.n a.size rs c.requires.1 e (λ h. c.copy_words.ensures.words_after h c.requires.1),
-        differed a.seen.now a.n a.same rs (not-true a.same c.if-not-same.true-raw),
+        differed a.seen.now a.n a.same rs c.if-not-same.true,
       ));
       words_unchanged = c.copy_words.ensures.words_unchanged;
     }
@@ -58,7 +57,7 @@ returns c =
     let a = c.args in record {
       behinds = (λ rs e. (
         paste-behinds a.words.now _ a.from.now a.n a.size rs c.requires.1 e (λ h. c.copy_words.ensures.words_after h c.requires.1),
-        compared a.seen.now a.from.now a.n a.size a.same _ rs (not-false a.same c.if-not-same.false-raw) c.same_at.ensures e,
+        compared a.seen.now a.from.now a.n a.size a.same _ rs c.if-not-same.false c.same_at.ensures e,
       ));
       words_unchanged = c.copy_words.ensures.words_unchanged;
     }

@@ -1,7 +1,7 @@
 -- `flat::steps::clear` meets its contract: the words up to i are those up to `at`, and then 0. Assumes nothing.
 use mathlib.Core.Path.{◌≡◌}
 use mathlib.Core.List.{◌++◌}
-use Prim.Native.Nat.{◌+◌, ◌-◌, ◌≤◌}
+use Prim.Native.Nat.{◌-◌, ◌≤◌}
 use lib.ListN.{length, take, replicate}
 use Rattle.flat.proofs.steps.clear.Given as goal
 

@@ -1,6 +1,5 @@
 -- `flat::steps::copies` meets its contract: what the copies left give is what all give. Assumes nothing.
 use mathlib.Core.Path.{◌∙◌}
-use Prim.Native.Nat.{◌-◌}
 use native.Mathlib.Omega.{arith}
 use Rattle.flat.proofs.Copies.{copying-first, copying-next, copying-stop, copying-end}
 use Rattle.flat.proofs.steps.copies.Goals as goal

@@ -1,0 +1,23 @@
+-- `activate::execute::run_dry` meets its contract. Assumes nothing.
+use native.Mathlib.Omega.{arith}
+use Rattle.image.proofs.Accepted.{budget-fits}
+use Rattle.activate.specs.Carried.{carried}
+use Rattle.activate.proofs.Running.{ready-dry, dry-grows, runs-dry}
+use Rattle.activate.proofs.execute.run_dry.Goals as goal
+
+pub run_steps_dry-run-requires : goal.run_steps_dry-run-requires
+run_steps_dry-run-requires c =
+    let few = (budget-fits c.args.image.now c.requires.0.passes).1 in
+    record {
+      sized = ((c.requires.0.least, c.requires.0.most), c.requires.1, c.requires.2);
+      dry_ready = ready-dry (carried c.args.v.now c.args.x) _ (rw c.budget-most.ensures few) c.requires.3;
+    }
+
+pub push_outcome-requires : goal.push_outcome-requires
+push_outcome-requires c =
+    (omega (arith, c.requires.3.outcomes), dry-grows c.args.snapshot.now c.args.image.now c.args.part.now c.args.own c.args.job c.args.v.now c.args.x _ _ _ _ c.requires.1 c.run_steps_dry-run.ensures)
+
+pub returns : goal.returns
+returns c =
+    let few = (budget-fits c.args.image.now c.requires.0.passes).1 in
+    runs-dry c.args.snapshot.now c.args.image.now c.args.part.now c.args.own c.args.job c.args.v.now c.args.x c.budget-most.result _ _ _ c.requires.1 c.run_steps_dry-run.ensures _ c.push_outcome.result _ (rw c.budget-most.ensures few) c.budget-most.ensures c.push_outcome.ensures

@@ -1,0 +1,13 @@
+-- `activate::resume` meets its contract. Assumes nothing.
+use Rattle.activate.specs.Carried.{carried}
+use Rattle.activate.proofs.Running.{changed-room, run_room}
+use Rattle.activate.proofs.Activating.{resumes}
+use Rattle.activate.proofs.resume.Goals as goal
+
+pub run_wet-requires : goal.run_wet-requires
+run_wet-requires c =
+    ((c.requires.accepted.0.least, c.requires.accepted.0.most), c.requires.accepted.1, c.requires.budget_bound.0, run_room _ (changed-room (carried c.args.v.now c.args.x) _ _ c.bump.ensures 1 c.requires.budget_bound.1))
+
+pub returns : goal.returns
+returns c =
+    resumes c.args.snapshot.now c.args.image.now c.args.part.now c.args.own c.args.i c.args.c (carried c.args.v.now c.args.x) _ _ _ _ _ _ c.job_of-job.result c.job_of-job.ensures c.requires.accepted.2 c.bump.ensures c.run_wet.ensures

@@ -1,0 +1,33 @@
+-- `engine::handle::run_rule` meets its contract. Assumes nothing.
+use Rattle.model.specs.Calls.{rule_in}
+use Rattle.state.specs.Meaning.{meaning}
+use Rattle.activate.proofs.Continues.{nothing-done}
+use Rattle.store.proofs.RecordRules.{found_none, found_at}
+use Rattle.engine.specs.Handling.{begun}
+use Rattle.engine.proofs.LoadedLaws.{set-of}
+use Rattle.engine.proofs.HandlingLaws.{ran-nothing, ran-rule, continues-as, room-begun}
+use Rattle.engine.proofs.handle.run_rule.Goals as goal
+
+pub run_at-requires : goal.run_at-requires
+run_at-requires c =
+    record {
+      store_value = (c.requires.0, λ t e. found_at (rule_in t.loaded c.args.rule) _ _ (c.rule_in.ensures t e) c.in-At.is);
+      room = room-begun c.args.v.now _ c.requires.1;
+    }
+
+pub returns-in-Nothing : goal.returns-in-Nothing
+returns-in-Nothing c s e =
+    let a = c.args in
+    let v = a.v.now in
+    let n = found_none (rule_in s.loaded a.rule) _ (c.rule_in.ensures s e) c.in-Nothing.is in
+    rw (ran-nothing s.loaded a.rule a.dry a.snapshot.now (meaning v) n) (nothing-done (begun v) _ _ c.requires.1.sound)
+
+pub returns-in-At : goal.returns-in-At
+returns-in-At c s e =
+    let a = c.args in
+    let v = a.v.now in
+    let q = found_at (rule_in s.loaded a.rule) _ _ (c.rule_in.ensures s e) c.in-At.is in
+    let l = set-of s.loaded a.rule _ q in
+    continues-as (begun v) _ _ _ _ _ _ _
+    (ran-rule s.loaded l.0 a.rule _ a.dry a.snapshot.now (meaning v) l.1 q)
+    (c.run_at.ensures s l.0 e l.1)

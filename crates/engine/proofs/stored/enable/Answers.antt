@@ -1,0 +1,28 @@
+-- `engine::stored::enable` meets its contract. Assumes nothing.
+use mathlib.Core.Path.{refl}
+use Rattle.engine.proofs.WordLaws.{said}
+use Rattle.engine.proofs.CallLaws.{itself, flipped-numbers, enable-no, enable-yes}
+use Rattle.engine.proofs.stored.enable.Goals as goal
+
+pub begin-requires : goal.begin-requires
+begin-requires c = (c.requires, refl)
+
+pub set_enabled-requires : goal.set_enabled-requires
+set_enabled-requires c = let k = said _ c.requires in (c.begin.ensures k.store k.is).sound
+
+pub put_state-requires : goal.put_state-requires
+put_state-requires c =
+    let k = said _ c.requires in
+    (k.long, itself (flipped-numbers _ _ k.store c.args.rule _ c.args.on (c.begin.ensures k.store k.is) c.set_enabled.ensures))
+
+pub returns-in-Nothing : goal.returns-in-Nothing
+returns-in-Nothing c =
+    let k = said _ c.requires in
+    enable-no c.args.rule c.args.on _ k _ (c.rule_in.ensures k.store k.is) c.in-Nothing.is
+
+pub returns-in-At : goal.returns-in-At
+returns-in-At c =
+    let k = said _ c.requires in
+    enable-yes c.args.rule _ c.args.on _ _ _ k _ (c.rule_in.ensures k.store k.is) c.in-At.is
+    (flipped-numbers _ _ k.store c.args.rule _ c.args.on (c.begin.ensures k.store k.is) c.set_enabled.ensures)
+    c.put_state.ensures

@@ -1,0 +1,11 @@
+-- `eval::readings::group_any_on` meets its contract. Assumes nothing.
+use Rattle.model.specs.Eval.{eval_reading}
+use Rattle.eval.proofs.readings.group_any_on.Goals as goal
+
+pub returns-in-Known : goal.returns-in-Known
+unfolding eval_reading
+returns-in-Known c = λ s image flat. rw (← c.group.ensures, c.in-Known.is, c.from_bool.ensures)
+
+pub returns-in-Absent : goal.returns-in-Absent
+unfolding eval_reading
+returns-in-Absent c = λ s image flat. rw (← c.group.ensures, c.in-Absent.is)

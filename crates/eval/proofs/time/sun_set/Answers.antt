@@ -1,0 +1,11 @@
+-- `eval::time::sun_set` meets its contract. Assumes nothing.
+use Rattle.model.specs.Eval.{eval_reading}
+use Rattle.eval.proofs.time.sun_set.Goals as goal
+
+pub returns-in-Known : goal.returns-in-Known
+unfolding eval_reading
+returns-in-Known c = λ s image flat. rw (← c.sun.ensures, c.in-Known.is, c.from_word.ensures)
+
+pub returns-in-Absent : goal.returns-in-Absent
+unfolding eval_reading
+returns-in-Absent c = λ s image flat. rw (← c.sun.ensures, c.in-Absent.is)

@@ -1,0 +1,16 @@
+-- `eval::world_conditions::group_state` meets its contract. Assumes nothing.
+use borrow.Author.Tests.{ne_eqb}
+use Rattle.model.specs.Eval.{eval_condition}
+use Rattle.eval.proofs.world_conditions.group_state.Goals as goal
+
+pub returns-then-state-eq0 : goal.returns-then-state-eq0
+unfolding eval_condition
+returns-then-state-eq0 c = λ image flat s. rw (← c.group.ensures, c.in-Known.is, c.if-state-eq0.true) c.verdict.ensures
+
+pub returns-else-state-eq0 : goal.returns-else-state-eq0
+unfolding eval_condition
+returns-else-state-eq0 c = λ image flat s. rw (← c.group.ensures, c.in-Known.is, ne_eqb _ _ c.if-state-eq0.false) c.verdict-in-Known.ensures
+
+pub returns-in-Absent : goal.returns-in-Absent
+unfolding eval_condition
+returns-in-Absent c = λ image flat s. rw (← c.group.ensures, c.in-Absent.is)

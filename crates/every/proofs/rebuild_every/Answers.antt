@@ -1,0 +1,13 @@
+-- `every::rebuild_every` meets its contract. Assumes nothing.
+use Rattle.every.proofs.Slots.{slots-empty, slots-anew}
+use Rattle.every.proofs.rebuild_every.Goals as goal
+
+pub join_all-requires : goal.join_all-requires
+join_all-requires c =
+    record {
+      accepted = c.requires.accepted;
+      k_bound = (c.requires.k_bound.0, c.requires.k_bound.1, slots-empty _ _ c.drop_every.ensures);
+    }
+
+pub returns : goal.returns
+returns c = slots-anew _ _ c.drop_every.ensures _ _ c.join_all.ensures

@@ -1,0 +1,25 @@
+-- `exports::evaluation::cerambiu_condition` meets its contract. Assumes nothing.
+use mathlib.Core.Path.{refl, sym, ◌∙◌}
+use borrow.Author.Tests.{not-true, not-false}
+use Rattle.exports.proofs.Givens.{given_is}
+use Rattle.exports.proofs.Words.{no-condition, condition-told}
+use Rattle.exports.proofs.evaluation.cerambiu_condition.Goals as goal
+
+pub returns-then-not-given : goal.returns-then-not-given
+returns-then-not-given c = no-condition _ _ _ _ (sym c.given.ensures ∙ not-true _ c.if-not-given.true-raw)
+
+pub begin-requires : goal.begin-requires
+begin-requires c = (sym c.given.ensures ∙ not-false _ c.if-not-given.false-raw, refl)
+
+pub condition_at-requires : goal.condition_at-requires
+condition_at-requires c =
+    record {
+      sized = (given_is _ _ _ (sym c.given.ensures ∙ not-false _ c.if-not-given.false-raw)).sized;
+      sound = c.begin.ensures.sound;
+    }
+
+pub returns : goal.returns
+returns c =
+    condition-told _ _ _ _ (sym c.given.ensures ∙ not-false _ c.if-not-given.false-raw) _ c.begin.ensures
+    c.condition_at.result _
+    c.condition_at.ensures c.verdict_code.ensures

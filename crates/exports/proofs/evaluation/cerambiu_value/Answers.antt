@@ -1,0 +1,33 @@
+-- `exports::evaluation::cerambiu_value` meets its contract. Assumes nothing.
+use mathlib.Core.Path.{refl, sym, ◌∙◌}
+use borrow.Author.Tests.{not-true, not-false}
+use Rattle.exports.proofs.Givens.{given_is}
+use Rattle.exports.proofs.Words.{no_value, value-told, none-words, some_words}
+use Rattle.exports.proofs.evaluation.cerambiu_value.Goals as goal
+
+pub returns-then-not-given : goal.returns-then-not-given
+returns-then-not-given c = c.put_number.ensures ∙ no_value _ _ _ _ (sym c.given.ensures ∙ not-true _ c.if-not-given.true-raw)
+
+pub begin-requires : goal.begin-requires
+begin-requires c = (sym c.given.ensures ∙ not-false _ c.if-not-given.false-raw, refl)
+
+pub value_at-requires : goal.value_at-requires
+value_at-requires c =
+    record {
+      sized = (given_is _ _ _ (sym c.given.ensures ∙ not-false _ c.if-not-given.false-raw)).sized;
+      sound = c.begin.ensures.sound;
+    }
+
+pub returns-in-Value : goal.returns-in-Value
+returns-in-Value c =
+    value-told _ _ _ _ (sym c.given.ensures ∙ not-false _ c.if-not-given.false-raw) _ c.begin.ensures
+    c.value_at.result _
+    c.value_at.ensures
+    (some_words _ _ _ _ (record { sfits = c.in-Value.known_told-1-own.given.0.1 }) c.in-Value.is c.bits_of.ensures c.put_number-in-Value.ensures)
+
+pub returns-in-Unevaluable : goal.returns-in-Unevaluable
+returns-in-Unevaluable c =
+    value-told _ _ _ _ (sym c.given.ensures ∙ not-false _ c.if-not-given.false-raw) _ c.begin.ensures
+    c.value_at.result _
+    c.value_at.ensures
+    (none-words _ _ c.in-Unevaluable.is c.put_number-in-Unevaluable.ensures)

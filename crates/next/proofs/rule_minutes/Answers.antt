@@ -1,0 +1,41 @@
+-- `next::rule_minutes` meets its contract. Assumes nothing.
+use mathlib.Core.Path.{refl, sym, ◌∙◌}
+use native.Mathlib.Omega.{arith}
+use Rattle.world.specs.Values.{sun_option}
+use Rattle.next.proofs.Down.{starts, goes, ends}
+use Rattle.next.proofs.Triggers.{off, on}
+use Rattle.next.proofs.rule_minutes.Goals as goal
+
+pub returns-then-word-ne1 : goal.returns-then-word-ne1
+returns-then-word-ne1 c =
+    let s = c.args in
+    off (sun_option s.sun) s.t s.image.now s.bits.now s.i (λ e. c.if-word-ne1.true (c.word.ensures ∙ e))
+
+pub trigger_count-k-requires : goal.trigger_count-k-requires
+trigger_count-k-requires c = (c.requires.0.least, c.requires.0.most)
+
+pub loop-k-init : goal.loop-k-init
+loop-k-init c = (omega (arith, c.trigger_count-k.ensures), starts _ _ _ _ c.trigger_count-k.ensures)
+
+pub trigger_at-requires : goal.trigger_at-requires
+trigger_at-requires c =
+    record {
+      accepted = c.requires.0;
+      i_bound = c.requires.1;
+      k_in_bounds = omega (arith, c.loop-k-test.true, c.loop-k.invariant.0);
+    }
+
+pub trigger_minutes-requires : goal.trigger_minutes-requires
+trigger_minutes-requires c = c.requires.2
+
+pub loop-k-smaller : goal.loop-k-smaller
+loop-k-smaller c = omega arith
+
+pub loop-k-preserved : goal.loop-k-preserved
+loop-k-preserved c =
+    (omega (arith, c.loop-k-test.true, c.loop-k.invariant.0), goes _ _ _ _ _ refl c.loop-k-test.true c.loop-k.invariant.0 c.loop-k.invariant.1 c.trigger_at.ensures (rw c.trigger_minutes.ensures at c.least-best.ensures))
+
+pub returns : goal.returns
+returns c =
+    let s = c.args in
+    on _ _ _ s.bits.now _ (sym c.word.ensures ∙ c.if-word-ne1.false) (ends _ _ _ _ c.loop-k-test.false c.loop-k.invariant.1)

@@ -1,0 +1,39 @@
+-- `store::hold::image_holds` meets its contract. Assumes nothing.
+use mathlib.Core.Path.{refl, sym, ◌∙◌}
+use native.Mathlib.Omega.{arith}
+use borrow.Author.Tests.{not-true, not-false}
+use Rattle.image.proofs.Accepted.{sized, rules-few}
+use Rattle.load.proofs.Laws.{checked}
+use Rattle.store.proofs.Parts.{counted-set}
+use Rattle.store.proofs.FlatForm.{steps-few}
+use Rattle.store.proofs.SetRules as laws
+use Rattle.store.proofs.hold.image_holds.Goals as goal
+
+pub returns-then-refusal-ne0 : goal.returns-then-refusal-ne0
+returns-then-refusal-ne0 c = laws.tables-refused c.args.store.now c.args.image.now c.refusal.result c.refusal.ensures c.if-refusal-ne0.true
+
+pub few_enough-requires : goal.few_enough-requires
+few_enough-requires c = sized c.args.image.now (sym c.refusal.ensures ∙ c.if-refusal-ne0.false)
+
+pub returns-then-not-few_enough : goal.returns-then-not-few_enough
+returns-then-not-few_enough c =
+    laws.counts-refused c.args.store.now c.args.image.now (sym c.refusal.ensures ∙ c.if-refusal-ne0.false)
+    (sym c.few_enough.ensures ∙ not-true c.few_enough.result c.if-not-few_enough.true-raw)
+
+pub slice_bounds-same_flat-end-2 : goal.slice_bounds-same_flat-end-2
+slice_bounds-same_flat-end-2 c =
+    let r = c.requires.0 in
+    omega (arith, (counted-set c.args.store.now r).steps, c.word_at.ensures, r.long)
+
+pub same_flat-requires : goal.same_flat-requires
+same_flat-requires c =
+    let img = c.args.image.now in record {
+      checked = checked img (sym c.refusal.ensures ∙ c.if-refusal-ne0.false);
+      rules_bound = rules-few img (sym c.few_enough.ensures ∙ not-false c.few_enough.result c.if-not-few_enough.false-raw);
+      steps_len_bound = steps-few c.args.store.now c.requires.0 _ _ c.word_at.ensures refl;
+    }
+
+pub returns : goal.returns
+returns c =
+    laws.image_holds c.args.store.now c.args.image.now (sym c.refusal.ensures ∙ c.if-refusal-ne0.false) c.requires.0 c.requires.1
+    (sym c.few_enough.ensures ∙ not-false c.few_enough.result c.if-not-few_enough.false-raw) _ _ _ c.word_at.ensures refl c.same_flat.ensures

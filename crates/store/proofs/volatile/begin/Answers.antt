@@ -1,0 +1,58 @@
+-- `store::volatile::begin` meets its contract. Assumes nothing.
+use mathlib.Core.Path.{◌∙◌}
+use Prim.Native.Nat.{◌+◌, ◌*◌}
+use native.Mathlib.Omega.{arith}
+use borrow.Author.Rules.{rules}
+use Rattle.state.specs.Meaning.{place_of, bits_part, activations_part, positions_part, variables_part}
+use Rattle.store.specs.Places.{state_place, activations_place, positions_place, variables_place, changing_words}
+use Rattle.store.proofs.Copied.{lent_fits, copied}
+use Rattle.store.proofs.volatile.begin.Goals as goal
+
+pub slice_bounds-others-end : goal.slice_bounds-others-end
+slice_bounds-others-end c = omega (arith, c.requires.0.long)
+
+pub put_first-requires : goal.put_first-requires
+put_first-requires c =
+    lent_fits c.args.store.now _ c.requires.2 state_place activations_place (place_of bits_part) c.args.rules (omega arith) (omega (arith, c.requires.0.long)) (omega arith) (omega (arith, c.requires.1))
+
+pub overflow_mul-rules : goal.overflow_mul-rules
+overflow_mul-rules c = omega (arith, c.requires.1)
+
+pub put_first-requires-2 : goal.put_first-requires-2
+put_first-requires-2 c =
+    lent_fits c.args.store.now _ (c.v-1.given ∙ c.requires.2) activations_place positions_place (place_of activations_part) (c.args.rules * 3) (omega arith) (omega (arith, c.requires.0.long)) (omega arith) (omega (arith, c.requires.1))
+
+pub overflow_mul-rules-2 : goal.overflow_mul-rules-2
+overflow_mul-rules-2 c = omega (arith, c.requires.1)
+
+pub put_first-requires-3 : goal.put_first-requires-3
+put_first-requires-3 c =
+    lent_fits c.args.store.now _ (c.v-2-1.given ∙ c.v-1.given ∙ c.requires.2) positions_place variables_place (place_of positions_part) (c.args.rules * 2) (omega arith) (omega (arith, c.requires.0.long)) (omega arith) (omega (arith, c.requires.1))
+
+pub put_words-requires : goal.put_words-requires
+put_words-requires c =
+    (lent_fits c.args.store.now _ (c.v-3-1.given ∙ c.v-2-1.given ∙ c.v-1.given ∙ c.requires.2) variables_place (state_place + changing_words) (place_of variables_part) 0 (omega arith) (omega (arith, c.requires.0.long)) (omega arith) (omega arith)).0
+
+pub put_word-requires : goal.put_word-requires
+put_word-requires c = omega (arith, c.requires.2, c.v-4-1.given, c.v-3-1.given, c.v-2-1.given, c.v-1.given)
+
+pub clear-requires : goal.clear-requires
+clear-requires c = omega (arith, c.requires.2, c.v-5-1.given, c.v-4-1.given, c.v-3-1.given, c.v-2-1.given, c.v-1.given)
+
+pub overflow_cast-rules : goal.overflow_cast-rules
+overflow_cast-rules c = omega (arith, c.requires.1)
+
+pub put_word-requires-2 : goal.put_word-requires-2
+put_word-requires-2 c = omega (arith, c.requires.2, c.v-6-1.given, c.v-5-1.given, c.v-4-1.given, c.v-3-1.given, c.v-2-1.given, c.v-1.given)
+
+pub returns : goal.returns
+returns c =
+    copied c.args.store.now c.requires.0 c.args.rules c.requires.1 c.args.v.now _ _ _ _ _ _ _ _ c.requires.2
+    c.put_first.ensures
+    c.put_first-2.ensures
+    c.put_first-3.ensures
+    c.put_words.ensures
+    c.word_at.ensures
+    c.put_word.ensures
+    c.clear.ensures
+    c.put_word-2.ensures

@@ -1,0 +1,9 @@
+-- `store::volatile::last_activation` meets its contract. Assumes nothing.
+use Rattle.store.proofs.KeptRows.{activation-read, no-activation}
+use Rattle.store.proofs.volatile.last_activation.Goals as goal
+
+pub returns-then-i-lt-MAX_RULES : goal.returns-then-i-lt-MAX_RULES
+returns-then-i-lt-MAX_RULES c = activation-read _ _ c.option64_at.result c.if-i-lt-MAX_RULES.true c.option64_at.ensures
+
+pub returns : goal.returns
+returns c = no-activation _ _ c.if-i-lt-MAX_RULES.false

@@ -1,0 +1,18 @@
+-- `store::volatile::put_state` meets its contract. Assumes nothing.
+use mathlib.Core.Path.{sym}
+use native.Mathlib.Omega.{arith}
+use lib.Seq.{length-take-le}
+use Rattle.store.specs.Places.{changing_words}
+use Rattle.store.proofs.Commit.{state-fits, wrote}
+use Rattle.store.proofs.volatile.put_state.Goals as goal
+
+pub slice_bounds-put_words-end : goal.slice_bounds-put_words-end
+slice_bounds-put_words-end c = sym (length-take-le changing_words c.args.v.now (omega (arith, c.requires.1.sound.long)))
+
+pub put_words-requires : goal.put_words-requires
+put_words-requires c =
+    state-fits c.args.store.now c.args.v.now c.requires.0 c.requires.1.sound
+
+pub returns : goal.returns
+returns c =
+    wrote _ c.args.v.now _ c.requires.1 c.put_words.ensures

@@ -1,0 +1,33 @@
+-- `wheel::slots::fire_slot` meets its contract. Assumes nothing.
+use mathlib.Core.Path.{sym, ◌∙◌}
+use Rattle.model.specs.Wheel.{by_every, activate_if_enabled, activate_each}
+use Rattle.image.proofs.Rules.{named_rule}
+use Rattle.eval.proofs.Options.{found_at, found_none}
+use Rattle.activate.specs.Carried.{carried}
+use Rattle.activate.proofs.FlatRules.{image-accepted}
+use Rattle.wheel.specs.Tick.{tick_env, rules_of_slot}
+use Rattle.wheel.proofs.Each.{slot_of, slot-none}
+use Rattle.wheel.proofs.Fires.{same-part, skips}
+use Rattle.wheel.proofs.slots.fire_slot.Goals as goal
+
+pub rule_named-requires : goal.rule_named-requires
+rule_named-requires c =
+    let a = image-accepted _ c.requires.holds.accepted in
+    (a.least, a.most)
+
+pub activate_if_enabled-requires : goal.activate_if_enabled-requires
+activate_if_enabled-requires c =
+    record {
+      holds = (c.requires.holds, (named_rule _ _ _ (found_at _ _ (sym c.in-At.is ∙ c.rule_named.ensures))).0);
+      room = c.requires.room;
+    }
+
+pub returns-in-At : goal.returns-in-At
+returns-in-At c =
+    let e = tick_env c.args.snapshot.now c.args.image.now in
+    same-part 1 (activate_if_enabled e by_every _) (activate_each e by_every (rules_of_slot c.args.image.now c.args.slot)) (slot_of e c.args.image.now c.args.slot _ _ (found_at _ _ (sym c.in-At.is ∙ c.rule_named.ensures))) c.activate_if_enabled.ensures
+
+pub returns-in-Nothing : goal.returns-in-Nothing
+returns-in-Nothing c =
+    let e = tick_env c.args.snapshot.now c.args.image.now in
+    skips 1 (activate_each e by_every (rules_of_slot c.args.image.now c.args.slot)) (carried c.args.v.now c.args.x) _ _ c.requires.room.sound (slot-none e c.args.image.now c.args.slot _ (found_none _ (sym c.in-Nothing.is ∙ c.rule_named.ensures)))

@@ -1,0 +1,40 @@
+-- `wheel::wall::due_wall_kind` meets its contract. Assumes nothing.
+use Prim.Native.Nat.{◌-◌}
+use native.Mathlib.Omega.{arith}
+use Rattle.eval.specs.Answers.{env_of}
+use Rattle.wheel.proofs.DueKind.{starts, ends-here, goes, ends}
+use Rattle.wheel.proofs.wall.due_wall_kind.Goals as goal
+
+pub trigger_count-n-requires : goal.trigger_count-n-requires
+trigger_count-n-requires c = (c.requires.0.least, c.requires.0.most)
+
+pub loop-k-init : goal.loop-k-init
+loop-k-init c = (omega arith, c.trigger_count-n.ensures, λ img flat. starts (env_of _ img flat) _ _ _ _)
+
+pub trigger_at-trigger-requires : goal.trigger_at-trigger-requires
+trigger_at-trigger-requires c = record {
+  accepted = c.requires.0;
+  i_bound = c.requires.1;
+  k_in_bounds = omega (arith, c.loop-k-test.true, c.loop-k.invariant.1);
+}
+
+pub overflow_add-k : goal.overflow_add-k
+overflow_add-k c = omega arith
+
+pub returns-then-kind : goal.returns-then-kind
+returns-then-kind c = λ img flat.
+    ends-here (env_of _ img flat) _ _ _ _ _ _ _ (omega (arith, c.loop-k-test.true, c.loop-k.invariant.1)) (c.loop-k.invariant.2 img flat) c.trigger_at-trigger.ensures (c.trigger_kind-w.ensures img flat) c.if-kind.true
+
+pub loop-k-smaller : goal.loop-k-smaller
+loop-k-smaller c = omega arith
+
+pub loop-k-preserved : goal.loop-k-preserved
+loop-k-preserved c = (
+  omega arith,
+  c.loop-k.invariant.1,
+  λ img flat. goes (env_of _ img flat) _ _ _ _ _ _ _ (omega (arith, c.loop-k-test.true, c.loop-k.invariant.1)) (c.loop-k.invariant.2 img flat) c.trigger_at-trigger.ensures (c.trigger_kind-w.ensures img flat) c.if-kind.false,
+)
+
+pub returns : goal.returns
+returns c = λ img flat.
+    rw c.kind_if.ensures (ends (env_of _ img flat) _ _ _ _ _ _ (omega (arith, c.loop-k-test.false, c.loop-k.invariant.1)) (c.loop-k.invariant.2 img flat))
