@@ -19,9 +19,8 @@ def text(path):
 
 
 def files(suffix, below):
-    for folder, _, names in os.walk(os.path.join(TOP, below)):
-        if os.sep + "target" in folder:
-            continue
+    for folder, folders, names in os.walk(os.path.join(TOP, below)):
+        folders[:] = [inner for inner in folders if inner not in ("out", "target")]  # what rt and cargo make
         for name in names:
             if name.endswith(suffix):
                 yield os.path.relpath(os.path.join(folder, name), TOP)
