@@ -1,8 +1,8 @@
 -- Decimal numbers, read digit by digit. Assumes nothing.
-use mathlib.Core.Path.{◌≡◌, refl, sym, ap, ◌∙◌}
-use mathlib.Core.Bool.{Bool, true, false, not, ◌&&◌}
+use mathlib.Core.Path.{◌≡◌, refl}
+use mathlib.Core.Bool.{Bool, true, false, not}
 use mathlib.Core.List.{List, [], ◌∷◌}
-use Prim.Native.Nat.{ℕ, suc, ◌+◌, ◌*◌, ◌-◌, ◌/◌, ◌≤◌, ◌<◌}
+use Prim.Native.Nat.{ℕ, ◌+◌, ◌*◌, ◌-◌, ◌/◌, ◌≤◌, ◌<◌}
 use native.Mathlib.Nat.{le_trans, div-add-mod, mod-lt}
 use native.Mathlib.Numerals.{add-one}
 use native.Mathlib.Omega.{arith}
@@ -13,7 +13,7 @@ use lib.Seq.{drop-cons}
 use Rattle.words.specs.Saturating.{max64}
 use Rattle.model.specs.Lists.{all}
 use Rattle.model.specs.Digits.{is_digit, value_from}
-use Rattle.decimal.specs.Numbers.{argument_of, pick_argument, Argument, NoNumber, TooLarge, Number, fitted, pick_value, Value, Over, Fits}
+use Rattle.decimal.specs.Numbers.{argument_of, pick_argument, NoNumber, TooLarge, Number, fitted, pick_value, Over, Fits}
 
 -- A loop that asks of every element, and leaves at the first that fails. Its invariant at i: `all p (drop i l) ≡ all p l`.
 module _ (p : ℕ → Bool) (l : List ℕ) (i : ℕ) (e : all p (drop i l) ≡ all p l) where

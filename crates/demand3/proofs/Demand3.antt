@@ -10,7 +10,7 @@ use Rattle.words.specs.Saturating.{max32}
 use Rattle.model.specs.Lists.{all}
 use Rattle.model.specs.State.{Store}
 use Rattle.model.specs.Store.{read, write, Keeps}
-use Rattle.model.specs.Calls.{Call, Answer, done, refused, enabled, handled, due, counted, answers}
+use Rattle.model.specs.Calls.{Call, Answer, done, refused, enabled, handled, due, counted}
 use Rattle.model.specs.Answers.{number_of, values_of}
 use Rattle.model.specs.OnWords.{Result, call_on}
 use Rattle.model.proofs.Bools.{join}

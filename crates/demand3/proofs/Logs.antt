@@ -1,7 +1,7 @@
 -- What a log of runs of the eight functions says, off the lent outcome words: from their contracts and the theorem about the calls on words.
 -- Assumes nothing.
 use mathlib.Core.Path.{◌≡◌, refl, sym, ap, ap₂, subst, ◌∙◌}
-use mathlib.Core.Bool.{Bool, true, false, not}
+use mathlib.Core.Bool.{true, not}
 use mathlib.Core.List.{List, [], ◌∷◌, map}
 use mathlib.Core.Option.{Option, none, some}
 use Prim.Native.Nat.{ℕ}
@@ -12,12 +12,12 @@ use Rattle.model.specs.Lists.{all}
 use Rattle.model.specs.Calls as calls
 use Rattle.model.specs.Calls.{Call, Answer, done, blank}
 use Rattle.model.specs.Answers.{number_of, values_of, outcome_store}
-use Rattle.model.specs.OnWords.{Result, outcome_words_of, result, on_store, new_on, call_on}
+use Rattle.model.specs.OnWords.{outcome_words_of, result, on_store, new_on, call_on}
 use Rattle.model.specs.Store.{read}
 use Rattle.model.specs.State.{Store}
 use Rattle.ledger.specs.Ledger.{is_new}
 use Rattle.ledger.specs.OnWords.{answers_on}
-use Rattle.ledger.specs.Log.{Line, lines}
+use Rattle.ledger.specs.Log.{lines}
 use Rattle.ledger.specs.LogWords.{WordLine, WordLogHolds, word_line, seen_line}
 use Rattle.ledger.proofs.ListLaws.{by}
 use Rattle.ledger.proofs.LogsOnWords.{same-answers, log-on-words}

@@ -7,7 +7,6 @@ use lib.Dec.{eqb, leb}
 use lib.ListN.{get_or}
 use Rattle.model.specs.Lists.{any, keep}
 use Rattle.model.specs.Wheel.{due_now, due_indices}
-use Rattle.model.specs.declared.Jump.{Jump}
 use Rattle.model.specs.declared.Jump.TheVariants.{NoJump}
 use Rattle.model.specs.declared.Pending.{Pending}
 

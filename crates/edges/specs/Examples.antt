@@ -1,5 +1,5 @@
 -- Worked examples beside the starred edges: document 01's other edges, and what is wrong though it looks right. One table.
-use Rattle.std.specs.Prelude.{ℕ, ◌+◌, ◌-◌, ◌^◌, Bool, true, false, List, [], ◌∷◌, ◌++◌, map, replicate}
+use Rattle.std.specs.Prelude.{ℕ, ◌-◌, ◌^◌, false, List, [], ◌∷◌, ◌++◌, map, replicate}
 use Rattle.model.specs.Lists.{up_from}
 use Rattle.model.specs.State.{Store}
 use Rattle.model.specs.Calls.{Call, load, unload, enable, run, deadline, counters, fresh, answers, call}

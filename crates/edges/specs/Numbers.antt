@@ -1,5 +1,5 @@
 -- The number of an activation: request 6 of document 02, as one table.
-use Rattle.std.specs.Prelude.{ℕ, suc, ◌-◌, ◌^◌, Bool, true, false, List, [], ◌∷◌, ◌++◌, map}
+use Rattle.std.specs.Prelude.{ℕ, suc, ◌-◌, ◌^◌, true, false, List, [], ◌∷◌, map}
 use Rattle.words.specs.Saturating.{max64}
 use Rattle.model.specs.declared.Effect.{Effect}
 use Rattle.model.specs.declared.Pending.{Pending}
@@ -7,8 +7,8 @@ use Rattle.model.specs.Outcome.{Outcome}
 use Rattle.model.specs.State.{Store}
 use Rattle.model.specs.Store.{bit_of, rules_hold}
 use Rattle.model.specs.Activate.{Handled}
-use Rattle.model.specs.Calls.{Call, load, unload, enable, run, tick, Answer, done, refused, enabled, handled, due, counted, fresh, answers, call, overflow}
-use Rattle.edges.specs.Samples.{image_of, rule, log, logs, wait, snapshot, absent, run_wet, run_dry, tick_at, force, Edge, edge, samples}
+use Rattle.model.specs.Calls.{Call, load, unload, enable, run, Answer, done, refused, enabled, handled, due, counted, fresh, answers, call, overflow}
+use Rattle.edges.specs.Samples.{image_of, rule, log, wait, snapshot, absent, run_wet, run_dry, tick_at, force, Edge, edge, samples}
 
 -- WHAT IS COMPARED ------------------------------------------------------------------------------------------------------------------
 -- of an outcome: number, reason, and the first word of each effect (of a Log, its text)

@@ -1,10 +1,8 @@
 -- Images, snapshots and histories, written short: for worked examples of the specification.
-use Rattle.std.specs.Prelude.{ℕ, ◌+◌, ◌-◌, Bool, true, false, List, [], ◌∷◌, ◌++◌, map, length, replicate}
-use Rattle.std.proofs.Math.Option.{Option, none, some}
+use Rattle.std.specs.Prelude.{ℕ, ◌+◌, ◌-◌, true, false, List, [], ◌∷◌, ◌++◌, map, length, replicate}
 use Rattle.model.specs.declared.Effect.{Effect}
 use Rattle.model.specs.Lists.{flatten, to_list}
 use Rattle.model.specs.Outcome.{Outcome}
-use Rattle.model.specs.State.{Store}
 use Rattle.model.specs.Calls.{Call, load, run, tick, Answer, done, refused, enabled, handled, due, counted, fresh, answers}
 
 -- IMAGES AND SNAPSHOTS -------------------------------------------------------------------------------------------------------------

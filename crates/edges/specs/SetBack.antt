@@ -1,5 +1,5 @@
 -- Clocks that were set back: request 5 of document 02, as one table. A rule is named by the minute of the day at which it starts.
-use Rattle.std.specs.Prelude.{ℕ, ◌/◌, ◌%◌, Bool, true, false, List, [], ◌∷◌, ◌++◌, map, length, get_or}
+use Rattle.std.specs.Prelude.{ℕ, ◌/◌, ◌%◌, false, List, [], ◌∷◌, map, length, get_or}
 use Rattle.model.specs.Lists.{up_from}
 use Rattle.model.specs.Calls.{Call, load, unload, run, counters}
 use Rattle.edges.specs.Samples.{image_of, rule, log, logs, wait, snapshot, absent, tick_at, tick_at_minute, run_wet, force, history, Edge, edge, samples}

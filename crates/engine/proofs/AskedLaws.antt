@@ -18,12 +18,11 @@ use Rattle.model.specs.Calls.{Call, deadline, counters, done, refused, enabled, 
 use Rattle.model.specs.Answers as answers
 use Rattle.model.specs.OnWords.{result, store_refusal, store_after, outcome_words_of, effect_words_of, on_store, call_on}
 use Rattle.model.proofs.StoreLaws.{write_read}
-use Rattle.engine.specs.Seen.{Seen, seen, refusal_of}
+use Rattle.engine.specs.Seen.{seen, refusal_of}
 use Rattle.engine.specs.Answers.{number_of, values_of, shown, shown_counters}
 use Rattle.model.specs.Asked.{Asked, declined, shown_asked}
 use Rattle.engine.specs.Asked.{lowest_of, asked_of, asked, seen_asked}
 use Rattle.engine.specs.declared.Answer.TheVariants.{Refused}
-use Rattle.engine.specs.declared.Counted.{Counted}
 use Rattle.engine.proofs.Seeing.{OnStore, is_store}
 
 -- THE CHECKS ----------------------------------------------------------------------------------------------------------------------------

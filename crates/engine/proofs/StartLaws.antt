@@ -1,13 +1,13 @@
 -- The next start of a store that reads. Assumes nothing.
 use mathlib.Core.Path.{◌≡◌, refl, sym, ap, ◌∙◌}
-use mathlib.Core.Bool.{Bool, true, false}
+use mathlib.Core.Bool.{Bool, false}
 use mathlib.Core.List.{List, [], ◌∷◌, map}
-use mathlib.Core.Option.{Option, none, some}
+use mathlib.Core.Option.{Option, some}
 use Prim.Native.Nat.{ℕ, zero, suc, ◌+◌, ◌-◌, ◌≤◌}
 use native.Mathlib.Nat.{le_of_suc-le-suc, not-suc-le-zero}
 use native.Mathlib.Omega.{arith}
 use lib.ListN.{length, take, drop, length-drop}
-use Rattle.model.specs.Asked.{Asked, shown_asked}
+use Rattle.model.specs.Asked.{shown_asked}
 use Rattle.model.specs.Codec.{rows_at}
 use Rattle.model.specs.Parts.{bit}
 use Rattle.model.specs.Snapshot.{snapshot_refusal}

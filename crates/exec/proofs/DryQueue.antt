@@ -22,7 +22,6 @@ use Rattle.model.specs.declared.Step.TheVariants.{Primitive, Wait, Branch, After
 use Rattle.flat.specs.Words.{steps_in, list_words, Says}
 use Rattle.exec.specs.Lists.{step_option, step_in}
 use Rattle.exec.specs.DryRuns.{body_point, bodies_of, queued_by, SameRun, Queues, Moved}
-use Rattle.exec.specs.declared.Job.{Job}
 use Rattle.exec.specs.Done.{DryRunNow}
 use Rattle.exec.specs.declared.MaybeStep.{MaybeStep}
 use Rattle.exec.specs.declared.MaybeStep.TheVariants.{Nothing, One}

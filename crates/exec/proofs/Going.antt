@@ -14,7 +14,6 @@ use Rattle.model.specs.Exec as model
 use Rattle.model.specs.Exec.{run_steps, with_step, continue_run, exec, first_reason, ended, unpaid}
 use Rattle.model.specs.Flat.{list_in, step_at}
 use Rattle.model.specs.Lists.{to_list, or_else, present}
-use Rattle.model.specs.State as model-state
 use Rattle.model.specs.State.{Env}
 use Rattle.model.specs.Steps.{FlatStep}
 use Rattle.model.specs.declared.Point.{Point}

@@ -1,26 +1,24 @@
 -- The trace of a tick or a wet run is made of runs of its rules' lists, each with its outcome.
 use mathlib.Core.Path.{◌≡◌, refl, sym, ◌∙◌, ap, subst}
 use Prim.Native.Nat.{ℕ, zero, suc}
-use mathlib.Core.Bool.{Bool, true, false, cond, true≢false, ◌&&◌}
+use mathlib.Core.Bool.{Bool, true, false, cond, true≢false}
 use mathlib.Core.List.{List, [], ◌∷◌, ◌++◌, append-nil, append_assoc}
 use mathlib.Core.Option.{Option, none, some}
-use lib.Dec.{ltb}
 use Rattle.model.specs.Lists.{or_else}
 use Rattle.model.specs.Image.{budget}
-use Rattle.model.specs.Rules.{name_of, rule_named, name_order, conditions_of_rule}
+use Rattle.model.specs.Rules.{name_of, rule_named, name_order}
 use Rattle.model.specs.Snapshot.{snapshot_refusal}
 use Rattle.model.specs.Load.{image_refusal_with}
 use Rattle.model.specs.Flat.{Flattened, flatten_rules}
 use Rattle.model.specs.World.{now_of, world_of}
 use Rattle.model.specs.declared.Effect.{Effect}
-use Rattle.model.specs.Outcome.{Outcome, Item, started, resumed, aborted, paid}
+use Rattle.model.specs.Outcome.{Outcome, Item, started, resumed, aborted}
 use Rattle.model.specs.declared.Pending.{Pending}
 use Rattle.model.specs.declared.Point.{Point}
-use Rattle.model.specs.State.{next_number, Env, Rest, Volatile, RuleSet, Store, with_rest, is_enabled, bump, continuations_fired, suppressed_cooldown}
-use Rattle.model.specs.Eval.{conditions_hold}
+use Rattle.model.specs.State.{next_number, Env, Volatile, RuleSet, Store, with_rest, is_enabled, bump, continuations_fired}
 use Rattle.model.specs.Actions.{Job, condition_unevaluable}
 use Rattle.model.specs.Exec.{RunOutput, run_steps}
-use Rattle.model.specs.Activate.{Mode, Auto, Manual, is_dry, is_auto, Handled, no_outcome, and_then, outcome, job_of, numbered, in_cooldown, Decision, begins, suppressed, unevaluable, verdict, decide, finished, execute_wet, execute, decided, activate, resume}
+use Rattle.model.specs.Activate.{Mode, Auto, Manual, is_dry, Handled, no_outcome, and_then, outcome, job_of, numbered, Decision, begins, suppressed, unevaluable, decide, finished, execute_wet, execute, decided, activate, resume}
 use Rattle.model.specs.Steps.{start}
 use Rattle.model.specs.Wheel.{due_now, resume_all, fire_continuations, service_tick}
 use Rattle.model.specs.Calls.{Call, new, load, unload, enable, tick, run, deadline, counters, Done, overflow, loading, call_load, call_unload, enabling, rule_in, call_enable, committing, committed, tick_with, run_rule, run_with, given, refuse, call}

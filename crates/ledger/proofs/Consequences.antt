@@ -2,7 +2,7 @@
 -- and the steps of a list that nests nothing or only afters.
 use mathlib.Core.Path.{◌≡◌, refl, sym, ◌∙◌, ap, ap₂, subst}
 use mathlib.Core.Logic.{◌⊎◌, inl, inr}
-use Prim.Native.Nat.{ℕ, zero, suc, ◌+◌, ◌≤◌}
+use Prim.Native.Nat.{ℕ, suc, ◌+◌, ◌≤◌}
 use native.Mathlib.Omega.{arith}
 use mathlib.Core.Bool.{Bool, true, false, ◌&&◌, ◌||◌, false≢true}
 use mathlib.Core.List.{List, [], ◌∷◌, ◌++◌, map, nil≢cons, cons≢nil, head-eq_of_cons-eq, tail-eq_of_cons-eq}
@@ -12,8 +12,6 @@ use lib.ListN.{length, length-append}
 use Rattle.model.specs.Lists.{to_list, all}
 use Rattle.model.specs.Image.{budget}
 use Rattle.model.specs.declared.Point.{Point}
-use Rattle.model.specs.declared.Effect.{Effect}
-use Rattle.model.specs.declared.Pending.{Pending}
 use Rattle.model.specs.declared.Step.{Step}
 use Rattle.model.specs.declared.Step.TheVariants.{Primitive, Wait, Branch, After, Fail}
 use Rattle.model.specs.declared.FlowAction.{FlowAction}

@@ -1,7 +1,7 @@
 -- The lent outcome words tell all that a log needs.
 use mathlib.Core.Path.{◌≡◌, refl, sym, ◌∙◌, ap, ap₂, subst}
 use Prim.Native.Nat.{ℕ, ◌+◌, ◌≤◌}
-use mathlib.Core.Bool.{Bool, cond}
+use mathlib.Core.Bool.{cond}
 use mathlib.Core.List.{List, [], ◌∷◌, ◌++◌, map}
 use lib.Dec.{eqb}
 use lib.ListN.{length}
@@ -10,9 +10,9 @@ use Rattle.model.specs.Outcome.{Outcome}
 use Rattle.model.specs.Calls.{Answer}
 use Rattle.model.specs.Answers.{outcome_words, outcomes_in, outcome_store}
 use Rattle.ledger.specs.Ledger.{is_refused}
-use Rattle.ledger.specs.Effects.{only_if, number_of}
+use Rattle.ledger.specs.Effects.{only_if}
 use Rattle.ledger.specs.Log.{Line, numbers_at, numbers_shown, effects_with, effects_shown, is_in, budget_after_call, budget_for, NoGap, bound, LogHolds}
-use Rattle.ledger.specs.LogWords.{Shown, shown_in, shown_by, WordLine, shown_on, numbers_on, sum_with, sum_over, budget_over, numbers_over, WordLogHolds, word_line}
+use Rattle.ledger.specs.LogWords.{Shown, shown_in, shown_by, shown_on, numbers_on, sum_with, sum_over, budget_over, numbers_over, WordLogHolds, word_line}
 use Rattle.ledger.proofs.ListLaws.{map-map}
 
 words-tell : (first : ℕ) (os : List Outcome) (rest : List ℕ) → shown_in (length os) (outcome_words first os ++ rest) ≡ map shown_by os

@@ -3,34 +3,33 @@ use mathlib.Core.Path.{◌≡◌, refl, sym, ◌∙◌, ap, ap₂, subst}
 use mathlib.Core.Logic.{◌⊎◌, inl, inr}
 use Prim.Native.Nat.{ℕ, zero, suc, ◌+◌, ◌≤◌, ◌<◌, zero-le}
 use native.Mathlib.Omega.{arith}
-use mathlib.Core.Bool.{Bool, true, false, not, ◌||◌, cond, false≢true, true≢false}
-use mathlib.Core.List.{List, [], ◌∷◌, ◌++◌, map}
-use mathlib.Core.Option.{Option, none, some}
+use mathlib.Core.Bool.{Bool, true, false, not, ◌||◌, cond, false≢true}
+use mathlib.Core.List.{List, [], ◌∷◌, map}
+use mathlib.Core.Option.{Option, none}
 use lib.Dec.{leb, eqb}
 use borrow.Author.Tests.{leb-true, leb-false, eqb-true, ne_eqb}
 use Rattle.words.specs.Saturating.{max64}
 use Rattle.model.specs.World.{now_of}
 use Rattle.model.specs.Lists.{all}
-use Rattle.model.specs.Outcome.{Outcome, Item, started, resumed, aborted, paid}
+use Rattle.model.specs.Outcome.{Item, started, resumed, aborted, paid}
 use Rattle.model.specs.Answers.{outcomes_in}
 use Rattle.model.specs.State.{Store, RuleSet, next_number}
 use Rattle.model.specs.Flat.{set_of}
 use Rattle.model.specs.Calls.{Call, new, load, unload, enable, tick, run, deadline, counters, Done, answers, fresh, call}
-use Rattle.ledger.specs.Ledger.{Event, cleared, ticked, ran, traced, Ledger, post_item, post_items, post, post_all, events_of, is_refused, is_new, budget_of, start_ledger, post_call}
-use Rattle.ledger.specs.Effects.{origins, shown_with, shown_at, shown_over, numbers_of, number_of, is_zero, AsPosted, ShowsNumbers}
+use Rattle.ledger.specs.Ledger.{Event, cleared, ticked, ran, traced, Ledger, post_item, post, post_all, events_of, is_refused, is_new, budget_of, start_ledger, post_call}
+use Rattle.ledger.specs.Effects.{shown_with, shown_at, shown_over, numbers_of, number_of, is_zero, AsPosted, ShowsNumbers}
 use Rattle.ledger.specs.Sets.{set_after_call}
-use Rattle.ledger.specs.Trace.{NoOutput, Conforms}
-use Rattle.ledger.specs.Log.{Line, lines, numbers_at, numbers_shown, effects_with, effects_shown, is_in, budget_after_call, budget_for, bound, LogHolds}
+use Rattle.ledger.specs.Trace.{Conforms}
+use Rattle.ledger.specs.Log.{lines, numbers_shown, effects_with, effects_shown, is_in, budget_after_call, budget_for, bound, LogHolds}
 use Rattle.ledger.proofs.ListLaws.{by, and_l, and_r, Every}
 use Rattle.ledger.proofs.NextNumber.{next-is}
 use Rattle.ledger.proofs.LastNumbers.{last_fits}
 use Rattle.ledger.proofs.Sound.{Sound}
-use Rattle.ledger.proofs.Simulation.{post-traced}
-use Rattle.ledger.proofs.History.{Agree, Followed, follows, starts}
+use Rattle.ledger.proofs.History.{Agree, follows, starts}
 use Rattle.ledger.proofs.CallTrace.{call-conforms}
 use Rattle.ledger.proofs.Sets.{call-leaves}
 use Rattle.ledger.proofs.Shown.{shown-bounded}
-use Rattle.ledger.proofs.Numbers.{last_of, none_made, every-imp, Lasting, Holds, Given, given-lasts, last-events, events-hold, events-shown, Gapless, gapless-append, events-gapless, zeros-gapless}
+use Rattle.ledger.proofs.Numbers.{last_of, every-imp, Lasting, Holds, Given, given-lasts, last-events, events-hold, events-shown, Gapless, gapless-append, events-gapless, zeros-gapless}
 use Rattle.ledger.proofs.Origins.{origin_of, Tied, tied-events, call-none-made, call-origins, act, same-effects, none-effects, none-origins, zeros-none}
 
 -- A CALL'S NUMBERS: the ledger's, or all 0 and nothing told --------------------------------------------------------------------------------

@@ -1,16 +1,16 @@
 -- What a log of the calls on words says.
-use mathlib.Core.Path.{◌≡◌, refl, sym, ◌∙◌, ap, ap₂, subst}
+use mathlib.Core.Path.{◌≡◌, sym, ◌∙◌, ap, ap₂, subst}
 use Prim.Native.Nat.{ℕ, ◌^◌}
 use native.Mathlib.Omega.{arith}
-use mathlib.Core.Bool.{Bool, true, false, cond, not}
-use mathlib.Core.List.{List, [], ◌∷◌}
+use mathlib.Core.Bool.{true, not}
+use mathlib.Core.List.{List, ◌∷◌}
 use lib.Dec.{eqb}
 use lib.ListN.{length}
 use borrow.Author.Tests.{eqb-true, ltb-true}
 use Rattle.model.specs.Lists.{all}
 use Rattle.model.specs.Store.{write}
 use Rattle.model.specs.Answers as model
-use Rattle.model.specs.Calls.{Call, new, Answer, done, refused, answers, fresh, blank, call}
+use Rattle.model.specs.Calls.{Call, new, done, answers, fresh, blank, call}
 use Rattle.model.specs.OnWords.{Result, result, new_on, call_on}
 use Rattle.model.proofs.StoreLaws.{read-write}
 use Rattle.ledger.specs.Ledger.{is_new}

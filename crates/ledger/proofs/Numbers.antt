@@ -1,19 +1,18 @@
 -- The activation numbers of the ledger, over every list of events that makes no store new.
-use mathlib.Core.Path.{◌≡◌, refl, sym, ◌∙◌, ap, ap₂}
-use Prim.Native.Nat.{ℕ, zero, suc, ◌≤◌}
+use mathlib.Core.Path.{◌≡◌, refl, sym}
+use Prim.Native.Nat.{ℕ, suc, ◌≤◌}
 use native.Mathlib.Omega.{arith}
 use mathlib.Core.Bool.{Bool, true, false, not, false≢true}
-use mathlib.Core.List.{List, [], ◌∷◌, ◌++◌, map, tail}
-use mathlib.Core.Option.{Option, none, some}
-use lib.Dec.{ltb, leb, eqb}
+use mathlib.Core.List.{List, [], ◌∷◌, ◌++◌, tail}
+use lib.Dec.{leb, eqb}
 use lib.ListN.{length}
 use borrow.Author.Tests.{lt-ltb, le-ltb, eqb-true}
 use Rattle.words.specs.Saturating.{max64}
 use Rattle.model.specs.Lists.{all, keep}
 use Rattle.model.specs.State.{next_number}
-use Rattle.model.specs.Outcome.{Report, plain, disables, defers, Item, started, resumed, aborted, paid}
-use Rattle.ledger.specs.Ledger.{Event, made, cleared, disabled, ticked, ran, traced, Posting, Standing, Payer, Ledger, struck, staying, leaves_before, leaving, accept, post_report, pay, resumed_payer, post_item, post_items, post, post_all}
-use Rattle.ledger.specs.Effects.{number_begun, numbers_in, number_on, numbers_of, is_zero}
+use Rattle.model.specs.Outcome.{plain, disables, defers, Item, started, resumed, aborted, paid}
+use Rattle.ledger.specs.Ledger.{Event, made, cleared, disabled, ticked, ran, traced, Posting, Ledger, struck, staying, leaves_before, leaving, accept, post_report, resumed_payer, post_item, post, post_all}
+use Rattle.ledger.specs.Effects.{number_begun, number_on, numbers_of, is_zero}
 use Rattle.ledger.specs.Log.{greater, NoGap, greatest}
 use Rattle.ledger.proofs.NextNumber.{next-given, next-is}
 use Rattle.ledger.proofs.ListLaws.{by, and_l, and_r, Every, every_append, every-keep, every-sort}

@@ -1,9 +1,9 @@
 -- While no store is made new, a number tells the activation: number n is that of activation n - 1, with the budget of the set.
-use mathlib.Core.Path.{◌≡◌, refl, sym, ◌∙◌, ap, ap₂}
+use mathlib.Core.Path.{◌≡◌, refl, sym, ap, ap₂}
 use Prim.Native.Nat.{ℕ, zero, suc, ◌+◌, ◌≤◌}
 use native.Mathlib.Omega.{arith}
-use mathlib.Core.Bool.{Bool, true, false, not, ◌&&◌, ◌||◌, false≢true, true≢false}
-use mathlib.Core.List.{List, [], ◌∷◌, ◌++◌, map}
+use mathlib.Core.Bool.{Bool, true, false, not, ◌||◌, false≢true, true≢false}
+use mathlib.Core.List.{List, [], ◌∷◌, map}
 use mathlib.Core.Option.{Option, none, some}
 use lib.Dec.{eqb}
 use lib.ListN.{length}
@@ -14,7 +14,7 @@ use Rattle.model.specs.Lists.{all}
 use Rattle.model.specs.Outcome.{Outcome, plain, disables, defers, Item, started, resumed, aborted, paid}
 use Rattle.model.specs.Calls.{Call, new, load, unload, enable, tick, run, deadline, counters}
 use Rattle.ledger.specs.Ledger.{Event, made, cleared, disabled, ticked, ran, traced, Activation, Posting, Ledger, struck, staying, accept, post_report, resumed_payer, post_item, post, post_all, events_of, is_new}
-use Rattle.ledger.specs.Effects.{same_activation, from, only_if, begun, origins, shown_with, numbers_in, numbers_of, number_of, is_zero}
+use Rattle.ledger.specs.Effects.{same_activation, from, only_if, origins, shown_with, numbers_of, number_of, is_zero}
 use Rattle.ledger.specs.Log.{effects_with, is_in}
 use Rattle.ledger.proofs.ListLaws.{by, and_l, and_r, Every, every_append, every-keep}
 use Rattle.ledger.proofs.NextNumber.{next-is}

@@ -10,7 +10,7 @@ use Rattle.model.specs.Flat.{flatten_rules}
 use Rattle.model.specs.Load.{image_refusal_with}
 use Rattle.model.specs.Snapshot.{snapshot_refusal}
 use Rattle.model.specs.Calls.{Call, new, load, unload, enable, tick, run, deadline, counters, Done, fresh, loading, call_load, call_unload, enabling, rule_in, call_enable, overflow, committing, committed, tick_with, run_with, given, call}
-use Rattle.ledger.specs.Ledger.{is_refused, notice_of, notices, final_store}
+use Rattle.ledger.specs.Ledger.{is_refused, notices, final_store}
 use Rattle.ledger.specs.Sets.{set_after_call, set_after}
 
 -- the set that a call leaves

@@ -1,5 +1,5 @@
 -- The effects that are shown with the outcomes of an activation and its resumptions are those that the ledger counts for it.
-use mathlib.Core.Path.{◌≡◌, refl, sym, ◌∙◌, ap}
+use mathlib.Core.Path.{◌≡◌, refl, ◌∙◌, ap}
 use Prim.Native.Nat.{ℕ, ◌+◌, ◌-◌, ◌*◌, ◌/◌, ◌≤◌}
 use native.Mathlib.Omega.{arith}
 use mathlib.Core.Bool.{Bool, true, false}
@@ -10,14 +10,13 @@ use Rattle.model.specs.Lists.{to_list}
 use Rattle.model.specs.World.{now_of}
 use Rattle.model.specs.declared.Effect.{Effect}
 use Rattle.model.specs.declared.Point.{Point}
-use Rattle.model.specs.declared.Pending.{Pending}
-use Rattle.model.specs.Outcome.{Outcome, Item, started, resumed, aborted, paid}
+use Rattle.model.specs.Outcome.{Outcome, Item, started, resumed, paid}
 use Rattle.model.specs.State.{RuleSet, Store}
 use Rattle.model.specs.Calls.{Call, new, load, unload, enable, tick, run, deadline, counters, Done, call}
 use Rattle.model.specs.Answers.{outcomes_in}
-use Rattle.ledger.specs.Ledger.{Event, ticked, ran, traced, Activation, Ledger, count_effect, post_item, post_items, post, post_all, events_of, is_refused, start_ledger, notices, post_call, notice_of, final_ledger}
-use Rattle.ledger.specs.Effects.{from, only_if, effects_from, begun, origins, shown_with, shown_at, shown_over}
-use Rattle.ledger.specs.Trace.{effects_in, RunOf, ended, exhausted, waits, continues, ActivationsOf, no_more, activation, unevaluable, TraceOf, activations, resumption, NoOutput, Ticks, RunsWet, Conforms}
+use Rattle.ledger.specs.Ledger.{ticked, ran, traced, Activation, Ledger, count_effect, post_item, post_items, post, post_all, events_of, is_refused, start_ledger, notices, post_call, final_ledger}
+use Rattle.ledger.specs.Effects.{from, only_if, effects_from, origins, shown_with, shown_at, shown_over}
+use Rattle.ledger.specs.Trace.{effects_in, RunOf, ended, exhausted, waits, continues, ActivationsOf, no_more, activation, unevaluable, TraceOf, activations, resumption, Ticks, RunsWet, Conforms}
 use Rattle.ledger.proofs.Sound.{Sound}
 use Rattle.ledger.proofs.Simulation.{post-append, post-traced}
 use Rattle.ledger.proofs.CallTrace.{call-conforms}

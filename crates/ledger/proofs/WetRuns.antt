@@ -1,8 +1,8 @@
 -- A wet run has one outcome at the most: of the rule that it names, with trigger 0.
-use mathlib.Core.Path.{◌≡◌, refl, sym, ◌∙◌, ap, subst}
+use mathlib.Core.Path.{◌≡◌, refl, subst}
 use Prim.Native.Nat.{ℕ, zero, suc}
 use mathlib.Core.Bool.{Bool, true, false, cond}
-use mathlib.Core.List.{List, [], ◌∷◌}
+use mathlib.Core.List.{List}
 use mathlib.Core.Option.{Option, none, some, none-ne-some, some-injective}
 use lib.Dec.{eqb}
 use borrow.Author.Tests.{eqb-true}
@@ -12,7 +12,7 @@ use Rattle.model.specs.Rows.{rules}
 use Rattle.model.specs.Rules.{name_of, rule_named}
 use Rattle.model.specs.State.{Env, Volatile, with_rest, is_enabled}
 use Rattle.model.specs.Actions.{Job}
-use Rattle.model.specs.Activate.{Mode, Manual, is_dry, Decision, begins, suppressed, unevaluable, decide, outcome, job_of, numbered, execute_wet, execute_dry, execute, decided, activate}
+use Rattle.model.specs.Activate.{Manual, Decision, begins, suppressed, unevaluable, decide, outcome, job_of, numbered, execute_wet, execute_dry, execute, decided, activate}
 use Rattle.model.specs.Calls.{run_rule}
 use Rattle.ledger.specs.Trace.{OnlyOf}
 use Rattle.ledger.proofs.ListLaws.{by}

@@ -1,6 +1,6 @@
 -- A log: the calls and their answers, nothing else. It begins with an accepted new and holds no other. What may be read off it: the effects of
 -- a press are bounded, and no activation is missing.
-use Rattle.std.specs.Prelude.{◌≡◌, ℕ, suc, ◌+◌, ◌-◌, ◌*◌, ◌/◌, ◌≤◌, Bool, true, false, cond, ◌||◌, List, [], ◌∷◌, ◌++◌, map, ltb, eqb, length}
+use Rattle.std.specs.Prelude.{ℕ, suc, ◌+◌, ◌-◌, ◌*◌, ◌/◌, ◌≤◌, Bool, true, false, cond, ◌||◌, List, [], ◌∷◌, ◌++◌, map, ltb, eqb, length}
 use Rattle.model.specs.Image as image
 use Rattle.model.specs.Outcome.{Outcome}
 use Rattle.model.specs.Answers.{outcomes_in}

@@ -1,5 +1,5 @@
 -- The set that runs is a function of the accepted calls alone: that of the last load, in its flat form; none after a new or an unload.
-use Rattle.std.specs.Prelude.{ℕ, Bool, true, false, List, [], ◌∷◌}
+use Rattle.std.specs.Prelude.{Bool, true, false, List, [], ◌∷◌}
 use Rattle.std.proofs.Math.Option.{Option, none, some}
 use Rattle.model.specs.State.{RuleSet}
 use Rattle.model.specs.Flat.{flatten_rules, set_of}

@@ -1,9 +1,8 @@
 -- What the ledger and the calls give on the examples, by computation.
 use mathlib.Core.Path.{◌≡◌, refl}
-use Prim.Native.Nat.{ℕ, ◌+◌, ◌-◌, ◌*◌, ◌/◌}
-use mathlib.Core.List.{List, [], ◌∷◌}
+use Prim.Native.Nat.{◌+◌, ◌-◌, ◌*◌, ◌/◌}
+use mathlib.Core.List.{[], ◌∷◌}
 use Rattle.model.specs.Calls.{fresh}
-use Rattle.edges.specs.Samples.{samples}
 use Rattle.edges.specs.Edges.{rows as edgeRows}
 use Rattle.edges.proofs.Definitions.{definitions}
 use Rattle.ledger.specs.Ledger as ledger

@@ -1,18 +1,15 @@
 -- How another crate cites demand 3: no list of calls on a new store gives an activation of B 3 more than four effects.
-use mathlib.Core.Path.{◌≡◌, refl, ap}
+use mathlib.Core.Path.{◌≡◌}
 use Prim.Native.Nat.{ℕ, ◌^◌, ◌≤◌, ◌<◌}
-use native.Mathlib.Omega.{arith}
 use mathlib.Core.Bool.{true}
 use mathlib.Core.List.{List}
-use mathlib.Core.Option.{Option, some}
 use Rattle.model.specs.Lists.{all}
-use Rattle.model.specs.State.{Store}
-use Rattle.model.specs.Store.{read, write, Keeps}
+use Rattle.model.specs.Store.{write}
 use Rattle.model.specs.Calls.{Call, fresh, answers}
 use Rattle.model.proofs.StoreLaws.{read-write}
 use Rattle.ledger.specs.Effects.{effects_from}
-use Rattle.ledger.specs.Demand3.{in_words, ledger_at_end, Demand3}
-use Rattle.ledger.specs.OnWords.{answers_on, Demand3OnWords}
+use Rattle.ledger.specs.Demand3.{in_words, ledger_at_end}
+use Rattle.ledger.specs.OnWords.{answers_on}
 use Rattle.ledger.proofs.CallRules.{fresh_keeps}
 use Rattle.ledger.proofs.Demand3.{demand3}
 use Rattle.ledger.proofs.OnWords.{on-readable}

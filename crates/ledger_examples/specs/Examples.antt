@@ -1,8 +1,8 @@
 -- Histories that show demand 3 at work.
 use Rattle.std.specs.Prelude.{ℕ, true, false, List, [], ◌∷◌}
-use Rattle.edges.specs.Samples.{rule, log, wait, after, percent, literal, doing, valued, tick_at, run_wet}
+use Rattle.edges.specs.Samples.{log, wait, after, percent, literal, doing, valued, tick_at, run_wet}
 use Rattle.edges.specs.Edges.{afters}
-use Rattle.model.specs.Calls.{Call, load, unload, enable, tick, run}
+use Rattle.model.specs.Calls.{Call, load, enable}
 use Rattle.model.specs.declared.Jump.TheVariants.{NoJump}
 use Rattle.model.specs.Steps.{point}
 use Rattle.ledger.specs.Ledger.{Entry, Activation}

@@ -2,14 +2,14 @@
 use mathlib.Core.Path.{◌≡◌, refl, sym, ap, ◌∙◌}
 use mathlib.Core.Bool.{Bool, true, false, ◌&&◌, ◌||◌, not, cond, and-true, and_assoc, false≢true}
 use mathlib.Core.List.{List, [], ◌∷◌, ◌++◌, append_assoc, append-nil}
-use mathlib.Core.Option.{Option, none, some, none-ne-some, some-injective}
-use Prim.Native.Nat.{ℕ, zero, suc, ◌+◌, ◌-◌, ◌*◌, ◌≤◌, ◌<◌}
+use mathlib.Core.Option.{none, some, none-ne-some, some-injective}
+use Prim.Native.Nat.{ℕ, zero, suc, ◌+◌, ◌-◌, ◌*◌, ◌≤◌}
 use native.Mathlib.Nat.{add-zero, zero-add, add_assoc, one-mul, add-mul, mul-one}
 use native.Mathlib.Omega.{arith}
 use lib.Dec.{leb, eqb}
-use lib.ListN.{length, get_or, drop, replicate, length-append, length-replicate, drop_of_length-le}
+use lib.ListN.{length, drop, replicate, length-append, length-replicate, drop_of_length-le}
 use lib.Seq.{drop_at, drop-drop}
-use borrow.Author.Tests.{leb-true, eqb-true, eq-eqb, le-leb}
+use borrow.Author.Tests.{leb-true, eqb-true, eq-eqb}
 use Rattle.model.specs.Layout.{Cell, Part, fixed, counted, zeros, row_fits, rows_fit, size_of, sizes, part_fits, parts_fit, up_to}
 use Rattle.model.specs.Codec.{Row, rows_at, words_of, all_good, Codec, one, all, most, unused, ◌then◌, Same, as_parts, accepted, decode}
 use Rattle.model.proofs.Bools.{both, join}

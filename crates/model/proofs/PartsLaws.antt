@@ -1,9 +1,6 @@
 -- The store's layout has the two laws: put together as the layout is.
 use mathlib.Core.Path.{◌≡◌, refl}
-use mathlib.Core.List.{List}
-use Prim.Native.Nat.{ℕ}
 use Rattle.model.specs.Layout.{sizes}
-use Rattle.model.specs.Codec.{Row, Codec}
 use Rattle.model.specs.Parts.{any, list_row, step_row, variable_row, timer_is, timer_row, slot_is, slot_row, jump_is, jump_row, pending_is, pending_row, loaded_is, loaded_part, changing_is, changing_part, parts_is, layout}
 use Rattle.model.proofs.RowLaws.{RowLaws, word_laws, wide_laws, ⊗-laws, as_row_laws, maybe-laws, pad-laws, word_blank, wide-blank, ⊗-blank}
 use Rattle.model.proofs.CodecLaws.{CodecLaws, one_laws, all_laws, most-laws, unused-laws, then-laws, as-parts-laws}

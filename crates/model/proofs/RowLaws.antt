@@ -6,7 +6,7 @@ use mathlib.Core.Option.{Option, none, some}
 use Prim.Native.Nat.{ℕ, zero, suc, ◌+◌, ◌*◌, ◌/◌, ◌%◌, ◌≤◌, ◌<◌}
 use native.Mathlib.Nat.{add_comm, zero-add, suc-add, zero-mul, suc-mul, mod-lt, mod-eq_of_lt, div-eq_of_lt-le, div-lt_iff_lt-mul, div-add-mod', add-mul-mod_self_left}
 use native.Mathlib.Omega.{arith}
-use lib.Dec.{leb, ltb, eqb, leb-suc-zero, eqb-suc-zero}
+use lib.Dec.{leb, eqb, leb-suc-zero, eqb-suc-zero}
 use lib.ListN.{length, get_or, drop, replicate, length-append, length-replicate}
 use lib.Seq.{drop_at, drop-drop}
 use borrow.Author.Tests.{leb-true, le-leb, ltb-true, lt-ltb, eqb-true}

@@ -1,20 +1,19 @@
 -- Reading and writing a store: what was written is read back, for every store that keeps the rules; and a store that reads is what
 -- writing gives.
 use mathlib.Core.Path.{◌≡◌, refl, sym, ap, ◌∙◌}
-use mathlib.Core.Bool.{Bool, true, false, ◌&&◌, ◌||◌, not, cond, false≢true}
+use mathlib.Core.Bool.{Bool, true, false, ◌&&◌, not, cond, false≢true}
 use mathlib.Core.List.{List, [], ◌∷◌, ◌++◌, map}
 use mathlib.Core.Option.{Option, none, some, none-ne-some, some-injective}
-use Prim.Native.Nat.{ℕ, zero, suc, ◌+◌, ◌-◌, ◌^◌, ◌≤◌, ◌<◌}
+use Prim.Native.Nat.{ℕ, zero, suc, ◌+◌, ◌-◌, ◌^◌}
 use native.Mathlib.Omega.{arith}
 use lib.Dec.{leb, ltb, eqb}
-use lib.ListN.{length, take, drop, replicate, length-append, length-replicate, take-append-drop}
+use lib.ListN.{length, take, drop, replicate, length-append, take-append-drop}
 use lib.Seq.{take_at, drop_at}
-use borrow.Author.Tests.{leb-true, eqb-true, eq-eqb, not-true}
+use borrow.Author.Tests.{leb-true, eqb-true, eq-eqb}
 use Rattle.model.specs.Lists.{all, present, ◌>>=◌}
-use Rattle.model.specs.declared.Step.{Step}
 use Rattle.model.specs.Flat.{Flattened, flatten_rules, set_of}
 use Rattle.model.specs.World.{is_one}
-use Rattle.model.specs.State.{NamedTimer, Variable, VarValue, Int, Text, Pending, RuleSet, Rest, Volatile, Store}
+use Rattle.model.specs.State.{NamedTimer, Variable, VarValue, Int, Text, Pending, RuleSet, Volatile, Store}
 use Rattle.model.specs.Codec.{all_good, decode, word, wide, maybe}
 use Rattle.model.specs.Parts.{Loaded, Changing, Parts, layout, loaded_part, changing_part, bit, variable_row}
 use Rattle.model.specs.Store.{filled, bit_of, loaded_of, variable_row_of, changing_of, parts_of, set_in, variable_of, volatile_in, store_in, list_rows, same_pair, same_row, same_list, flat_form, text_short, unused_past, words_hold, parts_fit, rule_count, one_for_each, is_given, passes_load, distinct, pending_fits, same_slots, slots_of, rules_hold, read, write, FlatFormOf, text_fits, Keeps}

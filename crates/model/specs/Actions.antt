@@ -1,5 +1,5 @@
 -- The primitive actions: `run_prim` and below, exec.rs. The effects are those of document 01, "Outcomes and effects".
-use Rattle.std.specs.Prelude.{ℕ, suc, ◌+◌, ◌%◌, Bool, true, false, cond, not, ◌&&◌, List, [], ◌∷◌, leb, ltb, eqb, ℤ, pos, negsuc, length, get_or, set}
+use Rattle.std.specs.Prelude.{ℕ, suc, ◌+◌, ◌%◌, Bool, true, false, cond, not, ◌&&◌, leb, ltb, eqb, ℤ, pos, negsuc, length, set}
 use Rattle.std.proofs.Math.Option.{Option, none, some}
 use Rattle.words.specs.Saturating.{saturating_add, max64}
 use Rattle.words.specs.Pairs.{joined}

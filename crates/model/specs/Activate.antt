@@ -1,10 +1,10 @@
 -- One activation: activate.rs, and `resume` of wheel.rs.
-use Rattle.std.specs.Prelude.{ℕ, suc, ◌-◌, Bool, true, false, cond, not, ◌&&◌, List, [], ◌∷◌, ◌++◌, ltb, eqb, length, set}
+use Rattle.std.specs.Prelude.{ℕ, suc, ◌-◌, Bool, true, false, cond, ◌&&◌, List, [], ◌∷◌, ◌++◌, ltb, eqb, length, set}
 use Rattle.std.proofs.Math.Option.{Option, none, some}
 use Rattle.model.specs.Lists.{or_else}
 use Rattle.model.specs.Image.{budget}
 use Rattle.model.specs.Rules.{name_of, hold_hcl_of, cooldown_of, conditions_of_rule, rule_named}
-use Rattle.model.specs.Steps.{Point, start}
+use Rattle.model.specs.Steps.{start}
 use Rattle.model.specs.Outcome.{Effect, Outcome, Item, started, resumed, aborted}
 use Rattle.model.specs.State.{Env, Rest, Volatile, Pending, with_rest, next_number, with_last_activation, bump, bump_by, last_activation_at, activations_total, activations_dry, suppressed_cooldown, conditions_rejected, partial_outcomes, effects_emitted, continuations_fired}
 use Rattle.model.specs.Eval.{conditions_hold}

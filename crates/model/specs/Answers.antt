@@ -1,6 +1,6 @@
 -- Outcomes and effects as words in the lent stores: document 01, "Outcomes and effects".
-use Rattle.std.specs.Prelude.{ℕ, ◌+◌, ◌-◌, Bool, true, false, cond, List, [], ◌∷◌, ◌++◌, length, replicate}
-use Rattle.std.proofs.Math.Option.{Option, none, some}
+use Rattle.std.specs.Prelude.{ℕ, ◌+◌, ◌-◌, cond, List, [], ◌∷◌, ◌++◌, length, replicate}
+use Rattle.std.proofs.Math.Option.{none, some}
 use Rattle.words.specs.Pairs.{low_of, high_of}
 use Rattle.model.specs.Calls.{Answer, done, refused, enabled, handled, due, counted, Outcome, Effect, effects_of}
 

@@ -1,5 +1,5 @@
 -- Comparisons and sets of weekdays. Saturation, word pairs and signed numbers are crate `words`.
-use Rattle.std.specs.Prelude.{ℕ, ◌%◌, ◌^◌, ◌/◌, Bool, false, not, List, [], ◌∷◌, eqb, ℤ, get_or}
+use Rattle.std.specs.Prelude.{ℕ, ◌%◌, ◌^◌, ◌/◌, Bool, false, not, [], ◌∷◌, eqb, ℤ, get_or}
 use Rattle.std.specs.Int.Signed.{lt_z, le_z}
 use Rattle.words.specs.Signed.{eq_z}
 

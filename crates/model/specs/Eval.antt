@@ -10,7 +10,7 @@ use Rattle.model.specs.Rows.{conditions, values, bounds}
 use Rattle.model.specs.Readings as reading
 use Rattle.model.specs.Rules.{record_of, rule_named, Value, Literal, Reading, Offset, NoValue, value_of, TimeBound, Clock, Solar, NoBound, bound_of}
 use Rattle.model.specs.Rules.{Condition, TimeInRange, DayIn, SunIs, LampIs, LampLevel, LampCct, GroupState, InputOccupancy, InputLight, HclState, DeviceOnline, RuleEnabled, LastFiredOlderThan, TimerRunning, ControllerActive, VarCompare, NoCondition, condition_of}
-use Rattle.model.specs.World.{is_one, WallTime, SunTimes, LampState, DeviceState, InputState, HclTargetState, lamp, group, device, input, hcl_target}
+use Rattle.model.specs.World.{is_one, SunTimes, DeviceState, HclTargetState, lamp, group, device, input, hcl_target}
 use Rattle.model.specs.State.{Env, Rest, VarValue, Int, Text, is_enabled, last_activation_at, timer_named, var_named}
 
 abbrev pub equal_b : Bool → Bool → Bool

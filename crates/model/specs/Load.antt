@@ -1,5 +1,5 @@
 -- What load says of an image: document 01, "Who can cause a refusal", 10 to 17, the lowest first.
-use Rattle.std.specs.Prelude.{ℕ, Bool, true, false, not, List}
+use Rattle.std.specs.Prelude.{ℕ, true, false, not, List}
 use Rattle.model.specs.Field.{unless}
 use Rattle.model.specs.Image.{image_sized, limits_fit, places_fit, tables_pass, names_differ, few_enough}
 use Rattle.model.specs.Flat.{Flattened, flatten_rules, too_many_steps}

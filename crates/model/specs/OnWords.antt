@@ -5,7 +5,7 @@ use Rattle.std.proofs.Math.Option.{Option, none, some}
 use Rattle.model.specs.Field.{unless}
 use Rattle.model.specs.State.{Store}
 use Rattle.model.specs.Store.{read, write}
-use Rattle.model.specs.Calls.{Call, new, load, unload, enable, tick, run, deadline, counters, Answer, done, refused, enabled, handled, due, counted, Done, fresh, call}
+use Rattle.model.specs.Calls.{Call, new, load, unload, enable, tick, run, deadline, counters, Answer, done, refused, enabled, handled, due, counted, fresh, call}
 use Rattle.model.specs.Answers.{outcome_store, effect_store}
 
 pub record Result : Type 0 where

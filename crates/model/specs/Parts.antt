@@ -1,8 +1,8 @@
 -- The parts of a store, in order: document 01, "Store". Places, layout and size are computed from this; docs/STORE.md lists the places.
-use Rattle.std.specs.Prelude.{◌≡◌, refl, List, [], ◌∷◌, ℕ}
+use Rattle.std.specs.Prelude.{refl, List, ℕ}
 use Rattle.std.proofs.Math.Option.{Option, none, some}
 use Rattle.model.specs.Codec.{Row, word, wide, ◌⊗◌, maybe, pad, Same, as_row, Codec, one, all, most, unused, ◌then◌, as_parts}
-use Rattle.model.specs.Steps.{Jump, NoJump, JumpFrom, Point}
+use Rattle.model.specs.Steps.{Jump, NoJump, JumpFrom}
 use Rattle.model.specs.State.{NamedTimer, EverySlot, Pending}
 
 -- ROWS ----------------------------------------------------------------------------------------------------------------------------

@@ -1,6 +1,6 @@
 -- The records of an image, taken apart: the fields of each kind in the order of document 01, "Rule image".
 use Rattle.std.specs.Prelude.{Bool, cond, List, [], ◌∷◌, map, ℕ, ◌+◌, ◌-◌, ◌*◌, eqb, leb, ltb, get_or}
-use Rattle.std.proofs.Math.Option.{Option, none, some}
+use Rattle.std.proofs.Math.Option.{Option}
 pub use Rattle.model.specs.declared.Record.{Record}
 pub use Rattle.model.specs.declared.Action.{Action}
 pub use Rattle.model.specs.declared.Action.TheVariants.{Light, Recall, Apply, Cycle, HclResume, HclHold, HclEnable, HclDisable, FeedbackOn, FeedbackOff, PanelSelect, CancelHold, CatchMovement, TimerStart, TimerRestart, TimerCancel, VarSet, VarAdd, RuleEnable, RuleDisable, MqttPublish, Log, StatCount, Percent, NoAction}
@@ -17,7 +17,7 @@ pub use Rattle.model.specs.declared.Trigger.TheVariants.{TimerFires, Every, AtTi
 use Rattle.model.specs.Readings as reading
 use Rattle.model.specs.Lists.{up_from, position, sort}
 use Rattle.model.specs.Image.{word_at, size_of}
-use Rattle.model.specs.Rows.{rules, triggers, conditions, actions, values, bounds, pool}
+use Rattle.model.specs.Rows.{rules, triggers, conditions}
 
 -- record i in the words of a table of eight words a record
 abbrev pub record_in : List ℕ → ℕ → Record

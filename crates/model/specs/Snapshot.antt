@@ -1,8 +1,8 @@
 -- Which snapshots are accepted: document 01, "Snapshot" and "Who can cause a refusal", 20 to 22.
-use Rattle.std.specs.Prelude.{Bool, true, ◌&&◌, ◌||◌, not, cond, List, [], ◌∷◌, ℕ, zero, suc, ◌+◌, ◌*◌, leb, eqb, length, get_or}
+use Rattle.std.specs.Prelude.{Bool, ◌&&◌, ◌||◌, List, [], ◌∷◌, ℕ, zero, suc, ◌+◌, ◌*◌, leb, eqb, length, get_or}
 use Rattle.model.specs.Lists.{every}
 use Rattle.words.specs.Saturating.{max32}
-use Rattle.model.specs.Field.{Field, Free, UpTo, Mark, fits, cell_of, distinct_keys, unless}
+use Rattle.model.specs.Field.{Field, Free, UpTo, fits, cell_of, distinct_keys, unless}
 use Rattle.model.specs.Rows.{void, bit, byte, id, present}
 
 abbrev pub ten_bits : Field

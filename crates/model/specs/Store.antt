@@ -10,7 +10,7 @@ use Rattle.model.specs.Steps.{Step, FlatStep, Primitive, Wait, Branch, After, Fa
 use Rattle.model.specs.Flat.{Flattened, flatten_rules, set_of, list_in, part_of}
 use Rattle.model.specs.Load.{image_refusal}
 use Rattle.model.specs.World.{is_one}
-use Rattle.model.specs.State.{NamedTimer, VarValue, Int, Text, Variable, EverySlot, Pending, RuleSet, Rest, Volatile, Store}
+use Rattle.model.specs.State.{NamedTimer, Int, Text, Variable, EverySlot, Pending, RuleSet, Rest, Volatile, Store}
 use Rattle.model.specs.Slots.{rebuild_every}
 use Rattle.model.specs.Codec.{decode}
 use Rattle.model.specs.Parts.{Loaded, Changing, Parts, layout}

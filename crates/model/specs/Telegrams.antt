@@ -2,7 +2,7 @@
 use Rattle.std.specs.Prelude.{◌≡◌, ℕ, zero, suc, ◌+◌, ◌*◌, ◌<◌, ◌/◌, ◌%◌, Bool, true, false, cond, not, ◌&&◌, ◌||◌, List, [], ◌∷◌, map, leb, ltb, eqb, length, get_or, replicate}
 use Rattle.std.proofs.Math.Option.{Option, none, some}
 use Rattle.model.specs.Answers.{words_of_effects, lent}
-use Rattle.model.specs.Lists.{present, keep, up_from, every}
+use Rattle.model.specs.Lists.{keep, up_from, every}
 use Rattle.model.specs.declared.Effect.{Effect}
 use Rattle.model.specs.declared.TelegramAnswer.{TelegramAnswer}
 use Rattle.model.specs.declared.TelegramAnswer.TheVariants.{Refused, Kept}

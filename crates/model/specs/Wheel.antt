@@ -1,12 +1,11 @@
 -- The tick and the next deadline: wheel.rs.
-use Rattle.std.specs.Prelude.{ℕ, zero, suc, ◌+◌, ◌-◌, ◌*◌, ◌%◌, min, Bool, true, false, cond, not, ◌&&◌, ◌||◌, List, [], ◌∷◌, ◌++◌, map, leb, ltb, eqb}
+use Rattle.std.specs.Prelude.{ℕ, suc, ◌+◌, ◌-◌, ◌*◌, ◌%◌, min, Bool, true, false, cond, not, ◌&&◌, ◌||◌, List, [], ◌∷◌, ◌++◌, map, leb, ltb, eqb}
 use Rattle.std.proofs.Math.Option.{Option, none, some}
 use Rattle.words.specs.Saturating.{saturating_add, max64}
 use Rattle.model.specs.Arith.{has_day}
 use Rattle.model.specs.Lists.{◌>>=◌, any, flatten, keep, sort, to_list, up_from}
-use Rattle.model.specs.Rules.{name_of, triggers_of, name_order, rule_indices, rule_named, Trigger, TimerFires, Every, AtTime, AtSolar, Other}
-use Rattle.model.specs.World.{WallTime, SunTimes}
-use Rattle.model.specs.Outcome.{Outcome, Item}
+use Rattle.model.specs.Rules.{triggers_of, name_order, rule_indices, rule_named, Trigger, TimerFires, Every, AtTime, AtSolar, Other}
+use Rattle.model.specs.World.{WallTime}
 use Rattle.model.specs.State.{Env, Rest, Volatile, Pending, NamedTimer, EverySlot, Store, RuleSet, with_rest, with_timers, with_every, with_prev_week_min, bump, is_enabled, ticks_time_unsynced}
 use Rattle.model.specs.Eval.{solar_of}
 use Rattle.model.specs.Activate.{Handled, no_outcome, and_then, activate, resume, Auto}

@@ -1,5 +1,5 @@
 -- What a snapshot says: document 01, "Snapshot", and world.rs.
-use Rattle.std.specs.Prelude.{ℕ, ◌+◌, Bool, ◌&&◌, cond, List, map, eqb}
+use Rattle.std.specs.Prelude.{ℕ, Bool, ◌&&◌, cond, List, map, eqb}
 use Rattle.std.proofs.Math.Option.{Option, none, some}
 use Rattle.words.specs.Pairs.{joined}
 use Rattle.model.specs.Lists.{find, up_from}

@@ -6,7 +6,7 @@ use mathlib.Core.Option.{Option, none, some}
 use Prim.Native.Nat.{ℕ, ◌≤◌, ◌<◌}
 use native.Mathlib.Omega.{arith}
 use lib.Dec.{leb}
-use borrow.Author.Tests.{leb-true, leb-false, lt-leb}
+use borrow.Author.Tests.{leb-true, leb-false}
 use Rattle.model.specs.Image.{size_of}
 use Rattle.model.specs.Lists.{any}
 use Rattle.model.specs.Rows.{rules}
@@ -15,7 +15,7 @@ use Rattle.model.specs.State.{RuleSet, Store}
 use Rattle.model.specs.Wheel.{week_minute}
 use Rattle.model.specs.World.{World, WallTime, SunTimes}
 use Rattle.next.specs.NextStart.{NextStart, NoStart, ClockUnknown, Start, first_from, starts_in, minutes_ahead, name_ahead, start_or_none, next_from, next_of_set, next_start}
-use Rattle.next.proofs.First.{at_least, before, passes, never}
+use Rattle.next.proofs.First.{at_least, before, passes}
 use Rattle.next.proofs.Lowest.{Named, none_passes, all-fail, lowest-least, lowest-named}
 
 -- THE PARTS OF AN ANSWER ----------------------------------------------------------------------------------------------------------

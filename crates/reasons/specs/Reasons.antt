@@ -1,5 +1,5 @@
 -- The reasons of outcomes, over lists of calls; and the Rust's decision, which asks for the depth of a chain.
-use Rattle.std.specs.Prelude.{ℕ, ◌≡◌, Bool, true, cond, ◌&&◌, List, leb, ltb}
+use Rattle.std.specs.Prelude.{ℕ, Bool, true, cond, ◌&&◌, leb, ltb}
 use Rattle.model.specs.Lists.{all}
 use Rattle.model.specs.Rules.{conditions_of_rule}
 use Rattle.model.specs.Outcome.{Outcome}

@@ -1,5 +1,5 @@
 -- A dry run: an after's body goes behind all that is queued. So the steps of a rule's own list are taken, and of every after its body.
-use mathlib.Core.Path.{◌≡◌, refl, sym, ◌∙◌, ap, subst}
+use mathlib.Core.Path.{◌≡◌, refl, ap, subst}
 use Prim.Native.Nat.{ℕ, zero, suc, ◌+◌, ◌-◌, min, ◌≤◌}
 use native.Mathlib.Omega.{arith}
 use mathlib.Core.Bool.{Bool, true, false, false≢true}
@@ -9,9 +9,9 @@ use lib.ListN.{length, get_or, get_elem?, drop, length-append}
 use Rattle.model.specs.Lists.{to_list}
 use Rattle.model.specs.declared.Step.{Step}
 use Rattle.model.specs.declared.Step.TheVariants.{Primitive, Wait, Branch, After, Fail}
-use Rattle.model.specs.declared.Jump.TheVariants.{NoJump, JumpFrom}
+use Rattle.model.specs.declared.Jump.TheVariants.{JumpFrom}
 use Rattle.model.specs.declared.Point.{Point}
-use Rattle.model.specs.Steps.{FlatStep, steps_of, point, arrive, start}
+use Rattle.model.specs.Steps.{FlatStep, steps_of, arrive, start}
 use Rattle.model.specs.State.{Env, Rest}
 use Rattle.model.specs.Flat.{body_in, list_in, step_at, every_copy}
 use Rattle.model.specs.Eval.{condition_at}

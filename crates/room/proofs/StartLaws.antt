@@ -9,7 +9,6 @@ use mathlib.Core.Option.{some}
 use lib.Dec.{leb, eqb}
 use borrow.Author.Tests.{eqb-true}
 use Rattle.model.specs.Lists.{any, all, keep, to_list, sort, flatten}
-use Rattle.model.specs.Rows.{rules}
 use Rattle.model.specs.declared.Trigger.{Trigger}
 use Rattle.model.specs.declared.Trigger.TheVariants.{TimerFires, Every as EveryMs, AtTime, AtSolar, Other}
 use Rattle.model.specs.Rules.{name_of, triggers_of, name_order, rule_named}

@@ -6,14 +6,13 @@ use Prim.Native.Nat.{ℕ}
 use native.Mathlib.Omega.{arith}
 use Rattle.model.specs.State.{Store}
 use Rattle.model.specs.Store.{read, write, Keeps}
-use Rattle.model.specs.Calls.{Call, Answer, done, refused, enabled, handled, due, counted, answers}
+use Rattle.model.specs.Calls.{Answer, done, refused, enabled, handled, due, counted, answers}
 use Rattle.model.specs.Answers.{number_of}
 use Rattle.model.proofs.StoreLaws.{read-write, write_read}
 use Rattle.ledger.proofs.ListLaws.{Every}
 use Rattle.room.specs.Enough.{Careful, LoadedWithin, Not30}
 use Rattle.room.proofs.Always.{always}
 use Rattle.demand3.specs.Runs.{AnyRun, call_of, shown_by, From}
-use Rattle.demand3.specs.Demand3.{Demand3OfCalls}
 use Rattle.demand3.proofs.Demand3.{list-in-words, demand3-of-calls}
 use Rattle.room_of_calls.specs.Always.{AllCareful, Never30}
 

@@ -1,9 +1,9 @@
 -- Rows and tables read at places of the words. A row is read as it is made: a part behind a part. Assumes nothing.
 use mathlib.Core.Path.{◌≡◌, refl, sym, ap, ◌∙◌}
 use mathlib.Core.Bool.{Bool, true, false, ◌||◌, not}
-use mathlib.Core.List.{List, [], ◌∷◌, ◌++◌, map}
-use mathlib.Core.Option.{Option, none, some}
-use Prim.Native.Nat.{ℕ, zero, suc, ◌+◌, ◌-◌, ◌*◌, ◌^◌, ◌≤◌, ◌<◌}
+use mathlib.Core.List.{List, [], ◌∷◌, ◌++◌}
+use mathlib.Core.Option.{none, some}
+use Prim.Native.Nat.{ℕ, zero, suc, ◌+◌, ◌*◌, ◌^◌, ◌≤◌, ◌<◌}
 use native.Mathlib.Nat.{add-zero, zero-mul, suc-mul, mod-eq_of_lt, le_antisymm, le_of_suc-le-suc, not-suc-le-zero}
 use native.Mathlib.Numerals.{add-one}
 use native.Mathlib.Omega.{arith}
@@ -13,19 +13,13 @@ use lib.Seq.{drop-drop, get_or-drop, take-suc-set}
 use borrow.Author.Tests.{eq-eqb, ne_eqb, ltb-true}
 use Rattle.words.specs.Pairs.{joined, low_of}
 use Rattle.model.specs.Codec.{Row, word, wide, ◌⊗◌, marked, maybe, pad, rows_at}
-use Rattle.model.specs.Parts.{any, bit, variable_row, timer_is, timer_row, slot_is, slot_row, jump_of, jump_is, jump_row, pending_is, pending_row}
+use Rattle.model.specs.Parts.{any, bit, variable_row, timer_is, timer_row, slot_is, slot_row, jump_of, jump_row, pending_is, pending_row}
 use Rattle.model.specs.Lists.{all}
 use Rattle.model.specs.World.{is_one}
 use Rattle.model.specs.Store.{variable_of, text_short}
 use Rattle.model.specs.declared.Jump.{Jump}
 use Rattle.model.specs.declared.Jump.TheVariants.{NoJump, JumpFrom}
 use Rattle.model.specs.declared.VarValue.TheVariants.{Int, Text}
-use Rattle.model.specs.declared.Variable.{Variable}
-use Rattle.model.specs.declared.NamedTimer.{NamedTimer}
-use Rattle.model.specs.declared.EverySlot.{EverySlot}
-use Rattle.model.specs.declared.Pending.{Pending}
-use Rattle.rows.specs.declared.OptionU32.{OptionU32}
-use Rattle.rows.specs.declared.OptionU64.{OptionU64}
 use Rattle.model.proofs.Bools.{both}
 use Rattle.rows.specs.Places.{row_at, table_at}
 use Rattle.rows.specs.Rows.{bool_row, variable_code_row, of_option64, of_option32, option64_row, option32_row}

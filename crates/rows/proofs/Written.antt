@@ -1,8 +1,8 @@
 -- Each row of a store, written part by part. Assumes nothing.
-use mathlib.Core.Path.{◌≡◌, refl, sym, ap, ◌∙◌}
+use mathlib.Core.Path.{◌≡◌, refl}
 use mathlib.Core.Bool.{Bool, true, false}
 use mathlib.Core.List.{List, [], ◌∷◌, ◌++◌}
-use Prim.Native.Nat.{ℕ, suc, ◌+◌, ◌≤◌, ◌<◌}
+use Prim.Native.Nat.{ℕ, suc, ◌+◌, ◌≤◌}
 use native.Mathlib.Omega.{arith}
 use lib.ListN.{length, replicate}
 use Rattle.words.specs.Pairs.{low_of, high_of}
@@ -10,7 +10,6 @@ use Rattle.model.specs.Codec.{word, wide, put_maybe}
 use Rattle.model.specs.Parts.{any, timer_row, slot_row, jump_row, pending_row}
 use Rattle.model.specs.declared.Jump.{Jump}
 use Rattle.model.specs.declared.Jump.TheVariants.{NoJump, JumpFrom}
-use Rattle.model.specs.declared.VarValue.{VarValue}
 use Rattle.model.specs.declared.VarValue.TheVariants.{Int, Text}
 use Rattle.model.specs.declared.Variable.{Variable}
 use Rattle.model.specs.declared.NamedTimer.{NamedTimer}

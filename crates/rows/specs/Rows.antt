@@ -1,5 +1,5 @@
 -- Rows of the layout by the types that the code has for them.
-use Rattle.std.specs.Prelude.{Bool, true, false, List, [], ◌∷◌, ℕ, get_or, replicate}
+use Rattle.std.specs.Prelude.{Bool, true, false, [], ◌∷◌, ℕ, get_or, replicate}
 use Rattle.std.proofs.Math.Option.{Option, none, some}
 use Rattle.model.specs.Layout.{free}
 use Rattle.model.specs.Codec.{Row, word, wide, ◌⊗◌, maybe}

@@ -1,9 +1,9 @@
 -- Request 5 of document 02. A tick whose clock was set back by 1 to 120 minutes is its continuations, timers and Every alone, and of what
 -- the wall part holds only the remembered minute changes; every other tick is what it was before the request.
 use mathlib.Core.Path.{◌≡◌, refl, ap, ◌∙◌}
-use Prim.Native.Nat.{ℕ, ◌+◌, ◌-◌, ◌%◌, ◌<◌}
+use Prim.Native.Nat.{ℕ, ◌<◌}
 use native.Mathlib.Omega.{arith}
-use mathlib.Core.Bool.{Bool, true, false, ◌&&◌, false≢true}
+use mathlib.Core.Bool.{true, false, ◌&&◌, false≢true}
 use mathlib.Core.Option.{Option, none, some}
 use mathlib.Core.List.{List, [], append-nil}
 use lib.Dec.{leb}
@@ -11,7 +11,7 @@ use Rattle.model.specs.Snapshot.{snapshot_refusal}
 use Rattle.model.specs.World.{WallTime, now_of, world_of}
 use Rattle.model.specs.State.{Env, Volatile, RuleSet, Store}
 use Rattle.model.specs.Activate.{Handled, and_then}
-use Rattle.model.specs.Wheel.{cyclic_dist, in_window, week_minute, is_set_back, make_up, fire_wall_at, fire_wall_schedules, service_tick}
+use Rattle.model.specs.Wheel.{cyclic_dist, in_window, is_set_back, fire_wall_at, fire_wall_schedules, service_tick}
 use Rattle.model.specs.Calls.{tick, given, committed, tick_with, call}
 use Rattle.set_back.specs.Ticks.{before_wall, set_back_at, set_back, remembering, former_wall_at, former_wall, back_by}
 use Rattle.set_back.proofs.Remembered.{minute-kept}

@@ -12,7 +12,7 @@ use Rattle.model.specs.Image.{budget, group_limit, text_limit}
 use Rattle.model.specs.Rows.{actions}
 use Rattle.model.specs.declared.Action.{Action}
 use Rattle.model.specs.declared.Action.TheVariants.{Light, Recall, Apply, Cycle, Percent, HclResume, HclHold, HclEnable, HclDisable, FeedbackOn, FeedbackOff, PanelSelect, CancelHold, CatchMovement, TimerStart, TimerRestart, TimerCancel, VarSet, VarAdd, RuleEnable, RuleDisable, MqttPublish, Log, StatCount, NoAction}
-use Rattle.model.specs.Rules.{record_of, rule_named, name_of, conditions_of_rule, action_of}
+use Rattle.model.specs.Rules.{record_of, rule_named, conditions_of_rule, action_of}
 use Rattle.model.specs.World.{is_one}
 use Rattle.model.specs.declared.Step.{Step}
 use Rattle.model.specs.declared.Point.{Point}
@@ -27,7 +27,7 @@ use Rattle.model.specs.Actions.{Job, PrimResult, fails, run_prim, prim_light, pr
 use Rattle.model.specs.Exec.{Scheduled, dropped, accepted, schedule, StepResult, after_prim, run_branch, exec, RunOutput, continue_run, with_step, run_steps}
 use Rattle.model.specs.Flat.{step_at}
 use Rattle.model.specs.Activate.{Auto, Handled, job_of, numbered, Decision, begins, suppressed, unevaluable, verdict, in_cooldown, decide, finish_wet, execute_wet, execute, decided, activate, resume}
-use Rattle.model.specs.Wheel.{resume_all, not_due, due_now, fire_continuations, activate_if_enabled, activate_each, timers_due, every_due, fire_timers, fire_every}
+use Rattle.model.specs.Wheel.{resume_all, not_due, fire_continuations, activate_if_enabled, activate_each, timers_due, every_due, fire_timers, fire_every}
 use Rattle.set_back.specs.Ticks.{before_wall}
 
 abbrev Same : Rest → Rest → Type 0

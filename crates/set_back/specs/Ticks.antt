@@ -1,5 +1,5 @@
 -- A tick by its parts: what it does before its wall part, whether its clock was set back, and document 01's wall part.
-use Rattle.std.specs.Prelude.{ℕ, ◌+◌, ◌-◌, ◌%◌, Bool, true, false}
+use Rattle.std.specs.Prelude.{ℕ, ◌+◌, ◌-◌, ◌%◌, Bool, false}
 use Rattle.std.proofs.Math.Option.{Option, none, some}
 use Rattle.model.specs.World.{WallTime}
 use Rattle.model.specs.State.{Env, Volatile, with_rest, with_prev_week_min}

@@ -1,7 +1,7 @@
 -- The 12 counters, and the minute of the week at the tick before. Assumes nothing.
 use mathlib.Core.Path.{◌≡◌, refl, sym, ap, subst, ◌∙◌}
 use mathlib.Core.Bool.{true, not, or-true}
-use mathlib.Core.List.{List, [], ◌∷◌, ◌++◌}
+use mathlib.Core.List.{List, [], ◌∷◌}
 use Prim.Native.Nat.{ℕ, zero, suc, ◌+◌, ◌≤◌, ◌<◌}
 use native.Mathlib.Omega.{arith}
 use lib.Dec.{eqb}
@@ -13,17 +13,16 @@ use Rattle.words.proofs.Laws.{add-at-most}
 use Rattle.counters.specs.Counters.{counters_of, raised_at}
 use Rattle.counters.specs.declared.Counters.{Counters}
 use Rattle.model.specs.Layout.{row_fits, rows_fit, zeros, up_to}
-use Rattle.model.specs.Codec.{Row, maybe, rows_at, words_of}
+use Rattle.model.specs.Codec.{maybe, rows_at, words_of}
 use Rattle.model.specs.Parts.{any}
-use Rattle.model.specs.State.{with_rest, with_counters, with_prev_week_min, bump_by}
+use Rattle.model.specs.State.{with_rest, with_prev_week_min, bump_by}
 use Rattle.model.proofs.Bools.{both, join}
 use Rattle.rows.specs.Options.{option32}
 use Rattle.rows.specs.Places.{laid, row_at, table_at}
 use Rattle.rows.specs.Rows.{option32_row}
 use Rattle.rows.specs.declared.OptionU32.{OptionU32}
-use Rattle.state.specs.Cuts.{cut, sum}
-use Rattle.state.specs.Meaning.{part_sizes, place_of, part, week_part, counters_part, meaning, base, Sound, Means}
-use Rattle.state.proofs.Frame.{Changed, shaped, part-is, part-long, changed-laid, counters-changed, week-changed}
+use Rattle.state.specs.Meaning.{place_of, part, week_part, counters_part, meaning, base, Sound, Means}
+use Rattle.state.proofs.Frame.{shaped, part-is, part-long, changed-laid, counters-changed, week-changed}
 use Rattle.state.proofs.Fixed.{one_at, one-read, one_set}
 use Rattle.state.proofs.KeptForRules.{any-option-laws, option-read, option-words, good-32}
 

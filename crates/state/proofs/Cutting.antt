@@ -1,11 +1,11 @@
 -- Words cut into pieces: what a piece is, and what the pieces are after one was written. Assumes nothing.
 use mathlib.Core.Path.{◌≡◌, refl, sym, ap, ◌∙◌}
-use mathlib.Core.List.{List, [], ◌∷◌, ◌++◌, append_assoc, append-nil}
+use mathlib.Core.List.{List, [], ◌∷◌, ◌++◌, append_assoc}
 use Prim.Native.Nat.{ℕ, zero, suc, ◌+◌, ◌-◌, ◌*◌, ◌≤◌, ◌<◌}
 use native.Mathlib.Nat.{add-zero, zero-add, zero-mul, suc-mul, suc-add, add_assoc, mul-le-mul_right}
 use native.Mathlib.Omega.{arith}
-use lib.ListN.{length, get_or, take, drop, set, replicate, length-append, length-drop, length-replicate, take-append-drop}
-use lib.Seq.{take_at, drop_at, drop-drop, take-add, take-append-le, drop-append-le, length-take-le, take-take, take-append-add, drop-append-add, get_or-drop, get_or-take}
+use lib.ListN.{length, get_or, take, drop, set, replicate, length-append, length-drop, take-append-drop}
+use lib.Seq.{take_at, drop_at, drop-drop, take-add, take-append-le, drop-append-le, length-take-le, take-take, drop-append-add, get_or-drop, get_or-take}
 use borrow.Rule.Slice.PartMut.{put_mid, post_of, Post-is}
 use Rattle.model.specs.Lists.{flatten}
 use Rattle.rows.specs.Places.{laid}

@@ -1,24 +1,21 @@
 -- The rows of a part that has so many: one is read, and one is written. Assumes nothing.
 use mathlib.Core.Path.{◌≡◌, refl, sym, ap, subst, ◌∙◌}
-use mathlib.Core.Bool.{Bool, true, false, ◌&&◌, or-true, not, ◌||◌}
-use mathlib.Core.List.{List, [], ◌∷◌, ◌++◌, map, append-nil}
-use mathlib.Core.Option.{Option, none, some}
-use Prim.Native.Nat.{ℕ, zero, suc, ◌+◌, ◌-◌, ◌*◌, ◌≤◌, ◌<◌}
+use mathlib.Core.Bool.{true}
+use mathlib.Core.List.{List, [], ◌++◌, append-nil}
+use Prim.Native.Nat.{ℕ, ◌+◌, ◌*◌, ◌<◌}
 use native.Mathlib.Nat.{add-zero, zero-mul}
 use native.Mathlib.Omega.{arith}
-use lib.Dec.{eqb, leb}
-use lib.ListN.{length, get_or, take, drop, set, length-set, drop_of_length-le, take-append-drop, get_or-map}
+use lib.ListN.{length, get_or, drop, set, length-set, drop_of_length-le, take-append-drop, get_or-map}
 use lib.Seq.{drop-drop}
-use Rattle.model.specs.Layout.{Part, fixed, size_of, part_fits, row_fits, rows_fit, zeros}
+use Rattle.model.specs.Layout.{Part, fixed, size_of, part_fits, rows_fit}
 use Rattle.model.specs.Codec.{Row, rows_at, words_of, all_good}
-use Rattle.model.proofs.Bools.{both, join}
+use Rattle.model.proofs.Bools.{join}
 use Rattle.model.proofs.RowLaws.{RowLaws, rows_long, rows-count, rows-reads, rows-writes}
 use Rattle.rows.specs.Places.{laid, row_at}
-use Rattle.state.specs.Cuts.{cut, sum}
-use Rattle.state.specs.Meaning.{state_parts, part_sizes, place_of, words_in, part, unset_from, Sound}
+use Rattle.state.specs.Meaning.{state_parts, place_of, words_in, part, Sound}
 use Rattle.state.proofs.Cutting.{laid-behind, row-end}
 use Rattle.state.proofs.Typed.{good-set, row_read, row_laid}
-use Rattle.state.proofs.Frame.{Shaped, shaped, Changed, changed-laid, changed-words, part-is, part-long, lent-long}
+use Rattle.state.proofs.Frame.{Shaped, shaped, Changed, changed-laid, changed-words, part-is, part-long}
 
 -- the words of part t, with x as their row i
 unfoldable pub rows_set : {A : Type 0} → Row A → ℕ → ℕ → List ℕ → ℕ → A → List ℕ

@@ -1,17 +1,16 @@
 -- One part of a state changes, and what the words mean with it. Assumes nothing.
 use mathlib.Core.Path.{◌≡◌, refl, sym, ap, subst, ◌∙◌}
-use mathlib.Core.Bool.{Bool, true, false, cond, not, or-true, ◌&&◌, ◌||◌}
+use mathlib.Core.Bool.{Bool, true, false}
 use mathlib.Core.List.{List, [], ◌∷◌, ◌++◌, map, append_assoc}
-use mathlib.Core.Option.{Option}
-use Prim.Native.Nat.{ℕ, zero, suc, ◌+◌, ◌-◌, ◌*◌, ◌≤◌, ◌<◌}
+use Prim.Native.Nat.{ℕ, ◌+◌, ◌-◌, ◌*◌, ◌≤◌, ◌<◌}
 use native.Mathlib.Nat.{add-zero}
 use native.Mathlib.Omega.{arith}
 use lib.Dec.{eqb, leb}
 use lib.ListN.{length, get_or, take, drop, set, replicate, take-append-drop, get_or-map}
 use lib.Seq.{get_or-set_same, get_or-set_other, get_or-take, get_or-drop, drop-drop}
-use borrow.Author.Tests.{eqb-true, eqb-false, le-leb, leb-true}
+use borrow.Author.Tests.{eqb-true, eqb-false}
 use borrow.Rule.Slice.PartMut.{put_mid}
-use Rattle.model.specs.Layout.{Part, fixed, counted, size_of, part_fits, row_fits, rows_fit, zeros, up_to}
+use Rattle.model.specs.Layout.{Part, fixed, counted, size_of, part_fits}
 use Rattle.model.specs.Codec.{Row, wide, maybe, most, rows_at, words_of, all_good}
 use Rattle.model.specs.Lists.{all}
 use Rattle.model.specs.Parts.{any, variable_row, timer_row, slot_row}
@@ -20,14 +19,13 @@ use Rattle.model.specs.Store.{variable_of, text_short}
 use Rattle.model.specs.World.{is_one}
 use Rattle.model.specs.declared.NamedTimer.{NamedTimer}
 use Rattle.model.specs.declared.EverySlot.{EverySlot}
-use Rattle.model.specs.declared.Pending.{Pending}
-use Rattle.model.proofs.Bools.{both, join}
+use Rattle.model.proofs.Bools.{both}
 use Rattle.model.proofs.PartsLaws.{variable-laws, timer-laws, slot_laws}
 use Rattle.model.proofs.RowLaws.{RowLaws}
 use Rattle.rows.specs.Places.{laid, row_at}
 use Rattle.rows.proofs.Writing.{laid-long, one_set}
-use Rattle.state.specs.Cuts.{cut, sum}
-use Rattle.state.specs.Meaning.{state_parts, part_sizes, place_of, words_in, state_words, part, bits_part, activations_part, positions_part, variables_part, timers_part, slots_part, pending_part, week_part, counters_part, rules_part, rules_in, stored_in, accepted_in, base_in, records_in, meaning_of, SoundOf, OnlyBeyond, unset_from, Below, meaning, base, rules_of, Sound, Means, Holds, Counted}
+use Rattle.state.specs.Cuts.{cut}
+use Rattle.state.specs.Meaning.{state_parts, part_sizes, place_of, words_in, state_words, part, bits_part, activations_part, positions_part, variables_part, timers_part, slots_part, pending_part, week_part, counters_part, rules_in, stored_in, accepted_in, base_in, records_in, meaning_of, SoundOf, OnlyBeyond, unset_from, Below, meaning, base, rules_of, Sound, Means, Holds, Counted}
 use Rattle.state.proofs.Cutting.{cut-long, cut_at, cut-laid, piece-end, piece-long, part-laid, laid-within}
 use Rattle.state.proofs.Typed.{holds-get, holds-fit, holds-long, holds-count, holds-few, fit-holds, row_read}
 

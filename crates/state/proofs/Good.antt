@@ -3,14 +3,14 @@ use mathlib.Core.Path.{◌≡◌, refl, subst}
 use mathlib.Core.Bool.{true}
 use mathlib.Core.List.{List, [], ◌∷◌, ◌++◌}
 use mathlib.Core.Option.{Option, none, some}
-use Prim.Native.Nat.{ℕ, zero, suc, ◌+◌, ◌<◌, ◌≤◌}
+use Prim.Native.Nat.{ℕ, suc, ◌+◌, ◌<◌}
 use native.Mathlib.Nat.{div-lt_iff_lt-mul}
 use native.Mathlib.Omega.{arith}
 use lib.ListN.{length, get_or, take, drop}
 use borrow.Author.Tests.{le-leb, lt-ltb}
-use Rattle.words.specs.Pairs.{low_of, high_of}
-use Rattle.model.specs.Codec.{Row, word, wide, ◌⊗◌, maybe, pad, Same, as_row}
-use Rattle.model.specs.Parts.{any, timer_row, jump_row, jump_is, pending_is}
+use Rattle.words.specs.Pairs.{high_of}
+use Rattle.model.specs.Codec.{Row, wide, ◌⊗◌, maybe, pad, Same, as_row}
+use Rattle.model.specs.Parts.{any, timer_row, jump_is, pending_is}
 use Rattle.model.specs.Parts.{variable_row}
 use Rattle.model.specs.Store.{variable_row_of}
 use Rattle.model.specs.declared.Variable.{Variable}

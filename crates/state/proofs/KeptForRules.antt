@@ -1,22 +1,21 @@
 -- What is kept for each rule: its bit, its last activation, its cycle position. Assumes nothing.
 use mathlib.Core.Path.{◌≡◌, refl, sym, ap, subst, ◌∙◌}
-use mathlib.Core.Bool.{Bool, true, false, cond, not, ◌&&◌, ◌||◌}
-use mathlib.Core.List.{List, [], ◌∷◌, ◌++◌, map}
+use mathlib.Core.Bool.{Bool, true, false, not, ◌&&◌, ◌||◌}
+use mathlib.Core.List.{List, [], ◌∷◌, map}
 use mathlib.Core.Option.{Option, none, some}
 use Prim.Native.Nat.{ℕ, zero, suc, ◌+◌, ◌-◌, ◌*◌, ◌≤◌, ◌<◌}
 use native.Mathlib.Omega.{arith}
 use lib.Dec.{eqb, leb}
-use lib.ListN.{length, get_or, take, drop, set, replicate, length-map, length-take, get_or-map, get_or-eq_default}
+use lib.ListN.{length, get_or, take, drop, set, length-take, get_or-eq_default}
 use lib.Seq.{get_or-take, set_out, take-set-lt, take-take}
-use borrow.Author.Tests.{leb-true, eqb-true}
-use Rattle.model.specs.Layout.{fixed, part_fits, row_fits, rows_fit, zeros, up_to, cell_fits}
+use borrow.Author.Tests.{leb-true}
+use Rattle.model.specs.Layout.{fixed, row_fits, rows_fit, zeros, up_to}
 use Rattle.model.specs.Codec.{Row, word, wide, maybe, rows_at, put_maybe}
-use Rattle.model.specs.Parts.{any, bit}
-use Rattle.model.specs.State as model
+use Rattle.model.specs.Parts.{any}
 use Rattle.model.specs.State.{is_enabled, last_activation_at, cycle_pos_at, with_rest, with_enabled, with_last_activation, with_cycle_pos}
 use Rattle.model.specs.Store.{bit_of}
 use Rattle.model.specs.World.{is_one}
-use Rattle.model.proofs.Bools.{both, join}
+use Rattle.model.proofs.Bools.{both}
 use Rattle.model.proofs.PartsLaws.{any_laws}
 use Rattle.model.proofs.RowLaws.{RowLaws, word_laws, wide_laws, maybe-laws, word_blank, wide-blank}
 use Rattle.rows.specs.Options.{optional, option32, option64}
@@ -24,9 +23,8 @@ use Rattle.rows.specs.Places.{laid, row_at}
 use Rattle.rows.specs.Rows.{bool_row, of_option32, of_option64, option32_row, option64_row}
 use Rattle.rows.specs.declared.OptionU32.{OptionU32}
 use Rattle.rows.specs.declared.OptionU64.{OptionU64}
-use Rattle.state.specs.Cuts.{cut, sum}
-use Rattle.state.specs.Meaning.{state_parts, part_sizes, place_of, part, bits_part, activations_part, positions_part, rules_part, rules_in, unset_from, meaning, base, rules_of, Sound, Means}
-use Rattle.state.proofs.Frame.{Changed, part_at, part-long, bits-changed, activations-changed, positions-changed}
+use Rattle.state.specs.Meaning.{state_parts, place_of, part, bits_part, activations_part, positions_part, rules_part, unset_from, meaning, base, rules_of, Sound, Means}
+use Rattle.state.proofs.Frame.{Changed, part-long, bits-changed, activations-changed, positions-changed}
 use Rattle.state.proofs.Good.{maybe-roomy, wide-roomy, any-roomy, words-laid, are_words}
 use Rattle.state.proofs.Fixed.{fixed-at, fixed-set, rows_set, set_long, set-rows, set-behind, one_at}
 

@@ -1,26 +1,26 @@
 -- Tables whose rows are those of a codec. Assumes nothing.
 use mathlib.Core.Path.{◌≡◌, refl, sym, ap, subst, ◌∙◌}
-use mathlib.Core.Bool.{Bool, true, false, cond, ◌&&◌, not}
+use mathlib.Core.Bool.{Bool, true, false, cond}
 use mathlib.Core.List.{List, [], ◌∷◌, ◌++◌, map, append_assoc, append-nil}
 use mathlib.Core.Option.{none}
 use Prim.Native.Nat.{ℕ, zero, suc, ◌+◌, ◌-◌, ◌*◌, ◌≤◌, ◌<◌}
-use native.Mathlib.Nat.{add-zero, zero-mul, suc-mul, one-mul}
+use native.Mathlib.Nat.{add-zero, suc-mul}
 use native.Mathlib.Numerals.{add-one}
 use native.Mathlib.Omega.{arith}
-use lib.Dec.{leb, eqb}
+use lib.Dec.{leb}
 use lib.ListN.{length, get_or, take, drop, set, replicate, length-append, length-set, length-map, length-replicate, replicate-append-replicate, drop_of_length-le, get_or-map}
 use lib.Seq.{take_at, drop_at, set_split, split_at, length-take-le}
 use borrow.Author.Tests.{leb-true, le-leb, lt-leb}
-use Rattle.model.specs.Layout.{Part, counted, sizes, size_of, part_fits, parts_fit}
-use Rattle.model.specs.Codec.{Row, most, rows_at, words_of, all_good}
+use Rattle.model.specs.Layout.{counted, sizes, part_fits, parts_fit}
+use Rattle.model.specs.Codec.{Row, most, words_of, all_good}
 use Rattle.model.specs.Lists.{flatten, keep, find}
 use Rattle.model.proofs.Bools.{both, join}
 use Rattle.model.proofs.RowLaws.{RowLaws}
 use Rattle.model.proofs.RowLaws as row_laws
-use Rattle.model.proofs.CodecLaws.{CodecLaws, most-laws, rest_of}
+use Rattle.model.proofs.CodecLaws.{most-laws, rest_of}
 use Rattle.state.specs.Tables.{First}
 use Rattle.rows.specs.Places.{laid}
-use Rattle.rows.proofs.Writing.{Long, words_append, laid-long}
+use Rattle.rows.proofs.Writing.{words_append, laid-long}
 use Rattle.state.specs.Cuts.{cut, rows_in, table_of, Fits, Table}
 use Rattle.state.specs.Meaning.{Holds, Counted, joined}
 use Rattle.state.proofs.Cutting.{laid-drop, laid-mid}

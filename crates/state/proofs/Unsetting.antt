@@ -2,11 +2,11 @@
 use mathlib.Core.Path.{◌≡◌, refl, sym, ap, ◌∙◌}
 use mathlib.Core.Bool.{Bool, true, false, not, or-true}
 use mathlib.Core.List.{List, [], ◌∷◌, ◌++◌, map, append-nil}
-use mathlib.Core.Option.{Option, none}
-use Prim.Native.Nat.{ℕ, zero, suc, ◌+◌, ◌-◌, ◌*◌, ◌≤◌, ◌<◌}
+use mathlib.Core.Option.{none}
+use Prim.Native.Nat.{ℕ, zero, suc, ◌+◌, ◌-◌, ◌*◌, ◌≤◌}
 use native.Mathlib.Omega.{arith}
 use lib.Dec.{eqb}
-use lib.ListN.{length, get_or, take, drop, set, replicate, length-replicate, replicate-append-replicate}
+use lib.ListN.{length, take, drop, set, replicate, length-replicate, replicate-append-replicate}
 use lib.Seq.{drop_at}
 use borrow.Author.Tests.{le-leb}
 use Rattle.model.specs.Layout.{row_fits, rows_fit, zeros, up_to}
@@ -19,11 +19,11 @@ use Rattle.model.proofs.CodecLaws.{rest_of}
 use Rattle.model.proofs.RowLaws.{zeros-written}
 use Rattle.rows.specs.Places.{laid}
 use Rattle.rows.proofs.Writing.{laid-long, and-then, lays}
-use Rattle.state.specs.Cuts.{cut, sum}
+use Rattle.state.specs.Cuts.{cut}
 use Rattle.state.specs.Meaning.{part_sizes, place_of, words_in, bits_part, activations_part, positions_part, variables_part, rules_part, meaning_of, base_in, unset_from, meaning, base, Sound, Means}
 use Rattle.state.specs.Named.{unset_rules}
 use Rattle.state.proofs.Cutting.{take_same}
-use Rattle.state.proofs.Frame.{Shaped, shaped, Changed, changed-laid, across, sound-of}
+use Rattle.state.proofs.Frame.{shaped, Changed, changed-laid, across, sound-of}
 
 -- zeros
 map-zeros : (n : ℕ) → map is_one (replicate n 0) ≡ replicate n false

@@ -1,11 +1,11 @@
 -- The variables, as rows of name, tag and value. Assumes nothing.
 use mathlib.Core.Path.{◌≡◌, refl, sym, ap, subst, ◌∙◌}
-use mathlib.Core.Bool.{Bool, true, false, cond, not, ◌&&◌, ◌||◌}
+use mathlib.Core.Bool.{Bool, true, false, cond, not, ◌&&◌}
 use mathlib.Core.List.{List, [], ◌∷◌, ◌++◌, map}
 use mathlib.Core.Option.{Option, none, some}
 use Prim.Native.Nat.{ℕ, zero, suc, ◌+◌, ◌*◌, ◌≤◌, ◌<◌}
 use native.Mathlib.Omega.{arith}
-use lib.Dec.{eqb, leb, ltb}
+use lib.Dec.{leb, ltb}
 use lib.ListN.{length, get_or, take, drop, set, length-map, drop_of_length-le, get_or-map}
 use lib.Seq.{drop-cons, take_all, set_split}
 use borrow.Author.Tests.{le-leb, lt-leb, lt-ltb}
@@ -27,8 +27,8 @@ use Rattle.model.proofs.PartsLaws.{variable-laws}
 use Rattle.model.specs.contracts.VarValue.{the_type}
 use Rattle.rows.specs.Places.{laid, row_at}
 use Rattle.rows.specs.Rows.{variable_code_row}
-use Rattle.state.specs.Cuts.{cut, sum, rows_in, has_word}
-use Rattle.state.specs.Meaning.{Holds, Counted, Sound, Means, meaning, base, variables_part, place_of, words_in, part, part_sizes}
+use Rattle.state.specs.Cuts.{rows_in, has_word}
+use Rattle.state.specs.Meaning.{Holds, Counted, Sound, Means, meaning, base, variables_part, place_of, words_in, part}
 use Rattle.state.specs.Named.{variable_has_name, lacks_room, assigned, has_name, put_row, assign_row}
 use Rattle.state.specs.Tables.{First}
 use Rattle.state.proofs.Found.{found, not_found, present-below, passed_over}

@@ -3,7 +3,6 @@ use Rattle.std.specs.Prelude.{ℕ, suc, ◌+◌, ◌≤◌, ◌≡◌, Bool, not
 use Rattle.model.specs.Actions.{Job}
 use Rattle.model.specs.Exec as model
 use Rattle.model.specs.Lists.{keep}
-use Rattle.model.specs.State as state
 use Rattle.model.specs.State.{Env, Volatile, bump_by, continuations_dropped}
 use Rattle.model.specs.declared.Pending.{Pending}
 use Rattle.model.specs.declared.Point.{Point}

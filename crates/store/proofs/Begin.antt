@@ -1,36 +1,34 @@
 -- What a store says of n rules, as the words of a state, part by part. Assumes nothing.
 use mathlib.Core.Path.{◌≡◌, refl, sym, ap, subst, ◌∙◌}
-use mathlib.Core.Logic.{◌⊎◌, inl}
+use mathlib.Core.Logic.{inl}
 use mathlib.Core.Bool.{Bool, true, false, ◌&&◌, false≢true}
-use mathlib.Core.List.{List, [], ◌∷◌, ◌++◌, map, append-nil}
-use mathlib.Core.Option.{Option, none}
-use Prim.Native.Nat.{ℕ, zero, suc, ◌+◌, ◌*◌, ◌^◌, ◌≤◌, ◌<◌}
-use native.Mathlib.Nat.{add-zero, mul-one}
+use mathlib.Core.List.{List, [], ◌∷◌, map, append-nil}
+use mathlib.Core.Option.{none}
+use Prim.Native.Nat.{ℕ, zero, suc, ◌+◌, ◌*◌, ◌≤◌, ◌<◌}
+use native.Mathlib.Nat.{add-zero}
 use native.Mathlib.Omega.{arith}
-use lib.Dec.{leb, ltb, eqb}
+use lib.Dec.{leb, eqb}
 use lib.ListN.{length, get_or, take, drop, length-append, drop_of_length-le}
 use lib.Seq.{take_at, drop_at}
 use borrow.Author.Tests.{leb-true, le-leb, ltb-true, eqb-true}
-use Rattle.model.specs.Layout.{Part, fixed, counted, part_fits, parts_fit, row_fits, rows_fit, up_to, zeros}
-use Rattle.model.specs.Codec.{Row, word, wide, maybe, all, most, rows_at, words_of, all_good}
+use Rattle.model.specs.Layout.{Part, fixed, part_fits, row_fits, rows_fit, up_to}
+use Rattle.model.specs.Codec.{Row, word, wide, maybe, all, most, words_of, all_good}
 use Rattle.model.specs.Lists.{flatten}
 use Rattle.model.specs.Lists as lists
 use Rattle.model.specs.Parts.{any, bit, variable_row, timer_row, slot_row, Changing, changing_part}
 use Rattle.model.specs.Parts as parts
-use Rattle.model.specs.State as model
 use Rattle.model.specs.Store.{filled, variable_of, text_short, volatile_in}
 use Rattle.model.specs.World.{is_one}
-use Rattle.model.specs.declared.Pending.{Pending}
 use Rattle.model.proofs.Bools.{both, join}
 use Rattle.model.proofs.PartsLaws.{any_laws, variable-laws, timer-laws, slot_laws}
 use Rattle.model.proofs.RowLaws.{RowLaws, word_laws, wide_laws, wide-blank, word_blank, maybe-laws, rows_long, rows-reads}
 use Rattle.state.specs.Cuts.{cut, sum}
-use Rattle.state.specs.Meaning.{pending_row, state_parts, part_sizes, pending_part, stored_part, state_words, accepted_in, meaning_of, SoundOf, Below, meaning, accepted, stored_count, pending_count, Sound, AllNumbered}
+use Rattle.state.specs.Meaning.{pending_row, state_parts, part_sizes, pending_part, stored_part, state_words, accepted_in, meaning_of, SoundOf, Below, meaning, accepted, stored_count, pending_count, AllNumbered}
 use Rattle.state.proofs.Numbers.{numbered-all}
 use Rattle.state.proofs.Typed.{holds-get, holds-fit, holds-long}
 use Rattle.state.proofs.Records.{pending-laws}
 use Rattle.store.proofs.RuleRows.{ruled-long, ruled-fit, ruled-read, ruled-unset, ruled-take}
-use Rattle.store.proofs.Wider.{Wider, word-wider, maybe-wider, pending-wider, good-wider, most-good}
+use Rattle.store.proofs.Wider.{word-wider, maybe-wider, pending-wider, good-wider, most-good}
 
 -- pieces, one behind the other
 pub cut-flat : (ps : List (List ℕ)) → cut (map length ps) (flatten ps) ≡ ps

@@ -1,14 +1,14 @@
 -- The words of a state in which every record holds its number are the words that the layout writes for what they mean: so a call is committed
 -- by copying them back. Assumes nothing.
 use mathlib.Core.Path.{◌≡◌, refl, sym, ap, ◌∙◌}
-use mathlib.Core.Bool.{Bool, true, ◌&&◌}
+use mathlib.Core.Bool.{true}
 use mathlib.Core.List.{List, [], ◌∷◌, ◌++◌, map, append-nil}
-use mathlib.Core.Option.{Option, none}
-use Prim.Native.Nat.{ℕ, zero, suc, ◌+◌, ◌-◌, ◌*◌, ◌≤◌, ◌<◌}
+use mathlib.Core.Option.{none}
+use Prim.Native.Nat.{ℕ, zero, suc, ◌+◌, ◌≤◌}
 use native.Mathlib.Nat.{add-zero}
 use native.Mathlib.Omega.{arith}
 use lib.Dec.{leb}
-use lib.ListN.{length, get_or, take, drop, length-map, drop_of_length-le}
+use lib.ListN.{length, take, drop, drop_of_length-le}
 use lib.Seq.{length-take-le}
 use borrow.Author.Tests.{leb-true}
 use Rattle.words.specs.Saturating.{max64}
@@ -20,11 +20,11 @@ use Rattle.model.specs.Parts as parts
 use Rattle.model.specs.Store.{changing_of, filled, bit_of, variable_of, variable_row_of}
 use Rattle.model.specs.World.{is_one}
 use Rattle.model.proofs.Bools.{both}
-use Rattle.model.proofs.PartsLaws.{any_laws, variable-laws, timer-laws, slot_laws}
+use Rattle.model.proofs.PartsLaws.{variable-laws, timer-laws, slot_laws}
 use Rattle.model.proofs.RowLaws.{RowLaws, word_laws, wide_laws, rows-writes}
 use Rattle.rows.specs.Places.{laid}
 use Rattle.state.specs.Cuts.{cut}
-use Rattle.state.specs.Meaning.{pending_row, state_parts, part_sizes, place_of, words_in, state_words, part, bits_part, activations_part, positions_part, variables_part, timers_part, slots_part, pending_part, week_part, next_part, last_part, counters_part, stored_part, rules_part, rules_in, stored_in, records_in, base_in, meaning, accepted, stored_count, pending_count, rules_of, Sound, AllNumbered}
+use Rattle.state.specs.Meaning.{pending_row, part_sizes, part, bits_part, activations_part, positions_part, variables_part, timers_part, slots_part, pending_part, week_part, next_part, last_part, counters_part, rules_part, rules_in, stored_in, records_in, base_in, meaning, accepted, stored_count, pending_count, Sound, AllNumbered}
 use Rattle.state.proofs.Cutting.{cut-first}
 use Rattle.state.proofs.Frame.{part-long, table-part}
 use Rattle.state.proofs.Numbers.{numbered-all}
@@ -33,7 +33,7 @@ use Rattle.state.proofs.TakingNumbers.{none-beyond}
 use Rattle.state.proofs.Typed.{holds-count}
 use Rattle.store.specs.Places.{state_place, changing_words}
 use Rattle.store.specs.Volatile.{Wrote}
-use Rattle.store.proofs.Begin.{any-words, bit-words, activations-laws, positions-laws}
+use Rattle.store.proofs.Begin.{any-words, activations-laws, positions-laws}
 use Rattle.store.proofs.RuleRows.{unset-ruled, good-take}
 use Rattle.store.proofs.Wider.{word-wider, maybe-wider, pending-wider, words-wider, most-wider}
 

@@ -1,12 +1,10 @@
 -- The words that a state begins with are the store's. Assumes nothing.
 use mathlib.Core.Path.{◌≡◌, refl, sym, ap, ◌∙◌}
-use mathlib.Core.Bool.{true, ◌&&◌}
-use mathlib.Core.List.{List, [], ◌∷◌, ◌++◌, append_assoc, append-nil}
+use mathlib.Core.List.{List, ◌++◌, append_assoc, append-nil}
 use mathlib.Core.Option.{none}
-use Prim.Native.Nat.{ℕ, ◌+◌, ◌-◌, ◌*◌, ◌^◌, ◌≤◌}
+use Prim.Native.Nat.{ℕ, ◌+◌, ◌-◌, ◌*◌, ◌≤◌}
 use native.Mathlib.Nat.{mul-one}
 use native.Mathlib.Omega.{arith}
-use lib.Dec.{ltb}
 use lib.ListN.{length, take, drop, replicate, length-append, length-drop, drop_of_length-le}
 use lib.Seq.{take_at, drop_at, drop-drop, length-take-le}
 use Rattle.words.specs.Pairs.{low_of, high_of}
@@ -16,13 +14,12 @@ use Rattle.model.specs.Lists.{flatten}
 use Rattle.model.specs.Parts.{any, bit, variable_row, timer_row, slot_row, Changing, loaded_part, changing_part, layout}
 use Rattle.model.specs.Parts as parts
 use Rattle.model.specs.Store.{filled, volatile_in}
-use Rattle.model.proofs.Bools.{both}
 use Rattle.model.proofs.PartsLaws.{pending-laws, loaded-laws, changing-laws, layout-laws}
 use Rattle.model.proofs.RowLaws.{word_laws, rows_long}
 use Rattle.rows.specs.Places.{row_at, laid}
 use Rattle.rows.proofs.Writing.{lays, and-then}
 use Rattle.state.specs.Meaning.{pending_row, place_of, bits_part, activations_part, positions_part, variables_part, stored_part, accepted_part, rules_part, state_words, AllNumbered}
-use Rattle.store.specs.Places.{set_place, set_words, state_place, activations_place, positions_place, variables_place, pending_place, changing_words}
+use Rattle.store.specs.Places.{set_words, state_place, activations_place, positions_place, variables_place, pending_place, changing_words}
 use Rattle.store.specs.Set.{loaded_in}
 use Rattle.store.specs.Volatile.{changing_in, Readable, first_of}
 use Rattle.store.proofs.Parts.{pending-at, table-long, good-loaded, good-changing}

@@ -11,7 +11,7 @@ use Rattle.model.specs.declared.Pending.{Pending}
 use Rattle.model.proofs.PartsLaws.{pending-laws}
 use Rattle.model.proofs.RowLaws.{word_laws, wide_laws, word_blank, wide-blank, maybe-laws}
 use Rattle.rows.specs.Options.{option32, option64}
-use Rattle.rows.specs.Places.{row_at, table_at}
+use Rattle.rows.specs.Places.{row_at}
 use Rattle.rows.specs.Rows.{of_option32, of_option64, option32_row, option64_row}
 use Rattle.rows.specs.declared.OptionU32.{OptionU32}
 use Rattle.rows.specs.declared.OptionU64.{OptionU64}

@@ -1,6 +1,6 @@
 -- Rows that write the same words, of which one takes more values than the other. Assumes nothing.
 use mathlib.Core.Path.{◌≡◌, refl, sym, ap, ◌∙◌}
-use mathlib.Core.Bool.{Bool, true, ◌&&◌}
+use mathlib.Core.Bool.{true}
 use mathlib.Core.List.{List, [], ◌∷◌, ◌++◌}
 use mathlib.Core.Option.{Option, none, some}
 use Prim.Native.Nat.{ℕ, suc, ◌+◌, ◌-◌, ◌*◌, ◌≤◌}
@@ -11,7 +11,6 @@ use borrow.Author.Tests.{leb-true, le-leb}
 use Rattle.model.specs.Codec.{Row, word, ◌⊗◌, maybe, pad, Same, as_row, wide, words_of, all_good, most}
 use Rattle.model.specs.Parts as parts
 use Rattle.model.specs.Parts.{any, jump_row, pending_is}
-use Rattle.model.specs.declared.Pending.{Pending}
 use Rattle.model.proofs.Bools.{both, join}
 use Rattle.state.specs.Meaning.{pending_row}
 

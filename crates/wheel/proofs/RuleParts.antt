@@ -1,7 +1,7 @@
 -- The part that a store keeps for a rule of its set: it says the rule's lists, and is what the runner asks for. Assumes nothing.
 use Prim.Native.Nat.{ℕ, ◌<◌}
 use native.Mathlib.Omega.{arith}
-use mathlib.Core.Path.{◌≡◌, sym, subst}
+use mathlib.Core.Path.{◌≡◌}
 use mathlib.Core.List.{List, []}
 use lib.ListN.{length, get_or}
 use Rattle.model.specs.Flat.{Flattened, no_steps, part_of, flatten_rules}

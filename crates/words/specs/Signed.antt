@@ -1,5 +1,5 @@
 -- Signed integers. `to_z w n` of `mir.Val` is the number that the bits n stand for in two's complement, `of_z w z` the bits of z.
-use Rattle.std.specs.Prelude.{Bool, true, false, ℕ, suc, ◌-◌, ◌%◌, ◌^◌, min, eqb, ℤ, pos, negsuc, ◌+ℤ◌}
+use Rattle.std.specs.Prelude.{Bool, false, ℕ, suc, ◌-◌, ◌%◌, ◌^◌, min, eqb, ℤ, pos, negsuc, ◌+ℤ◌}
 use Rattle.std.specs.Int.Signed.{quot_z}
 use Rattle.std.specs.Int.{w32, w64}
 use Rattle.std.proofs.Common.{to_z, of_z}

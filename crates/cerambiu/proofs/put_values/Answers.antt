@@ -1,6 +1,5 @@
 -- `cerambiu::put_values` meets its contract. The loop's invariant: the words before i are the values, and 0 behind them. Assumes nothing.
 use mathlib.Core.Path.{refl, ◌∙◌}
-use Prim.Native.Nat.{◌-◌}
 use native.Mathlib.Omega.{arith}
 use lib.ListN.{length-set}
 use Rattle.cerambiu.proofs.Lent.{none_yet, one_more, all-put}

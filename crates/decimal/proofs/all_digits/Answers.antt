@@ -1,9 +1,7 @@
 -- `decimal::all_digits` meets its contract. Assumes nothing.
 use mathlib.Core.Path.{refl}
-use Prim.Native.Nat.{◌-◌}
 use native.Mathlib.Omega.{arith}
 use borrow.Author.Rules.{rules}
-use Rattle.model.specs.Digits.{is_digit}
 use Rattle.decimal.proofs.DigitLaws.{all-goes, all-leaves, all-ends}
 use Rattle.decimal.proofs.all_digits.Goals as goal
 

@@ -1,5 +1,4 @@
 -- `every::agree_rule` meets its contract. The invariant: the slots of the triggers that are left. Assumes nothing.
-use Prim.Native.Nat.{◌-◌}
 use native.Mathlib.Omega.{arith}
 use Rattle.every.proofs.Same.{compares-from, compares-on, compares-all}
 use Rattle.every.proofs.Slots.{trigger-left, none_left}

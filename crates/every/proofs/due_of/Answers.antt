@@ -1,9 +1,7 @@
 -- `every::due_of` meets its contract: none of the slots passed is the one that is looked for. Assumes nothing.
-use Prim.Native.Nat.{◌-◌}
 use mathlib.Core.Path.{sym, ◌∙◌}
 use native.Mathlib.Omega.{arith}
 use borrow.Author.Rules.{rules}
-use Rattle.model.specs.Slots.{same_slot}
 use Rattle.every.proofs.Slots.{due-kept, not-here, due-fresh}
 use Rattle.every.proofs.due_of.Goals as goal
 

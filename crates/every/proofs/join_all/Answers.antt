@@ -1,6 +1,5 @@
 -- `every::join_all` meets its contract: the slots so far, and those of the rules that are left. Assumes nothing.
 use mathlib.Core.Path.{refl, ◌∙◌}
-use Prim.Native.Nat.{◌-◌}
 use native.Mathlib.Omega.{arith}
 use borrow.Author.Rules.{rules as needs}
 use Rattle.model.specs.Rules.{name_order}

@@ -1,6 +1,5 @@
 -- `every::join_rule` meets its contract: the slots so far, and those of the triggers that are left. Assumes nothing.
 use mathlib.Core.Path.{refl, ◌∙◌}
-use Prim.Native.Nat.{◌-◌}
 use native.Mathlib.Omega.{arith}
 use Rattle.every.proofs.Slots.{begins, room, joins-on, joined-all, trigger-left, none_left}
 use Rattle.every.proofs.join_rule.Goals as goal

@@ -1,7 +1,6 @@
 -- `every::same_slots` meets its contract. The invariant: the slots of the rules that are left. Assumes nothing.
 use mathlib.Core.Path.{refl}
 use mathlib.Core.List.{[]}
-use Prim.Native.Nat.{◌-◌}
 use native.Mathlib.Omega.{arith}
 use Rattle.model.specs.Rules.{name_order}
 use Rattle.model.specs.Slots.{rebuild_every}

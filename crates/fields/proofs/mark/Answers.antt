@@ -1,5 +1,4 @@
 -- `fields::mark` meets its contract. Assumes nothing.
-use Prim.Native.Nat.{◌-◌}
 use native.Mathlib.Omega.{arith}
 use native.Mathlib.Nat.{le_antisymm}
 use borrow.Author.Rules.{rules}

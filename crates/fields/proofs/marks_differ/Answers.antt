@@ -1,7 +1,6 @@
 -- `fields::marks_differ` meets its contract: a record whose mark no record before it has differs from them. Assumes nothing.
 use mathlib.Core.Path.{refl, sym}
 use mathlib.Core.Bool.{true, false≢true}
-use Prim.Native.Nat.{◌-◌}
 use native.Mathlib.Omega.{arith}
 use lib.ListN.{length-set}
 use Rattle.fields.proofs.Every.{starts, goes, ends}

@@ -1,5 +1,4 @@
 -- `fields::occurrences` meets its contract. Assumes nothing.
-use Prim.Native.Nat.{◌-◌}
 use native.Mathlib.Omega.{arith}
 use borrow.Author.Rules.{rules}
 use Rattle.fields.proofs.Total.{empty, adds, whole}

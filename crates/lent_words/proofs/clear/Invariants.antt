@@ -1,7 +1,7 @@
 -- `lent_words::clear` meets its contract. Assumes nothing.
 use mathlib.Core.Path.{◌≡◌}
 use mathlib.Core.List.{◌++◌}
-use Prim.Native.Nat.{◌+◌, ◌-◌, ◌≤◌}
+use Prim.Native.Nat.{◌-◌, ◌≤◌}
 use lib.ListN.{length, drop, replicate}
 use Rattle.lent_words.proofs.clear.Given as goal
 

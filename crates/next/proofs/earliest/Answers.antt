@@ -1,6 +1,5 @@
 -- `next::earliest` meets its contract. Assumes nothing.
 use native.Mathlib.Omega.{arith}
-use Rattle.model.specs.Rules.{name_of}
 use Rattle.next.specs.Distance.{best_from, best_of}
 use Rattle.next.proofs.Down.{starts-number, goes_number, ends}
 use Rattle.next.proofs.earliest.Goals as goal

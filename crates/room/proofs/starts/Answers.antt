@@ -1,5 +1,4 @@
 -- `room::starts` meets its contract: the triggers so far, and those that are left. Assumes nothing.
-use Prim.Native.Nat.{◌-◌}
 use native.Mathlib.Omega.{arith}
 use Rattle.room.proofs.Counting.{begins, goes, ends, starts-sum}
 use Rattle.room.proofs.starts.Goals as goal

@@ -1,6 +1,5 @@
 -- `room::sum_rules` meets its contract. Assumes nothing.
 use mathlib.Core.Path.{◌∙◌}
-use Prim.Native.Nat.{◌-◌}
 use native.Mathlib.Omega.{arith}
 use Rattle.fields.proofs.Total.{empty, adds}
 use Rattle.room.proofs.Rows.{budget-of, few-of}

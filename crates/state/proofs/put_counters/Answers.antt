@@ -1,6 +1,5 @@
 -- `state::put_counters` meets its contract. The invariant: the first i counters are written. Assumes nothing.
 use mathlib.Core.Path.{refl}
-use Prim.Native.Nat.{◌-◌}
 use Rattle.counters.specs.Counters.{counters_of}
 use Rattle.model.specs.Parts.{any}
 use Rattle.rows.proofs.Writing.{starts, goes}

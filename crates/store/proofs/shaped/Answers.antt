@@ -1,6 +1,5 @@
 -- `store::shaped` meets its contract. The invariant: the answer is that of the rest of the parts; they end at 16,384. Assumes nothing.
 use mathlib.Core.Path.{sym, ◌∙◌}
-use Prim.Native.Nat.{◌-◌}
 use native.Mathlib.Omega.{arith}
 use borrow.Author.Tests.{not-true, not-false}
 use Rattle.store.proofs.Rest.{parts-start}

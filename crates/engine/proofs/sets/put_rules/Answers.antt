@@ -1,6 +1,5 @@
 -- `engine::sets::put_rules` meets its contract. The invariant: the first i rules are set. Assumes nothing.
 use mathlib.Core.Path.{sym, ◌∙◌}
-use Prim.Native.Nat.{◌-◌}
 use native.Mathlib.Omega.{arith}
 use Rattle.engine.proofs.WordLaws.{said}
 use Rattle.engine.proofs.SetLaws.{loadable, rules-begin, rules-go, rules-end}

@@ -1,5 +1,4 @@
 -- `eval::conditions::conditions_hold` meets its contract. Assumes nothing.
-use Prim.Native.Nat.{◌-◌}
 use native.Mathlib.Omega.{arith}
 use Rattle.eval.proofs.Holding.{starts, goes, fails, stops, ends}
 use Rattle.eval.proofs.conditions.conditions_hold.Goals as goal

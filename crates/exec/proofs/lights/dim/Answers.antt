@@ -1,5 +1,4 @@
 -- `exec::lights::dim` meets its contract. Assumes nothing.
-use Rattle.model.specs.Actions.{hold_or}
 use Rattle.state.specs.Meaning.{meaning}
 use Rattle.exec.specs.Results.{job_of}
 use Rattle.exec.proofs.Follows.{answers}

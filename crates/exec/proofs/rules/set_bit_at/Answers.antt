@@ -1,5 +1,4 @@
 -- `exec::rules::set_bit_at` meets its contract. Assumes nothing.
-use Rattle.model.specs.Actions.{no_effect}
 use mathlib.Core.Path.{subst}
 use Rattle.state.specs.Meaning.{Means, meaning, base}
 use Rattle.exec.proofs.Follows.{bit-flipped}

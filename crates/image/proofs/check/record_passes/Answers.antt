@@ -1,10 +1,7 @@
 -- `image::check::record_passes` meets its contract: a loop that leaves at the first number where the test fails. Assumes nothing.
-use mathlib.Core.Bool.{true, false}
-use Prim.Native.Nat.{◌-◌}
 use native.Mathlib.Omega.{arith}
 use borrow.Author.Rules.{rules}
 use Rattle.fields.proofs.Every.{starts, goes, leaves, ends}
-use Rattle.model.specs.Image.{word_passes}
 use Rattle.image.proofs.check.record_passes.Goals as goal
 
 pub loop-j-init : goal.loop-j-init

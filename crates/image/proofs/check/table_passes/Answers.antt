@@ -1,10 +1,7 @@
 -- `image::check::table_passes` meets its contract: a loop that leaves at the first number where the test fails. Assumes nothing.
-use mathlib.Core.Bool.{true, false}
-use Prim.Native.Nat.{◌-◌}
 use native.Mathlib.Omega.{arith}
 use borrow.Author.Rules.{rules}
 use Rattle.fields.proofs.Every.{starts, goes, leaves, ends}
-use Rattle.model.specs.Image.{record_passes}
 use Rattle.image.proofs.check.table_passes.Goals as goal
 
 pub loop-i-init : goal.loop-i-init

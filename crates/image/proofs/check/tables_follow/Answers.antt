@@ -1,10 +1,7 @@
 -- `image::check::tables_follow` meets its contract: a loop that leaves at the first number where the test fails. Assumes nothing.
-use mathlib.Core.Bool.{true}
-use Prim.Native.Nat.{◌-◌}
 use native.Mathlib.Omega.{arith}
 use borrow.Author.Rules.{rules}
 use Rattle.fields.proofs.Every.{starts, goes, leaves, ends}
-use Rattle.model.specs.Image.{place_fits}
 use Rattle.image.proofs.check.tables_follow.Goals as goal
 
 pub loop-t-init : goal.loop-t-init

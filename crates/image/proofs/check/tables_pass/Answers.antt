@@ -1,11 +1,8 @@
 -- `image::check::tables_pass` meets its contract: a loop that leaves at the first number where the test fails. Assumes nothing.
-use mathlib.Core.Bool.{true, false}
-use Prim.Native.Nat.{◌-◌}
 use native.Mathlib.Omega.{arith}
 use borrow.Author.Rules.{rules}
 use Rattle.model.specs.Image.{tables_pass}
 use Rattle.fields.proofs.Every.{starts, goes, leaves, ends}
-use Rattle.model.specs.Image.{table_passes}
 use Rattle.image.proofs.check.tables_pass.Goals as goal
 
 pub loop-t-init : goal.loop-t-init

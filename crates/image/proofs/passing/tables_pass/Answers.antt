@@ -1,6 +1,4 @@
 -- `image::passing::tables_pass` meets its contract: a loop that leaves at the first number where the test fails. Assumes nothing.
-use mathlib.Core.Bool.{true}
-use Prim.Native.Nat.{◌-◌}
 use native.Mathlib.Omega.{arith}
 use Rattle.fields.proofs.Every.{starts, goes, leaves, ends}
 use Rattle.image.proofs.OnePass.{tables-split}

@@ -1,6 +1,5 @@
 -- `rows::put::clear` meets its contract. The invariant: i zeros are written. Assumes nothing.
 use mathlib.Core.Path.{◌≡◌, refl}
-use Prim.Native.Nat.{◌-◌}
 use lib.ListN.{length-set}
 use Rattle.rows.proofs.Writing.{laid_none, clears}
 use native.Mathlib.Omega.{arith}

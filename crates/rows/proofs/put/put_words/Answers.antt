@@ -1,6 +1,5 @@
 -- `rows::put::put_words` meets its contract. The invariant: the first i words are written. Assumes nothing.
 use mathlib.Core.Path.{refl}
-use Prim.Native.Nat.{◌-◌}
 use lib.ListN.{length-set}
 use Rattle.rows.proofs.Writing.{laid_none, copies, copied}
 use native.Mathlib.Omega.{arith}

@@ -1,6 +1,5 @@
 -- `rows::tables::timers_at` meets its contract. The invariant: the first i rows are read. Assumes nothing.
 use mathlib.Core.Path.{refl}
-use Prim.Native.Nat.{◌-◌}
 use native.Mathlib.Omega.{arith}
 use lib.ListN.{length-set}
 use Rattle.model.specs.Parts.{timer_row}

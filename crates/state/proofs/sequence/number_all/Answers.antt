@@ -1,6 +1,5 @@
 -- `state::sequence::number_all` meets its contract: the first i records have their numbers. Assumes nothing.
 use native.Mathlib.Omega.{arith}
-use Prim.Native.Nat.{◌-◌}
 use mathlib.Core.Path.{refl}
 use Rattle.state.specs.Meaning.{pending_row}
 use Rattle.state.proofs.Typed.{holds-long, holds-count, holds-few}

@@ -1,6 +1,5 @@
 -- `state::slots::move_all` meets its contract: the first i slots have moved on. Assumes nothing.
 use native.Mathlib.Omega.{arith}
-use Prim.Native.Nat.{◌-◌}
 use mathlib.Core.Path.{refl}
 use Rattle.model.specs.Parts.{slot_row}
 use Rattle.model.proofs.PartsLaws.{slot_laws}

@@ -1,5 +1,4 @@
 -- `state::table::close_up` meets its contract. The invariant is `Closes`. Assumes nothing.
-use Prim.Native.Nat.{◌-◌}
 use native.Mathlib.Omega.{arith}
 use lib.ListN.{length-set}
 use Rattle.state.proofs.Tables.{closes-start, closes-fits, closes-keep, closes-skip, closed, closed-count, gone-within, gone_long}

@@ -1,5 +1,4 @@
 -- `state::table::count_kept` meets its contract. Assumes nothing.
-use Prim.Native.Nat.{◌-◌}
 use mathlib.Core.Path.{◌≡◌, refl}
 use native.Mathlib.Omega.{arith}
 use Rattle.state.specs.Cuts.{passes}

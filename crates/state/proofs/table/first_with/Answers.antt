@@ -1,5 +1,4 @@
 -- `state::table::first_with` meets its contract: none of the rows passed has the word. Assumes nothing.
-use Prim.Native.Nat.{◌-◌}
 use mathlib.Core.Path.{refl}
 use native.Mathlib.Omega.{arith}
 use Rattle.state.proofs.Tables.{find-goes, find-stops, find-ends}

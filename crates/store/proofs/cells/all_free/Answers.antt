@@ -1,9 +1,6 @@
 -- `store::cells::all_free` meets its contract: a loop that leaves at the first number where the test fails. Assumes nothing.
-use mathlib.Core.Bool.{true}
-use Prim.Native.Nat.{◌-◌}
 use native.Mathlib.Omega.{arith}
 use Rattle.fields.proofs.Every.{starts, goes, leaves, ends}
-use Rattle.store.specs.Cells.{free_at}
 use Rattle.store.proofs.cells.all_free.Goals as goal
 
 pub loop-j-init : goal.loop-j-init

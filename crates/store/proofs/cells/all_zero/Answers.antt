@@ -1,5 +1,5 @@
 -- `store::cells::all_zero` meets its contract. The invariant: the answer is that of the count so far and of the rest. Assumes nothing.
-use Prim.Native.Nat.{◌+◌, ◌-◌}
+use Prim.Native.Nat.{◌+◌}
 use native.Mathlib.Omega.{arith}
 use Rattle.store.proofs.Rest.{zeros-short, count-starts, count-goes, count-ends}
 use Rattle.store.proofs.cells.all_zero.Goals as goal

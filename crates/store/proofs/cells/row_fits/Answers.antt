@@ -1,6 +1,5 @@
 -- `store::cells::row_fits` meets its contract. The invariant: the answer is that of the rest. Assumes nothing.
 use mathlib.Core.Path.{sym, ◌∙◌}
-use Prim.Native.Nat.{◌-◌}
 use native.Mathlib.Omega.{arith}
 use borrow.Author.Tests.{not-true, not-false}
 use Rattle.store.proofs.Rest.{goes, leaves, ends, row-start, row-loop}

@@ -1,6 +1,5 @@
 -- `store::cells::rows_fit` meets its contract. The invariant: the answer is that of the rest. Assumes nothing.
 use mathlib.Core.Path.{sym, ◌∙◌}
-use Prim.Native.Nat.{◌-◌}
 use native.Mathlib.Nat.{zero-mul}
 use native.Mathlib.Omega.{arith}
 use lib.ListN.{length, drop}

@@ -1,6 +1,5 @@
 -- `store::checks::marks_unset` meets its contract. The invariant: the answer is that of the rest. Assumes nothing.
 use mathlib.Core.Path.{sym, ◌∙◌}
-use Prim.Native.Nat.{◌-◌}
 use native.Mathlib.Omega.{arith}
 use lib.Dec.{eqb}
 use Rattle.rows.specs.Rows.{first_word}

@@ -1,6 +1,5 @@
 -- `store::checks::numbers_given` meets its contract. The invariant: the answer is that of the rest. Assumes nothing.
 use mathlib.Core.Path.{sym, ◌∙◌}
-use Prim.Native.Nat.{◌-◌}
 use native.Mathlib.Omega.{arith}
 use Rattle.model.specs.Parts.{pending_row}
 use Rattle.model.specs.Store.{is_given}

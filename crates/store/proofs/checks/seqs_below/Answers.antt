@@ -1,6 +1,5 @@
 -- `store::checks::seqs_below` meets its contract. The invariant: the answer is that of the rest. Assumes nothing.
 use mathlib.Core.Path.{sym, ◌∙◌}
-use Prim.Native.Nat.{◌-◌}
 use native.Mathlib.Omega.{arith}
 use lib.Dec.{ltb}
 use Rattle.model.specs.Parts.{pending_row}

@@ -1,6 +1,5 @@
 -- `store::checks::texts_short` meets its contract. The invariant: the answer is that of the rest. Assumes nothing.
 use mathlib.Core.Path.{sym, ◌∙◌}
-use Prim.Native.Nat.{◌-◌}
 use native.Mathlib.Omega.{arith}
 use Rattle.model.specs.Parts.{variable_row}
 use Rattle.model.specs.Store.{text_short}

@@ -1,7 +1,6 @@
 -- `store::hold::unset_past` meets its contract. Assumes nothing.
 use mathlib.Core.Path.{refl, sym, ◌∙◌}
 use borrow.Author.Tests.{not-true, not-false}
-use borrow.Author.Rules.{rules}
 use Rattle.store.proofs.Holding.{fails, holds}
 use Rattle.store.proofs.TableRules.{unset-are}
 use Rattle.store.proofs.hold.unset_past.Goals as goal

@@ -1,7 +1,6 @@
 -- `store::pending::records_fit` meets its contract. The invariant: the answer is that of the rest, for every set. Assumes nothing.
 use mathlib.Core.Path.{sym, ◌∙◌}
 use mathlib.Core.Option.{some}
-use Prim.Native.Nat.{◌-◌}
 use borrow.Author.Tests.{not-true, not-false}
 use Rattle.model.specs.Parts.{pending_row}
 use Rattle.model.specs.Store.{pending_fits}

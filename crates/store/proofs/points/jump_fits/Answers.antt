@@ -1,6 +1,5 @@
 -- `store::points::jump_fits` meets its contract. The invariant: the jump is that of the rest. Assumes nothing.
 use mathlib.Core.Path.{refl, sym, ◌∙◌}
-use Prim.Native.Nat.{◌-◌}
 use Rattle.store.proofs.StepPlaces.{jump-start, jump_goes, jump-found, jump-ends}
 use native.Mathlib.Omega.{arith}
 use Rattle.store.proofs.points.jump_fits.Goals as goal

@@ -2,7 +2,6 @@
 use mathlib.Core.Path.{◌∙◌}
 use Prim.Native.Nat.{◌+◌, ◌*◌}
 use native.Mathlib.Omega.{arith}
-use borrow.Author.Rules.{rules}
 use Rattle.state.specs.Meaning.{place_of, bits_part, activations_part, positions_part, variables_part}
 use Rattle.store.specs.Places.{state_place, activations_place, positions_place, variables_place, changing_words}
 use Rattle.store.proofs.Copied.{lent_fits, copied}

@@ -1,5 +1,4 @@
 -- `wheel::continuations::resume_all` meets its contract. Assumes nothing.
-use Prim.Native.Nat.{◌-◌}
 use native.Mathlib.Omega.{arith}
 use mir.Syntax.{w64}
 use borrow.Kind.Array.{e_int, good_length}

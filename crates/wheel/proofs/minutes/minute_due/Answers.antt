@@ -1,8 +1,6 @@
 -- `wheel::minutes::minute_due` meets its contract. Assumes nothing.
-use Prim.Native.Nat.{◌-◌}
 use mathlib.Core.Path.{refl}
 use native.Mathlib.Omega.{arith}
-use Rattle.wheel.specs.Wall.{day_due}
 use Rattle.wheel.proofs.AnyOf.{starts, hits, goes, ends, number_at}
 use Rattle.wheel.proofs.Windows.{of-days}
 use Rattle.wheel.proofs.minutes.minute_due.Goals as goal

@@ -1,5 +1,4 @@
 -- `wheel::timers::fire_due_timers` meets its contract. Assumes nothing.
-use Prim.Native.Nat.{◌-◌}
 use native.Mathlib.Omega.{arith}
 use borrow.Kind.Array.{e_struct, good_length}
 use Rattle.model.specs.contracts.NamedTimer.{the_type}

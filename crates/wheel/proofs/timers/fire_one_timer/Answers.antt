@@ -1,5 +1,4 @@
 -- `wheel::timers::fire_one_timer` meets its contract. Assumes nothing.
-use Prim.Native.Nat.{◌-◌}
 use native.Mathlib.Omega.{arith}
 use Rattle.image.proofs.Names.{order_same, order-at}
 use Rattle.activate.proofs.FlatRules.{image-accepted}

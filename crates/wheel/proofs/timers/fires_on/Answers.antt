@@ -1,5 +1,4 @@
 -- `wheel::timers::fires_on` meets its contract. Assumes nothing.
-use Prim.Native.Nat.{◌-◌}
 use native.Mathlib.Omega.{arith}
 use Rattle.model.specs.declared.Trigger.TheVariants.{Other}
 use Rattle.wheel.proofs.AnyOf.{starts, hits, goes, ends}

@@ -1,5 +1,4 @@
 -- `wheel::wall::due_wall_kind` meets its contract. Assumes nothing.
-use Prim.Native.Nat.{◌-◌}
 use native.Mathlib.Omega.{arith}
 use Rattle.eval.specs.Answers.{env_of}
 use Rattle.wheel.proofs.DueKind.{starts, ends-here, goes, ends}

@@ -1,7 +1,5 @@
 -- `wheel::wall::has_wall_trigger` meets its contract. Assumes nothing.
-use Prim.Native.Nat.{◌-◌}
 use native.Mathlib.Omega.{arith}
-use Rattle.model.specs.Wheel.{is_wall_trigger}
 use Rattle.model.specs.declared.Trigger.TheVariants.{Other}
 use Rattle.wheel.proofs.AnyOf.{starts, hits, goes, ends}
 use Rattle.wheel.proofs.wall.has_wall_trigger.Goals as goal

@@ -1,7 +1,5 @@
 -- `wheel::wall::has_wall_triggers` meets its contract. Assumes nothing.
-use Prim.Native.Nat.{◌-◌}
 use native.Mathlib.Omega.{arith}
-use Rattle.wheel.specs.Wall.{enabled_wall}
 use Rattle.wheel.proofs.AnyOf.{starts, hits, goes, ends, below, past, number_at}
 use Rattle.wheel.proofs.Windows.{of-rules}
 use Rattle.wheel.proofs.wall.has_wall_triggers.Goals as goal

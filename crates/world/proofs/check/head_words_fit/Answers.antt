@@ -1,10 +1,7 @@
 -- `world::check::head_words_fit` meets its contract: a loop that leaves at the first number where the test fails. Assumes nothing.
-use mathlib.Core.Bool.{true}
-use Prim.Native.Nat.{◌-◌}
 use native.Mathlib.Omega.{arith}
 use borrow.Author.Rules.{rules}
 use Rattle.fields.proofs.Every.{starts, goes, leaves, ends}
-use Rattle.model.specs.Snapshot.{head_fits}
 use Rattle.world.proofs.check.head_words_fit.Goals as goal
 
 pub loop-j-init : goal.loop-j-init

@@ -1,9 +1,6 @@
 -- `world::check::table_fits` meets its contract: a loop that leaves at the first number where the test fails. Assumes nothing.
-use mathlib.Core.Bool.{true}
-use Prim.Native.Nat.{◌-◌}
 use native.Mathlib.Omega.{arith}
 use borrow.Author.Rules.{rules}
-use Rattle.model.specs.Snapshot.{row_fits}
 use Rattle.fields.proofs.Every.{starts, goes, leaves, ends}
 use Rattle.world.proofs.Cells.{row_room, row-tested}
 use Rattle.world.proofs.check.table_fits.Goals as goal

@@ -1,10 +1,7 @@
 -- `world::check::tables_fit` meets its contract: a loop that leaves at the first number where the test fails. Assumes nothing.
-use mathlib.Core.Bool.{true}
-use Prim.Native.Nat.{◌-◌}
 use native.Mathlib.Omega.{arith}
 use borrow.Author.Rules.{rules}
 use Rattle.fields.proofs.Every.{starts, goes, leaves, ends}
-use Rattle.model.specs.Snapshot.{table_fits}
 use Rattle.world.proofs.check.tables_fit.Goals as goal
 
 pub loop-t-init : goal.loop-t-init

@@ -1,5 +1,4 @@
 -- `world::rows::find_row` meets its contract: a loop that leaves at the first number where the test holds. Assumes nothing.
-use Prim.Native.Nat.{◌-◌}
 use native.Mathlib.Omega.{arith}
 use Rattle.world.specs.Find.{first_row}
 use Rattle.world.proofs.First.{whole, starts, goes, leaves, ends}
