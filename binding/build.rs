@@ -1,4 +1,4 @@
-//! Links `target/staticlib/libcerambiu.a`, which `rt staticlib cerambiu` writes.
+//! Links `target/staticlib/libcerambiu.a`, which `.ci/build` writes.
 
 fn main() {
     let folder = std::env::var("CARGO_MANIFEST_DIR").expect("cargo sets it") + "/../target/staticlib";

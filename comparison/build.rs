@@ -1,4 +1,4 @@
-//! Links `target/staticlib/libexports.a`, which `rt staticlib exports` writes.
+//! Links `target/staticlib/libexports.a`, which `.ci/build` writes.
 
 fn main() {
     let folder = std::env::var("CARGO_MANIFEST_DIR").expect("cargo sets it") + "/../target/staticlib";

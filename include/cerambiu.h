@@ -3,7 +3,7 @@
  * that says what starts next by the wall clock, one that makes of a tick's effects the list to be sent on the bus, one that reads a line of a
  * crontab into triggers, and one that tells how much room an image needs.
  *
- * Link target/staticlib/libcerambiu.a (`rt staticlib cerambiu`; 90 KiB of code and constants). The library keeps nothing between calls, allocates
+ * Link target/staticlib/libcerambiu.a (`.ci/build` writes it; 90 KiB of code and constants). The library keeps nothing between calls, allocates
  * nothing, reads no clock, calls nothing but memcpy, memmove and memset, and every call returns. All that it remembers of a house is in one store
  * of 16,384 words, which the caller keeps.
  *
@@ -32,7 +32,7 @@
  *             lighting, drives targets by schedules of the day, outside the engine; the hold mark of an effect asks HCL to leave its target alone.
  *             A rule has a hold mark for its effects; a Light or a Percent may have its own.
  *
- * Each function's contract in crates/cerambiu/src/lib.rt is one equation with the definitions of crates/model/specs, proved for all arguments.
+ * Each function's contract in crates/cerambiu_c/src/lib.rt is one equation with the definitions of crates/model/specs, proved for all arguments.
  */
 #ifndef CERAMBIU_H
 #define CERAMBIU_H

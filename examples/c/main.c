@@ -2,7 +2,7 @@
  * A house in C: a new store, the rule of document 01's example, a run, two ticks; then three refusals, one for each who can cause one;
  * then what is sent on the bus for three effects, two lines of a crontab, and what starts next.
  *
- *   rt staticlib cerambiu
+ *   .ci/build
  *   cc -std=c99 -Iinclude examples/c/main.c target/staticlib/libcerambiu.a -o house && ./house
  *
  * It prints examples/c/expected.

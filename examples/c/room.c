@@ -3,7 +3,7 @@
  * tick and no run is refused with 30. And the largest answer there is: an image of 813 words whose fullest tick gives exactly what it was told, and is refused with
  * one record less.
  *
- *   rt staticlib cerambiu
+ *   .ci/build
  *   cc -std=c99 -Iinclude examples/c/room.c target/staticlib/libcerambiu.a -o room && ./room
  *
  * It prints examples/c/room.expected.

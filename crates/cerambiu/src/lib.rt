@@ -1,5 +1,5 @@
-// The C interface: the eight calls and the next start of crate `engine`, `telegrams`, `crontab` and `room` under C names, as include/cerambiu.h describes them. A slice
-// is a pointer and a length in C. A call returns document 01's number of its refusal, 0 for none, and writes its values into the lent words of the answer. A contract is one
+// The calls of the C interface: the eight calls and the next start of crate `engine`, `telegrams`, `crontab` and `room`, as include/cerambiu.h describes them; crate `cerambiu_c` has
+// them under C names. A call returns document 01's number of its refusal, 0 for none, and writes its values into the lent words of the answer. A contract is one
 // equation with the specification's call on words (model's `call_on`), for all arguments.
 #![tactic(auto)]
 
@@ -87,36 +87,31 @@ fn put_asked(answer: &mut [u32], number: u32, values: &[u32]) -> u32
     0
 }
 
-#[unsafe(no_mangle)]
-pub extern "C" fn cerambiu_new(store: &mut [u32], time: u64) -> u32
+pub fn cerambiu_new(store: &mut [u32], time: u64) -> u32
     ensures { called result [] store.new [] [] ≡ answered 0 (call_on (new time) store.old) }
 {
     number_of(engine::new(store, time))
 }
 
-#[unsafe(no_mangle)]
-pub extern "C" fn cerambiu_load(store: &mut [u32], time: u64, image: &[u32]) -> u32
+pub fn cerambiu_load(store: &mut [u32], time: u64, image: &[u32]) -> u32
     ensures { called result [] store.new [] [] ≡ answered 0 (call_on (load time image.now) store.old) }
 {
     number_of(engine::load(store, time, image))
 }
 
-#[unsafe(no_mangle)]
-pub extern "C" fn cerambiu_unload(store: &mut [u32], time: u64) -> u32
+pub fn cerambiu_unload(store: &mut [u32], time: u64) -> u32
     ensures { called result [] store.new [] [] ≡ answered 0 (call_on (unload time) store.old) }
 {
     number_of(engine::unload(store, time))
 }
 
-#[unsafe(no_mangle)]
-pub extern "C" fn cerambiu_enable(store: &mut [u32], rule: u32, on: bool, answer: &mut [u32]) -> u32
+pub fn cerambiu_enable(store: &mut [u32], rule: u32, on: bool, answer: &mut [u32]) -> u32
     ensures { called result answer.new store.new [] [] ≡ answered (length answer.old) (call_on (enable rule on) store.old) }
 {
     put_answer(answer, engine::enable(store, rule, on))
 }
 
-#[unsafe(no_mangle)]
-pub extern "C" fn cerambiu_tick(
+pub fn cerambiu_tick(
     store: &mut [u32],
     snapshot: &[u32],
     outcomes: &mut [u32],
@@ -128,8 +123,7 @@ pub extern "C" fn cerambiu_tick(
     put_answer(answer, engine::tick(store, snapshot, outcomes, effects))
 }
 
-#[unsafe(no_mangle)]
-pub extern "C" fn cerambiu_run(
+pub fn cerambiu_run(
     store: &mut [u32],
     rule: u32,
     dry: bool,
@@ -146,15 +140,13 @@ pub extern "C" fn cerambiu_run(
     )
 }
 
-#[unsafe(no_mangle)]
-pub extern "C" fn cerambiu_next_deadline(store: &[u32], answer: &mut [u32]) -> u32
+pub fn cerambiu_next_deadline(store: &[u32], answer: &mut [u32]) -> u32
     ensures { called result answer.new store.now [] [] ≡ answered (length answer.old) (call_on deadline store.now) }
 {
     put_answer(answer, engine::next_deadline(store))
 }
 
-#[unsafe(no_mangle)]
-pub extern "C" fn cerambiu_counters(store: &[u32], answer: &mut [u32]) -> u32
+pub fn cerambiu_counters(store: &[u32], answer: &mut [u32]) -> u32
     ensures { called result answer.new store.now [] [] ≡ answered (length answer.old) (call_on counters store.now) }
 {
     let c = engine::counters(store);
@@ -173,8 +165,7 @@ fn start_values(a: NextStart) -> [u32; 3]
     }
 }
 
-#[unsafe(no_mangle)]
-pub extern "C" fn cerambiu_next_start(store: &[u32], snapshot: &[u32], answer: &mut [u32]) -> u32
+pub fn cerambiu_next_start(store: &[u32], snapshot: &[u32], answer: &mut [u32]) -> u32
     ensures { tells result answer.new [] ≡ told (length answer.old) (next_start_on snapshot.now store.now) }
 {
     let a = engine::next_start(store, snapshot);
@@ -204,8 +195,7 @@ fn telegram_values(a: TelegramAnswer) -> [u32; 2]
     }
 }
 
-#[unsafe(no_mangle)]
-pub extern "C" fn cerambiu_telegrams(effects: &[u32], list: &mut [u32], answer: &mut [u32]) -> u32
+pub fn cerambiu_telegrams(effects: &[u32], list: &mut [u32], answer: &mut [u32]) -> u32
     ensures { tells result answer.new list.new ≡ told (length answer.old) (sending (length list.old) effects.now) }
 {
     let a = telegrams::telegrams(effects, list);
@@ -214,13 +204,7 @@ pub extern "C" fn cerambiu_telegrams(effects: &[u32], list: &mut [u32], answer: 
     telegram_number(a)
 }
 
-#[unsafe(no_mangle)]
-pub extern "C" fn cerambiu_crontab(
-    line: &[u8],
-    sunday: u32,
-    triggers: &mut [u32],
-    answer: &mut [u32],
-) -> u32
+pub fn cerambiu_crontab(line: &[u8], sunday: u32, triggers: &mut [u32], answer: &mut [u32]) -> u32
     ensures { tells result answer.new triggers.new ≡ told (length answer.old) (crontab line.now sunday (length triggers.old)) }
 {
     let a = crontab::read(line, sunday, triggers);
@@ -229,8 +213,7 @@ pub extern "C" fn cerambiu_crontab(
 }
 
 // Asks no store: what an image needs, before it is loaded.
-#[unsafe(no_mangle)]
-pub extern "C" fn cerambiu_room(image: &[u32], answer: &mut [u32]) -> u32
+pub fn cerambiu_room(image: &[u32], answer: &mut [u32]) -> u32
     ensures { tells result answer.new [] ≡ told (length answer.old) (room_for image.now) }
 {
     let a = room::room_for(image);

@@ -22,9 +22,9 @@ use Rattle.play.specs.Played.{Stands, Follows, Reads, Lends, words_in, bytes_in,
 use Rattle.play.proofs.Cutting.{whole-there}
 use Rattle.play.proofs.Saying.{obeyed-said}
 
-pub begins-there : (line w out : List ℕ) (c : Cut) (t : Settings) → Holds line c [] → t ≡ beginning
-    → Stands line (record { line = 0; cut = c; settings = t; output = record { at = 0; «open» = true } }) w out (begins w)
-begins-there line w out c t h e = record { number = refl; text = h; settings = e; store = refl; gone = []; printed = refl }
+pub begins-there : (line w out : List ℕ) (c : Cut) (t : Settings) (o : Stream) → Holds line c [] → t ≡ beginning → o.at ≡ 0
+    → Stands line (record { line = 0; cut = c; settings = t; output = o }) w out (begins w)
+begins-there line w out c t o h e i = record { number = refl; text = h; settings = e; store = refl; gone = []; printed = rw i refl }
 
 -- what stands in the buffer goes out
 pub goes-out : (line w out : List ℕ) (s : Session) (r : Stream) (p : Play) → r.at ≡ 0 → Stands line s w out p

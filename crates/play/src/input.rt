@@ -5,6 +5,7 @@ ghost use Rattle.play.specs.Played.{Stands, Follows, words_in, room_of};
 
 use crate::{Session, Settings, Stream, calls, lines};
 use script::Line;
+use std::io::Stdout;
 
 // What calls are lent where a script has said nothing of it.
 fn settings() -> Settings
@@ -17,14 +18,18 @@ fn settings() -> Settings
     }
 }
 
-pub fn begin() -> Session
+pub fn begin(to: Stdout) -> Session
     ensures { (line w out : List ℕ) → Stands line result w out (begins w) }
 {
     Session {
         line: 0,
         cut: lines::empty(),
         settings: settings(),
-        output: Stream { at: 0, open: true },
+        output: Stream {
+            at: 0,
+            open: true,
+            to,
+        },
     }
 }
 

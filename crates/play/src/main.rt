@@ -10,6 +10,8 @@ mod output;
 ghost use Rattle.std.specs.Prelude.{ℕ, ◌≤◌, length, List};
 ghost use Rattle.play.specs.Played.{Follows, Reads, room_of};
 
+use std::io::{Read, Stdin, Stdout};
+
 // The bytes of a line that are in the buffer, and whether the line is too long for it.
 #[derive(Clone, Copy)]
 pub struct Cut {
@@ -33,11 +35,12 @@ pub struct Columns {
     pub shown: usize,
 }
 
-// The output: bytes that are gathered, and whether it is still open.
+// The output: bytes that are gathered, whether it is still open, and where they go.
 #[derive(Clone, Copy)]
 pub struct Stream {
     pub at: usize,
     pub open: bool,
+    pub to: Stdout,
 }
 
 // Where a script stands: lines ended, the line that is being read, what is lent, the output.
@@ -51,7 +54,7 @@ pub struct Session {
 
 // The store has a word to spare, so that a call on one that is too long can be tried. The words for effects also serve a call that answers into
 // a store of its own: nothing of them is kept from call to call.
-fn main() {
+fn main(rt: HostRuntime) {
     let mut line = [0u8; 262144];
     let mut list = [0u32; 8192];
     let mut store = [0u32; 16385];
@@ -60,7 +63,8 @@ fn main() {
     let mut out = [0u8; 65536];
     calls::begin(&mut store);
     play(
-        input::begin(),
+        rt.stdin(),
+        input::begin(rt.stdout()),
         &mut line,
         &mut list,
         &mut store,
@@ -73,6 +77,7 @@ fn main() {
 // A proved loop has to end, and nothing says that the input does. So the loop counts its turns down, from a number that no run uses
 // up.
 fn play(
+    from: Stdin,
     s: Session,
     line: &mut [u8],
     list: &mut [u32],
@@ -91,13 +96,14 @@ fn play(
             return t;
         }
         turns -= 1;
-        t = read_some(t, line, list, store, outcomes, effects, out);
+        t = read_some(from, t, line, list, store, outcomes, effects, out);
     }
     t
 }
 
-// Reads once, plays what came, and writes the answers out. The end of the input ends its last line.
+// Reads once, plays what came, and writes the answers out. The end of the input ends its last line, and so does a read that fails.
 fn read_some(
+    mut from: Stdin,
     s: Session,
     line: &mut [u8],
     list: &mut [u32],
@@ -109,9 +115,8 @@ fn read_some(
     requires { 1024 ≤ length out.old }
     ensures { Reads (room_of line.old list.old outcomes.old effects.old) line.old s store.old out.old line.new result store.new out.new }
 {
-    let mut bytes = io::large_buffer();
-    let got = libc::read(0, &mut bytes);
-    let n = io::count(got, &bytes);
+    let mut bytes = [0u8; 65536];
+    let n = from.read(&mut bytes).unwrap_or(0);
     if n == 0 {
         let t = input::end_line(s, line, list, store, outcomes, effects, out);
         return write_out(t, out, false);
@@ -127,8 +132,8 @@ fn write_out(s: Session, out: &[u8], goes_on: bool) -> Session
     let o = output::flush(s.output, out);
     Session {
         output: Stream {
-            at: o.at,
             open: o.open && goes_on,
+            ..o
         },
         ..s
     }

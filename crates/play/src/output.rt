@@ -7,7 +7,6 @@ ghost use Rattle.play.specs.Printed.{words_at};
 ghost use Rattle.play.specs.Gathered.{Gathers};
 
 use crate::Stream;
-use libc::STDOUT_FILENO;
 use script::{Wrong, complain, put};
 
 fn within(n: usize, bytes: &[u8]) -> usize
@@ -21,11 +20,11 @@ pub fn flush(o: Stream, out: &[u8]) -> Stream
     ensures { result.at ≡ 0 }
 {
     if !o.open {
-        return Stream { at: 0, open: false };
+        return Stream { at: 0, ..o };
     }
     let n = within(o.at, out);
-    let open = io::write_all(STDOUT_FILENO, &out[..n]);
-    Stream { at: 0, open }
+    let open = o.to.write_all(&out[..n]).is_ok();
+    Stream { at: 0, open, ..o }
 }
 
 // Room for a piece.
