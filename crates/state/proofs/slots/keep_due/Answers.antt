@@ -1,4 +1,5 @@
 -- `state::slots::keep_due` meets its contract. The invariant is `Closing`: the slots kept stand in front, those not looked at
+-- are as they came. Assumes nothing.
 use Prim.Native.Nat.{◌-◌}
 use native.Mathlib.Omega.{arith}
 use borrow.Author.Rules.{rules}

@@ -1,0 +1,7 @@
+-- `cerambiu::cerambiu_next_deadline` meets its contract. Assumes nothing.
+use Rattle.cerambiu.proofs.Seeing.{told}
+use Rattle.cerambiu.proofs.cerambiu_next_deadline.Goals as goal
+
+pub returns : goal.returns
+returns c =
+    told _ _ _ _ _ _ _ _ c.next_deadline.ensures c.put_answer.ensures.0 c.put_answer.ensures.1
