@@ -3,7 +3,7 @@
  * that says what starts next by the wall clock, one that makes of a tick's effects the list to be sent on the bus, one that reads a line of a
  * crontab into triggers, and one that tells how much room an image needs.
  *
- * Link target/staticlib/libcerambiu.a (`.ci/build` writes it; 90 KiB of code and constants). The library keeps nothing between calls, allocates
+ * Link target/staticlib/libcerambiu.a (`.ci/build` writes it; 74 KiB of code and constants). The library keeps nothing between calls, allocates
  * nothing, reads no clock, calls nothing but memcpy, memmove and memset, and every call returns. All that it remembers of a house is in one store
  * of 16,384 words, which the caller keeps.
  *
@@ -14,8 +14,8 @@
  *             Stores of one call do not overlap. A store that is not const is written within its words only. A text is a pointer and its number of
  *             bytes.
  *   threads   Two calls may run at once if they share no store that either of them writes.
- *   stack     In bytes, at most, for every input, on x86-64: tick 29,432, load 25,000, run 24,440, next_deadline 24,376, enable 24,360,
- *             unload 24,344, counters 19,160, next_start 19,160, room 18,808, crontab 616, telegrams 88, new 40. The gate computes them from the machine code. The return address is in;
+ *   stack     In bytes, at most, for every input, on x86-64: tick 27,448, load 23,240, run 22,520, enable 22,392, next_deadline 22,360,
+ *             unload 22,328, counters 17,176, next_start 17,144, room 16,776, crontab 568, telegrams 104, new 56. The gate computes them from the machine code. The return address is in;
  *             not in: what memcpy, memmove and memset use, the arguments that the caller pushes, the dynamic linker, interrupts
  *             (docs/PERFORMANCE.md, "Stack").
  *   refusals  Each call returns 0, or the number of a refusal: the lowest that applies. A refused call has changed nothing: the store is as
