@@ -1,21 +1,20 @@
 -- The line that is being read, byte by byte. Assumes nothing.
-use mathlib.Core.Path.{◌≡◌, refl, sym, ap, ◌∙◌}
-use mathlib.Core.Bool.{Bool, true, false}
+use mathlib.Core.Path.{◌≡◌, sym, ap, ◌∙◌}
+use mathlib.Core.Bool.{true, false}
 use mathlib.Core.List.{List, [], ◌∷◌, ◌++◌}
-use Prim.Native.Nat.{ℕ, suc, ◌+◌, ◌≤◌, ◌<◌, min, zero-le}
+use Prim.Native.Nat.{ℕ, ◌+◌, ◌≤◌, ◌<◌, min, zero-le}
 use native.Mathlib.Numerals.{add-one}
 use native.Mathlib.Omega.{arith}
 use borrow.Author.Tests.{lt-ltb, le-ltb, ltb-false}
-use lib.Dec.{ltb}
 use lib.ListN.{length, take, set, length-set, length-take, length-append}
 use lib.Seq.{take-nil, take_all, take-append-le, take-suc-set}
 use Rattle.script.specs.Table.{rows}
-use Rattle.script.specs.Script.{Parsed, plain, parse}
+use Rattle.script.specs.Script.{parse}
 use Rattle.script.specs.Scan.{Parses}
 use Rattle.script.specs.declared.Line.{Line}
 use Rattle.script.specs.declared.Line.TheVariants.{Bad}
 use Rattle.script.specs.declared.Wrong.TheVariants.{LineTooLong}
-use Rattle.script.proofs.Reading.{plainly, parses-by}
+use Rattle.script.proofs.Reading.{plainly}
 use Rattle.play.specs.declared.Cut.{Cut}
 use Rattle.play.specs.Cut.{Holds}
 use Rattle.play.specs.Playing.{Room, said}

@@ -1,6 +1,5 @@
 -- Where a script stands, and how it comes on. Assumes nothing.
 use mathlib.Core.Path.{◌≡◌, refl, sym, ap, ◌∙◌, subst}
-use mathlib.Core.Bool.{true}
 use mathlib.Core.List.{List, [], ◌∷◌, ◌++◌, append-nil, append_assoc}
 use Prim.Native.Nat.{ℕ, ◌+◌, ◌-◌, ◌<◌, ◌≤◌, min}
 use native.Mathlib.Numerals.{add-one}
@@ -8,7 +7,6 @@ use borrow.Author.Tests.{eq-eqb, ne_eqb, ltb-false}
 use lib.ListN.{length, get_or, take, drop}
 use lib.Seq.{take-suc, take_all}
 use Rattle.words.specs.Saturating.{saturating_add, max64}
-use Rattle.script.specs.Script.{Parsed}
 use Rattle.script.specs.Scan.{part, Parses, over}
 use Rattle.script.specs.declared.Line.{Line}
 use Rattle.play.specs.declared.Cut.{Cut}
@@ -16,8 +14,8 @@ use Rattle.play.specs.declared.Settings.{Settings}
 use Rattle.play.specs.declared.Stream.{Stream}
 use Rattle.play.specs.declared.Session.{Session}
 use Rattle.play.specs.Cut.{Holds}
-use Rattle.play.specs.Gathered.{Gathers, Does}
-use Rattle.play.specs.Playing.{Play, Room, Obeyed, obeyed, settings_after, said, line_ends, byte_comes, bytes_come, beginning, begins}
+use Rattle.play.specs.Gathered.{Does}
+use Rattle.play.specs.Playing.{Play, Room, obeyed, settings_after, said, line_ends, byte_comes, bytes_come, beginning, begins}
 use Rattle.play.specs.Played.{Stands, Follows, Reads, Lends, words_in, bytes_in, room_of}
 use Rattle.play.proofs.Cutting.{whole-there}
 use Rattle.play.proofs.Saying.{obeyed-said}

@@ -1,0 +1,9 @@
+-- `play::calls::new` meets its contract. Assumes nothing.
+use mathlib.Core.Path.{refl}
+use Rattle.cerambiu.specs.Called.{called}
+use Rattle.play.proofs.Calling.{does-done}
+use Rattle.play.proofs.calls.new.Goals as goal
+
+pub returns : goal.returns
+unfolding called
+returns c = does-done _ _ _ _ c.within-n.ensures _ c.cerambiu_new-number.ensures _ _ _ _ (λ y. refl) c.done.ensures

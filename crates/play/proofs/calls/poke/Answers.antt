@@ -1,0 +1,7 @@
+-- `play::calls::poke` meets its contract. Assumes nothing.
+use mathlib.Core.Path.{sym}
+use lib.Seq.{set_out}
+use Rattle.play.proofs.calls.poke.Goals as goal
+
+pub returns-else-i-store : goal.returns-else-i-store
+returns-else-i-store c = sym (set_out _ _ _ c.if-i-store.false)
