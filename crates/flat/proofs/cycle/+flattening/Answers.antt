@@ -184,13 +184,9 @@ flatten_call-returns t c =
 pub flatten_list-loop-i-init : goal.flatten_list-loop-i-init
 flatten_list-loop-i-init t c = (at_first _, refl)
 
-pub flatten_list-returns-then-n-ge256 : goal.flatten_list-returns-then-n-ge256
-flatten_list-returns-then-n-ge256 t c =
-    full c.loop-i.invariant.0 c.requires.count_in_bounds c.loop-i-test.true c.if-n-ge256.true _ c.put.ensures
-
 pub flatten_list-returns-then-left-eq0 : goal.flatten_list-returns-then-left-eq0
 flatten_list-returns-then-left-eq0 t c =
-    refused c.loop-i.invariant.0 c.requires.count_in_bounds c.loop-i-test.true c.if-n-ge256.false (omega (arith, c.if-left-eq0.true))
+    refused c.loop-i.invariant.0 c.requires.count_in_bounds c.loop-i-test.true (omega arith) (omega (arith, c.if-left-eq0.true))
 
 pub flatten_list-flatten_action-requires : goal.flatten_list-flatten_action-requires
 flatten_list-flatten_action-requires t c =
@@ -200,26 +196,30 @@ flatten_list-flatten_action-requires t c =
     let some : a.count ≡ 0 → ⊥ = λ e. omega (arith, l.0.from, c.loop-i-test.true) in (
       omega (arith, left_is a.count (length a.acts.now / 8 - a.first) some, c.decreases, q.count_in_bounds, l.0.from, c.loop-i-test.true),
       (
-        start-next q.start l.1 (omega (arith, c.if-n-ge256.false)) (omega (arith, l.0.less)) (omega (arith, l.0.few')),
-        (omega (arith, q.count_in_bounds, c.loop-i-test.true), c.if-n-ge256.false),
+        start-next q.start l.1 (omega arith) (omega (arith, l.0.less)) (omega (arith, l.0.few')),
+        (omega (arith, q.count_in_bounds, c.loop-i-test.true), omega arith),
       ),
     )
 
 pub flatten_list-returns-in_default : goal.flatten_list-returns-in_default
 flatten_list-returns-in_default t c =
     let r = rw c.in_default.is at c.flatten_action.ensures in
-    refused c.loop-i.invariant.0 c.requires.count_in_bounds c.loop-i-test.true c.if-n-ge256.false (omega (arith, r, c.if-left-eq0.false))
+    refused c.loop-i.invariant.0 c.requires.count_in_bounds c.loop-i-test.true (omega arith) (omega (arith, r, c.if-left-eq0.false))
 
 pub flatten_list-loop-i-preserved : goal.flatten_list-loop-i-preserved
 flatten_list-loop-i-preserved t c =
     let f = c.flatten_action in (
-      next c.loop-i.invariant.0 c.requires.count_in_bounds c.loop-i-test.true c.if-n-ge256.false c.if-left-eq0.false f.auto.list f.auto.bodies
+      next c.loop-i.invariant.0 c.requires.count_in_bounds c.loop-i-test.true (omega arith) c.if-left-eq0.false f.auto.list f.auto.bodies
           (rw c.in-Done.is at f.ensures),
       f.auto.body ∙ c.loop-i.invariant.1,
     )
 
 pub flatten_list-returns : goal.flatten_list-returns
 flatten_list-returns t c = finished c.loop-i.invariant.0 c.requires.count_in_bounds (λ h. omega (arith, c.loop-i-test.false))
+
+pub flatten_list-returns-then-n-ge256 : goal.flatten_list-returns-then-n-ge256
+flatten_list-returns-then-n-ge256 t c =
+    full c.loop-i.invariant.0 c.requires.count_in_bounds c.loop-i-test.true c.if-n-ge256.true _ c.put.ensures
 
 -- A REPEAT --------------------------------------------------------------------------------------------------------------------------
 pub flatten_repeat-returns-then-repeat_fails : goal.flatten_repeat-returns-then-repeat_fails
