@@ -3,7 +3,7 @@ use Prim.Native.Nat.{ℕ}
 use mathlib.Core.Path.{◌≡◌, refl, ap, subst, ◌∙◌}
 use mathlib.Core.Bool.{Bool, true, false, false≢true, true≢false}
 use mathlib.Core.List.{List, [], ◌∷◌}
-use mathlib.Core.Option.{some}
+use Rattle.std.specs.Prelude.{Some}
 use Rattle.model.specs.Activate as model
 use Rattle.model.specs.Actions as actions
 use Rattle.model.specs.Dry.{run_steps_dry}
@@ -114,11 +114,11 @@ module _ (snapshot image part : List ℕ) (own i : ℕ) (c : Pending) (x : Carri
   abbrev counted : Rest
   counted = bump continuations_fired (meaning x.vol).rest
 
-  is-resumed : rule_named image c.rule ≡ some i → (flat : List (List FlatStep)) → resumed_run flat (with_rest counted (meaning x.vol)) ≡ model.resume (env_of snapshot image flat) c (meaning x.vol)
+  is-resumed : rule_named image c.rule ≡ Some i → (flat : List (List FlatStep)) → resumed_run flat (with_rest counted (meaning x.vol)) ≡ model.resume (env_of snapshot image flat) c (meaning x.vol)
   unfolding model.resume model.job_of model.numbered
   is-resumed h flat = rw h
 
-  pub resumes : (j : Job) → j ≡ resumed_job → rule_named image c.rule ≡ some i → Changes x.vol counted w → RunsWet snapshot image part own j c.point c.budget (with_vol w x) ow ew r ow' ew'
+  pub resumes : (j : Job) → j ≡ resumed_job → rule_named image c.rule ≡ Some i → Changes x.vol counted w → RunsWet snapshot image part own j c.point c.budget (with_vol w x) ow ew r ow' ew'
       → Resumes snapshot image part own i c x ow ew r ow' ew'
   resumes j e named a h =
       same-handles part own i _ _ x ow ew r ow' ew' (is-resumed named)

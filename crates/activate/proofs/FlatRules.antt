@@ -22,9 +22,9 @@ use Rattle.exec.specs.Lists.{FlatWords, is_near}
 use Rattle.activate.proofs.NearSteps.{rule-near}
 
 -- a rule of the set, or past the last one a rule without steps
-module _ (p : Flattened → Type 0) (none : p no_steps) where
+module _ (p : Flattened → Type 0) (None : p no_steps) where
   one_of : (f : ℕ → Flattened) → ((j : ℕ) → p (f j)) → (js : List ℕ) (i : ℕ) → p (get_or (map f js) i no_steps)
-  one_of f h [] i = none
+  one_of f h [] i = None
   one_of f h (j ∷ js) zero = h j
   one_of f h (j ∷ js) (suc i) = one_of f h js i
 

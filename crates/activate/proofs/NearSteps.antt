@@ -5,7 +5,8 @@ use mathlib.Core.Path.{◌≡◌, refl, sym, ◌∙◌}
 use mathlib.Core.Bool.{Bool, true, false, ◌&&◌, false≢true}
 use mathlib.Core.List.{List, [], ◌∷◌, ◌++◌}
 use lib.Dec.{leb}
-use lib.ListN.{length, get_elem?, length-append, length-map}
+use lib.ListN.{length, length-append, length-map}
+use Rattle.std.specs.Prelude.{slice_get}
 use borrow.Author.Tests.{le-leb, leb-true}
 use Rattle.model.specs.Flat.{Flattened, no_steps, again, within_after, within_repeat, copies, flatten_after, flatten_repeat, flatten_branch, flatten_rule, body_in, list_in}
 use Rattle.model.specs.Lists.{all}
@@ -123,7 +124,7 @@ near-closed =
     }
 
 -- EVERY LIST OF A RULE --------------------------------------------------------------------------------------------------------------------
-body_near : (k : ℕ) (xs : List FlatStep) (p : ℕ) → all (within k) xs ≡ true → all (reaches k) (body_in (get_elem? xs p)) ≡ true
+body_near : (k : ℕ) (xs : List FlatStep) (p : ℕ) → all (within k) xs ≡ true → all (reaches k) (body_in (slice_get xs p)) ≡ true
 body_near k [] p h = refl
 body_near k (x ∷ xs) zero h = (both (reaches k x.step) (all (reaches k) x.body) (both (within k x) (all (within k) xs) h).0).1
 body_near k (x ∷ xs) (suc p) h = body_near k xs p (both (within k x) (all (within k) xs) h).1

@@ -4,7 +4,7 @@ use native.Mathlib.Omega.{arith}
 use mathlib.Core.Path.{◌≡◌, refl, sym, ap, subst, ◌∙◌}
 use mathlib.Core.Bool.{Bool, true, false, not}
 use mathlib.Core.List.{List, [], ◌∷◌, append-nil}
-use mathlib.Core.Option.{some}
+use Rattle.std.specs.Prelude.{Some}
 use lib.ListN.{length, get_or, set}
 use borrow.Author.Tests.{eq-eqb, ne_eqb, not-true, not-false}
 use Rattle.model.specs.Activate as model
@@ -134,7 +134,7 @@ module _ (w : List ℕ) (dry : Bool) where
 
 -- an activation is counted, and then its time kept
 abbrev keep_time : ℕ → ℕ → model-state.Volatile → model-state.Volatile
-keep_time i now v = with_rest (with_last_activation (set v.rest.last_activation i (some now)) v.rest) v
+keep_time i now v = with_rest (with_last_activation (set v.rest.last_activation i (Some now)) v.rest) v
 
 abbrev add_to : ℕ → ℕ → model-state.Volatile → model-state.Volatile
 add_to k n v = with_rest (bump_by k n v.rest) v

@@ -1,6 +1,6 @@
 -- An execution, in the specification's terms.
 use Rattle.std.specs.Prelude.{ℕ, suc, ◌+◌, ◌≤◌, ◌≡◌, Bool, cond, List, [], ◌∷◌, length, set}
-use Rattle.std.proofs.Math.Option.{some}
+use Rattle.std.specs.Prelude.{Some}
 use Rattle.words.specs.Saturating.{max32}
 use Rattle.model.specs.Activate as model
 use Rattle.model.specs.Activate.{with_number}
@@ -37,7 +37,7 @@ numbered_job n j = record { rule = j.rule; index = j.index; hold = j.hold; trigg
 abbrev pub begun_in : List ℕ → Job → model-state.Volatile → model-state.Volatile
 begun_in snapshot j v =
     let s = v.rest in
-    with_number (suc v.last_number) (with_rest (with_last_activation (set s.last_activation j.index (some (world_of snapshot).now)) (bump activations_total s)) v)
+    with_number (suc v.last_number) (with_rest (with_last_activation (set s.last_activation j.index (Some (world_of snapshot).now)) (bump activations_total s)) v)
 
 abbrev pub Starts : List ℕ → Job → List ℕ → List ℕ → Job → Type 0
 Starts snapshot j w r begun = Means r (base w) (begun_in snapshot j (meaning w)) × (begun ≡ numbered_job (next_number (meaning w).last_number) j)

@@ -7,7 +7,7 @@ mod execute;
 mod outcomes;
 
 ghost use Rattle.std.specs.Prelude.{◌≡◌, ◌≤◌, ◌<◌};
-ghost use Rattle.std.proofs.Math.Option.{some};
+ghost use Rattle.std.specs.Prelude.{Some};
 ghost use Rattle.model.specs.Image.{size_of};
 ghost use Rattle.model.specs.Rows.{rules};
 ghost use Rattle.model.specs.Rules.{rule_named, hold_hcl_of};
@@ -124,7 +124,7 @@ pub fn resume(
     i: u32,
     c: Pending,
 ) -> Handled
-    requires accepted { Accepted image.now × FlatWords part.now own × (rule_named image.now c.rule ≡ some i) }
+    requires accepted { Accepted image.now × FlatWords part.now own × (rule_named image.now c.rule ≡ Some i) }
     requires budget_bound { (c.budget ≤ 256) × Room 1 (carried v.old x) }
     ensures { Resumes snapshot.now image.now part.now own i c (carried v.old x) outcomes.old effects.old (carried v.new result) outcomes.new effects.new }
 {

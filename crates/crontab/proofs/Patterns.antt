@@ -2,7 +2,7 @@
 use mathlib.Core.Path.{◌≡◌, refl, sym, ◌∙◌}
 use mathlib.Core.Bool.{Bool, true, false, cond, not, ◌&&◌, and-false}
 use mathlib.Core.List.{List, [], ◌∷◌}
-use mathlib.Core.Option.{Option, none, some}
+use Rattle.std.specs.Prelude.{Option, None, Some}
 use mathlib.Core.Logic.{⊎_elim}
 use native.Mathlib.Nat.{eq-or-lt_of_le}
 use Prim.Native.Nat.{ℕ, suc, ◌+◌, ◌-◌, ◌≤◌, ◌<◌, min}
@@ -136,12 +136,12 @@ fails-second s t r e q = rw (q, and-false)
 pub range_small : (lo hi : ℕ) (a b : Option ℕ) → hi < 100
     → cond (leb lo (small a) && (leb (small a) (small b) && leb (small b) hi)) (Range (small a) (small b)) Malformed ≡ range_of lo hi a b
 unfolding range_of
-range_small lo hi a none h = go a
+range_small lo hi a None h = go a
   where
-    go : (a : Option ℕ) → cond (leb lo (small a) && (leb (small a) 100 && leb 100 hi)) (Range (small a) 100) Malformed ≡ range_of lo hi a none
-    go none = fails-last (leb lo 100) (leb 100 100) (leb 100 hi) (Range 100 100) (lt-leb 100 hi h)
-    go (some n) = fails-last (leb lo (min n 100)) (leb (min n 100) 100) (leb 100 hi) (Range (min n 100) 100) (lt-leb 100 hi h)
-range_small lo hi none (some m) h = go (leb 100 m) refl
+    go : (a : Option ℕ) → cond (leb lo (small a) && (leb (small a) 100 && leb 100 hi)) (Range (small a) 100) Malformed ≡ range_of lo hi a None
+    go None = fails-last (leb lo 100) (leb 100 100) (leb 100 hi) (Range 100 100) (lt-leb 100 hi h)
+    go (Some n) = fails-last (leb lo (min n 100)) (leb (min n 100) 100) (leb 100 hi) (Range (min n 100) 100) (lt-leb 100 hi h)
+range_small lo hi None (Some m) h = go (leb 100 m) refl
   where
     go : (t : Bool) → leb 100 m ≡ t → cond (leb lo 100 && (leb 100 (min m 100) && leb (min m 100) hi)) (Range 100 (min m 100)) Malformed ≡ Malformed
     go true e =
@@ -150,7 +150,7 @@ range_small lo hi none (some m) h = go (leb 100 m) refl
     go false e =
         let q : min m 100 < 100 = omega (arith, leb-false 100 m e) in
         fails-second (leb lo 100) (leb 100 (min m 100)) (leb (min m 100) hi) (Range 100 (min m 100)) (lt-leb 100 (min m 100) q)
-range_small lo hi (some n) (some m) h = go (leb 100 m) (leb 100 n) refl refl
+range_small lo hi (Some n) (Some m) h = go (leb 100 m) (leb 100 n) refl refl
   where
     go : (t u : Bool) → leb 100 m ≡ t → leb 100 n ≡ u
         → cond (leb lo (min n 100) && (leb (min n 100) (min m 100) && leb (min m 100) hi)) (Range (min n 100) (min m 100)) Malformed ≡ cond (leb lo n && (leb n m && leb m hi)) (Range n m) Malformed

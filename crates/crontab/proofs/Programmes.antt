@@ -1,7 +1,7 @@
 -- The table of an accepted line is the line's programme. Assumes nothing.
 use mathlib.Core.Path.{◌≡◌, refl, sym, ap, ◌∙◌}
 use mathlib.Core.Bool.{Bool, true, false, cond, not, ◌&&◌, ◌||◌, false≢true}
-use mathlib.Core.Option.{Option, none, some}
+use Rattle.std.specs.Prelude.{Option, None, Some}
 use mathlib.Core.List.{List, [], ◌∷◌, ◌++◌, map, append_assoc}
 use Prim.Native.Nat.{ℕ, zero, suc, ◌+◌, ◌*◌, ◌-◌, ◌/◌, ◌%◌, ◌≤◌, ◌<◌}
 use native.Mathlib.Nat.{div-add-mod, mod-lt}
@@ -95,7 +95,7 @@ wheel-any e w ds [] = refl
 wheel-any e w ds (t ∷ ts) = go (minute_due (minute_before w) 1 ds (t / 60 * 60 + t % 60)) (wheel-any e w ds ts)
   where
     go : (b : Bool) → present (due_wall_kind e (minute_before w) 1 (map (at_minute ds) ts)).kind ≡ any (due_at w) (map (at_minute ds) ts)
-        → present (elim b as (λ x. WallKind) [ true ↦ record { kind = some by_time; unsynced = false } | false ↦ due_wall_kind e (minute_before w) 1 (map (at_minute ds) ts) ]).kind ≡ b || any (due_at w) (map (at_minute ds) ts)
+        → present (elim b as (λ x. WallKind) [ true ↦ record { kind = Some by_time; unsynced = false } | false ↦ due_wall_kind e (minute_before w) 1 (map (at_minute ds) ts) ]).kind ≡ b || any (due_at w) (map (at_minute ds) ts)
     go true h = refl
     go false h = h
 
@@ -150,9 +150,9 @@ range-in lo hi a b false p q e h = let z : ◌≡◌ {A = ℕ} 0 1 = cc in absur
 
 range-bounds : (lo hi a b : ℕ) (p q : Option ℕ) → range_of lo hi p q ≡ Range a b → (a ≤ b) × (b ≤ hi)
 unfolding range_of
-range-bounds lo hi a b none q e = let z : ◌≡◌ {A = ℕ} 0 1 = cc in absurd (omega arith)
-range-bounds lo hi a b (some p) none e = let z : ◌≡◌ {A = ℕ} 0 1 = cc in absurd (omega arith)
-range-bounds lo hi a b (some p) (some q) e = range-in lo hi a b (leb lo p && (leb p q && leb q hi)) p q refl e
+range-bounds lo hi a b None q e = let z : ◌≡◌ {A = ℕ} 0 1 = cc in absurd (omega arith)
+range-bounds lo hi a b (Some p) None e = let z : ◌≡◌ {A = ℕ} 0 1 = cc in absurd (omega arith)
+range-bounds lo hi a b (Some p) (Some q) e = range-in lo hi a b (leb lo p && (leb p q && leb q hi)) p q refl e
 
 element-bounds : (lo hi a b : ℕ) (s : List ℕ) → element_of lo hi s ≡ Range a b → (a ≤ b) × (b ≤ hi)
 unfolding element_of

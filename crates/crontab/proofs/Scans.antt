@@ -2,7 +2,7 @@
 use mathlib.Core.Path.{◌≡◌, refl, sym, ap, ◌∙◌}
 use mathlib.Core.Bool.{Bool, true, false, cond, ◌||◌}
 use mathlib.Core.List.{List, [], ◌∷◌}
-use mathlib.Core.Option.{none, some}
+use Rattle.std.specs.Prelude.{None, Some}
 use Prim.Native.Nat.{ℕ, suc, ◌+◌, ◌-◌, ◌≤◌, ◌<◌}
 use native.Mathlib.Numerals.{add-one}
 use native.Mathlib.Omega.{arith}
@@ -88,7 +88,7 @@ unfolding number_of
 number-empty [] h = refl
 number-empty (b ∷ bs) h = absurd (omega arith)
 
-number-some : (l : List ℕ) → (length l ≡ 0 → ⊥) → number_of l ≡ cond (all is_digit l) (some (value_from 0 l)) none
+number-some : (l : List ℕ) → (length l ≡ 0 → ⊥) → number_of l ≡ cond (all is_digit l) (Some (value_from 0 l)) None
 unfolding number_of
 number-some [] h = absurd (h refl)
 number-some (b ∷ bs) h = refl
@@ -104,7 +104,7 @@ unfolding argument_of
 small-read l h = rw (number-some l h) (go (all is_digit l) (leb (value_from 0 l) 99) refl)
   where
     go : (a b : Bool) → leb (value_from 0 l) 99 ≡ b
-        → small_of (pick_argument a (pick_argument b (Number (value_from 0 l)) TooLarge) NoNumber) ≡ small (cond a (some (value_from 0 l)) none)
+        → small_of (pick_argument a (pick_argument b (Number (value_from 0 l)) TooLarge) NoNumber) ≡ small (cond a (Some (value_from 0 l)) None)
     go true true e = omega (arith, leb-true (value_from 0 l) 99 e)
     go true false e = omega (arith, leb-false (value_from 0 l) 99 e)
     go false b e = refl

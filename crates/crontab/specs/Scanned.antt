@@ -1,6 +1,6 @@
 -- What the parts of the reader find.
 use Rattle.std.specs.Prelude.{ℕ, ◌+◌, ◌-◌, ◌*◌, ◌≤◌, ◌<◌, ◌≡◌, Bool, false, ◌&&◌, ◌||◌, List, [], ◌∷◌, min, ◌/◌, ◌%◌, eqb, length, take, drop, get_or}
-use Rattle.std.proofs.Math.Option.{Option, none, some}
+use Rattle.std.specs.Prelude.{Option, None, Some}
 use Rattle.std.proofs.lemmas.List.Edits.{sets}
 use Rattle.model.specs.Lists.{keep, up_from}
 use Rattle.model.specs.Field.{unless}
@@ -11,8 +11,8 @@ one_of a b x = eqb x a || eqb x b
 
 -- a number below 100, or 100 for another and for none
 abbrev pub small : Option ℕ → ℕ
-small none = 100
-small (some n) = min n 100
+small None = 100
+small (Some n) = min n 100
 
 abbrev pub part : List ℕ → ℕ → ℕ → List ℕ
 part s from to = take (to - from) (drop from s)

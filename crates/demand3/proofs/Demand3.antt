@@ -2,7 +2,7 @@
 use mathlib.Core.Path.{◌≡◌, refl, sym, ap, ap₂, ◌∙◌}
 use mathlib.Core.Bool.{true}
 use mathlib.Core.List.{List, [], ◌∷◌, map}
-use mathlib.Core.Option.{some}
+use Rattle.std.specs.Prelude.{Some}
 use Prim.Native.Nat.{ℕ, suc, ◌<◌, ◌^◌}
 use native.Mathlib.Omega.{arith}
 use borrow.Author.Tests.{le-leb, lt-ltb}
@@ -126,7 +126,7 @@ map-map f g [] = refl
 map-map f g (x ∷ xs) = ap (λ (l : List _). f (g x) ∷ l) (map-map f g xs)
 
 -- THE THEOREM -----------------------------------------------------------------------------------------------------------------------
-pub demand3-of-calls : (w : List ℕ) (s : Store) → read w ≡ some s → (xs : List AnyRun) → From w xs → Demand3OfCalls w s xs
+pub demand3-of-calls : (w : List ℕ) (s : Store) → read w ≡ Some s → (xs : List AnyRun) → From w xs → Demand3OfCalls w s xs
 demand3-of-calls w s e xs h =
     let cs = map call_of xs in
     let d = on-readable w s cs (list-in-words xs) e in

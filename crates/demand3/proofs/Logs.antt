@@ -3,7 +3,7 @@
 use mathlib.Core.Path.{◌≡◌, refl, sym, ap, ap₂, subst, ◌∙◌}
 use mathlib.Core.Bool.{true, not}
 use mathlib.Core.List.{List, [], ◌∷◌, map}
-use mathlib.Core.Option.{Option, none, some}
+use Rattle.std.specs.Prelude.{Option, None, Some}
 use Prim.Native.Nat.{ℕ}
 use native.Mathlib.Omega.{arith}
 use lib.Dec.{eqb}
@@ -37,8 +37,8 @@ new-words t w = by (eqb (length w) 16384) (λ e. rw e) (λ e. rw e)
 
 store_words : (c : Call) (w : List ℕ) (o : Option Store) → (on_store c o w).outcomes ≡ outcome_store (outcome_words_of c) (on_store c o w).answer
 unfolding result
-store_words c w none = refl
-store_words c w (some s) = refl
+store_words c w None = refl
+store_words c w (Some s) = refl
 
 call-words : (c : Call) (w : List ℕ) → (call_on c w).outcomes ≡ outcome_store (outcome_words_of c) (call_on c w).answer
 unfolding call_on

@@ -1,6 +1,6 @@
 -- Demand 3 of the eight functions: the claim about a list of their runs. It is proved as `demand3-of-calls` of proofs/Demand3.antt.
 use Rattle.std.specs.Prelude.{◌≡◌, List, [], ◌∷◌, map, ℕ}
-use Rattle.std.proofs.Math.Option.{some}
+use Rattle.std.specs.Prelude.{Some}
 use Rattle.model.specs.Calls.{Call, answers}
 use Rattle.model.specs.Answers.{number_of, values_of}
 use Rattle.model.specs.State.{Store}
@@ -25,7 +25,7 @@ pub record Demand3OfCalls (w : List ℕ) (s : Store) (xs : List AnyRun) : Type 0
   pub numbers : map (λ x. (shown_by x).number) xs ≡ map number_of (answers s (map call_of xs))
   pub values : map (λ x. (shown_by x).values) xs ≡ map values_of (answers s (map call_of xs))
   -- the words at the end say the store at the end
-  pub reads : read (last_words w xs) ≡ some (final_store s (map call_of xs))
+  pub reads : read (last_words w xs) ≡ Some (final_store s (map call_of xs))
   -- a call after them that shows the number of a refusal leaves the words as they were
   pub refused : (x : AnyRun) → before x ≡ last_words w xs → ((shown_by x).number ≡ 0 → ⊥) → after x ≡ before x
   -- all of demand 3 holds of the calls ..

@@ -2,7 +2,7 @@
 use mathlib.Core.Path.{◌≡◌, refl, sym, ap, ◌∙◌}
 use mathlib.Core.Bool.{Bool, true, false, cond, false≢true}
 use mathlib.Core.List.{List, []}
-use mathlib.Core.Option.{Option, none, some}
+use Rattle.std.specs.Prelude.{Option, None, Some}
 use Prim.Native.Nat.{ℕ, zero, suc}
 use native.Mathlib.Omega.{arith}
 use lib.Dec.{eqb}
@@ -31,15 +31,15 @@ module _ (w : List ℕ) (n other : ℕ) (q : n ≡ refusal_of (read w) w) where
   store-lowest z = go (read w) q
     where
       go : (o : Option Store) → n ≡ refusal_of o w → n ≡ lowest_of o w other
-      go none e = e
-      go (some s) e = absurd (z e)
+      go None e = e
+      go (Some s) e = absurd (z e)
 
   pub other-lowest : n ≡ 0 → (m : ℕ) → m ≡ other → m ≡ lowest_of (read w) w other
   other-lowest z m e = go (read w) (is_store w n q z)
     where
       go : (o : Option Store) → present o ≡ true → m ≡ lowest_of o w other
-      go none p = absurd (false≢true p)
-      go (some s) p = e
+      go None p = absurd (false≢true p)
+      go (Some s) p = e
 
 refuses : (b : Bool) → unless b 1 2 ≡ 0 → ⊥
 refuses true e = omega arith
@@ -51,9 +51,9 @@ module _ (w : List ℕ) (n other : ℕ) (q : n ≡ lowest_of (read w) w other) w
   asked-declined z k answer = go (read w) other q
     where
       go : (o : Option Store) (m : ℕ) → n ≡ lowest_of o w m → asked_of o w m k answer ≡ declined k n
-      go none m e = ap (declined k) (sym e)
-      go (some s) zero e = absurd (z e)
-      go (some s) (suc m) e = ap (declined k) (sym e)
+      go None m e = ap (declined k) (sym e)
+      go (Some s) zero e = absurd (z e)
+      go (Some s) (suc m) e = ap (declined k) (sym e)
 
   -- code that shows the number, and has cleared the words that it was lent
   pub shown-declined : (n ≡ 0 → ⊥) → (k : ℕ) (answer : Store → Asked) (values lent : List ℕ) → lent ≡ replicate k 0 → shown_asked n values lent ≡ asked w other k answer
@@ -67,12 +67,12 @@ module _ (w : List ℕ) (n other : ℕ) (q : n ≡ lowest_of (read w) w other) w
   asked-checked z = go (read w) (sym q ∙ z)
     where
       go : (o : Option Store) → lowest_of o w other ≡ 0 → (present o ≡ true) × (other ≡ 0)
-      go none e = absurd (refuses (eqb (length w) 16384) e)
-      go (some s) e = (refl, e)
+      go None e = absurd (refuses (eqb (length w) 16384) e)
+      go (Some s) e = (refl, e)
 
-pub asked-answered : (w : List ℕ) (s : Store) (k other : ℕ) (answer : Store → Asked) → read w ≡ some s → other ≡ 0 → asked w other k answer ≡ answer s
+pub asked-answered : (w : List ℕ) (s : Store) (k other : ℕ) (answer : Store → Asked) → read w ≡ Some s → other ≡ 0 → asked w other k answer ≡ answer s
 unfolding asked
-asked-answered w s k other answer e z = ap (λ (o : Option Store). asked_of o w other k answer) e ∙ ap (λ (m : ℕ). asked_of (some s) w m k answer) z
+asked-answered w s k other answer e z = ap (λ (o : Option Store). asked_of o w other k answer) e ∙ ap (λ (m : ℕ). asked_of (Some s) w m k answer) z
 
 -- OF THE EIGHT CALLS --------------------------------------------------------------------------------------------------------------------
 unchanged : (a : model.Answer) (s : Store) (w : List ℕ) → write s ≡ w → store_after a s w ≡ w
@@ -102,8 +102,8 @@ module _ (c : Call) (ow : outcome_words_of c ≡ 0) (ew : effect_words_of c ≡ 
     call_asks w on = ap seen on ∙ go (read w) refl
       where
         go : (o : Option Store) → read w ≡ o → seen (on_store c o w) ≡ seen_asked (asked_of o w 0 0 told) w
-        go none e = answer-seen (refused (store_refusal w)) w refl
-        go (some s) e =
+        go None e = answer-seen (refused (store_refusal w)) w refl
+        go (Some s) e =
             ap (λ (d : model.Done). seen (result c d.answer (store_after d.answer d.store w))) (is s)
             ∙ ap (λ (x : List ℕ). seen (result c (a s) x)) (unchanged (a s) s w (write_read w s e).written)
             ∙ answer-seen (a s) w (silent s)

@@ -2,7 +2,7 @@
 use mathlib.Core.Path.{◌≡◌, refl, sym, ap, ◌∙◌, subst}
 use mathlib.Core.Bool.{Bool, true, false}
 use mathlib.Core.List.{List, [], ◌∷◌, ◌++◌}
-use mathlib.Core.Option.{Option, none, some}
+use Rattle.std.specs.Prelude.{Option, None, Some}
 use Prim.Native.Nat.{ℕ, zero, suc, ◌+◌, ◌^◌, ◌≤◌, ◌<◌}
 use native.Mathlib.Omega.{arith}
 use lib.ListN.{length, get_or, drop, length-drop, length-map}
@@ -68,7 +68,7 @@ unfolding call_on
 unload-on t w = refl
 
 abbrev unloaded : ℕ → Store → Store
-unloaded t s = record { now = t; loaded = none; vol = cleared (rest_without s) s.vol }
+unloaded t s = record { now = t; loaded = None; vol = cleared (rest_without s) s.vol }
 
 unload-store : (t : ℕ) (s : Store) → (call (unload t) s).store ≡ unloaded t s
 unfolding call call_unload
@@ -79,7 +79,7 @@ unfolding call call_unload
 unload-answer t s = refl
 
 pub unload-seen : (t : ℕ) (w w₁ w₂ w₃ : List ℕ) (u : List ℕ) → t < 2 ^ 64 → (k : Said w) → AllNumbered u (cleared (rest_without k.store) k.store.vol)
-    → w₁ ≡ laid w set_place (loaded_part.put (loaded_of none)) → Wrote w₁ (meaning u) w₂ → w₃ ≡ laid w₂ 0 (wide.put t)
+    → w₁ ≡ laid w set_place (loaded_part.put (loaded_of None)) → Wrote w₁ (meaning u) w₂ → w₃ ≡ laid w₂ 0 (wide.put t)
     → shown Done w₃ [] [] ≡ seen (call_on (unload t) w)
 unload-seen t w w₁ w₂ w₃ u h k a e₁ e₂ e₃ =
     let s = k.store in
@@ -102,7 +102,7 @@ unfolding call_on
 load-on t img w = refl
 
 abbrev loaded_store : ℕ → List ℕ → Store → Store
-loaded_store t img s = record { now = t; loaded = some (set_of img (flatten_rules img)); vol = cleared (rest_with img t s) s.vol }
+loaded_store t img s = record { now = t; loaded = Some (set_of img (flatten_rules img)); vol = cleared (rest_with img t s) s.vol }
 
 load-call : (t : ℕ) (img : List ℕ) (s : Store) → image_refusal img ≡ 0 → call (load t img) s ≡ answered done (loaded_store t img s)
 unfolding call call_load image_refusal
@@ -110,7 +110,7 @@ load-call t img s e = ap (λ (n : ℕ). loading n t img (flatten_rules img) s) e
 
 pub load-seen : (t : ℕ) (img w w₁ w₂ w₃ : List ℕ) (u : List ℕ) → t < 2 ^ 64 → all is_word img ≡ true → image_refusal img ≡ 0 → (k : Said w)
     → AllNumbered u (cleared (rest_with img t k.store) k.store.vol)
-    → w₁ ≡ laid w set_place (loaded_part.put (loaded_of (some (set_of img (flatten_rules img))))) → Wrote w₁ (meaning u) w₂ → w₃ ≡ laid w₂ 0 (wide.put t)
+    → w₁ ≡ laid w set_place (loaded_part.put (loaded_of (Some (set_of img (flatten_rules img))))) → Wrote w₁ (meaning u) w₂ → w₃ ≡ laid w₂ 0 (wide.put t)
     → shown Done w₃ [] [] ≡ seen (call_on (load t img) w)
 load-seen t img w w₁ w₂ w₃ u h i r k a e₁ e₂ e₃ =
     let s = k.store in
@@ -177,7 +177,7 @@ pub enable-no : (rule : ℕ) (on : Bool) (w : List ℕ) (k : Said w) (r : Found)
     → shown (Enabled false) w [] [] ≡ seen (call_on (enable rule on) w)
 enable-no rule on w k r e n =
     let s = k.store in
-    let d = enable-call rule on s none (found_none (rule_in s.loaded rule) r e n) in
+    let d = enable-call rule on s None (found_none (rule_in s.loaded rule) r e n) in
     let a = enabled false in
     call-seen (enable rule on) w w [] [] s (Enabled false) a (enable-on rule on w) k.is (ap (λ (x : calls.Done). x.answer) d) (same-enabled false) (sym k.written ∙ sym (ap (λ (x : calls.Done). write x.store) d)) (no-outcomes 0 a refl) (no-effects 0 a refl)
 
@@ -186,15 +186,15 @@ pub enable-yes : (rule i : ℕ) (on : Bool) (w w₁ : List ℕ) (u : List ℕ) (
 enable-yes rule i on w w₁ u k r e n a h =
     let s = k.store in
     let v = flipped rule i on s.vol in
-    let d = enable-call rule on s (some i) (found_at (rule_in s.loaded rule) r i e n) in
+    let d = enable-call rule on s (Some i) (found_at (rule_in s.loaded rule) r i e n) in
     let q = volatile-written s v w w₁ k.keeps k.written (says-wrote u v w w₁ a h) in
     let b = enabled true in
     call-seen (enable rule on) w w₁ [] [] s (Enabled true) b (enable-on rule on w) k.is (ap (λ (x : calls.Done). x.answer) d) (same-enabled true) (q ∙ sym (ap (λ (x : calls.Done). write x.store) d)) (no-outcomes 0 b refl) (no-effects 0 b refl)
 
 -- COUNTERS ----------------------------------------------------------------------------------------------------------------------------------
 rules-loaded : (o : Option RuleSet) → rule_count o ≡ rules_loaded o
-rules-loaded none = refl
-rules-loaded (some set) = refl
+rules-loaded None = refl
+rules-loaded (Some set) = refl
 
 pub counters-are : (w : List ℕ) (s : Store) (c : Counters) (p t n q : ℕ) → ReadsAs w s → counters.counters_of c ≡ table_at any 12 w counters_place
     → p ≡ row_at any w pending_place → t ≡ row_at any w timers_place → n ≡ rule_count s.loaded → q ≡ row_at any w variables_place

@@ -2,7 +2,7 @@
 use mathlib.Core.Path.{◌≡◌, refl, sym, ap, ◌∙◌}
 use mathlib.Core.Bool.{Bool, true, false}
 use mathlib.Core.List.{List, []}
-use mathlib.Core.Option.{Option, none, some}
+use Rattle.std.specs.Prelude.{Option, None, Some}
 use Prim.Native.Nat.{ℕ}
 use Rattle.model.specs.World.{is_one}
 use Rattle.model.specs.Codec.{wide}
@@ -27,7 +27,7 @@ use Rattle.engine.proofs.WordLaws.{Said}
 use Rattle.engine.proofs.SetLaws.{loadable}
 use Rattle.engine.proofs.LoadedLaws.{no-set, loaded-image}
 
-module _ (w img : List ℕ) (s : Store) (e : read w ≡ some s) (i : Readable w → img ≡ (loaded_in w).image) where
+module _ (w img : List ℕ) (s : Store) (e : read w ≡ Some s) (i : Readable w → img ≡ (loaded_in w).image) where
   pub accepted-if : (b : Bool) → b ≡ is_one (loaded_in w).loaded → AcceptedIf b img
   accepted-if false q = tt
   accepted-if true q = (loadable img (loaded-image w img s e i (sym q)).passes).accepted
@@ -41,7 +41,7 @@ module _ (w img : List ℕ) (s : Store) (e : read w ≡ some s) (i : Readable w 
   set_is false q = record { flat = []; is = sym (no-set w s e (sym q)) }
   set_is true q =
       let l = loaded-image w img s e i (sym q) in
-      record { flat = l.set.flat; is = ap (λ (x : List ℕ). some (record { image = x; flat = l.set.flat })) (sym l.image) ∙ sym l.is }
+      record { flat = l.set.flat; is = ap (λ (x : List ℕ). Some (record { image = x; flat = l.set.flat })) (sym l.image) ∙ sym l.is }
 
   pub deadline-is : (b : Bool) (v : List ℕ) (last : ℕ) (t : Option ℕ) → b ≡ is_one (loaded_in w).loaded → last ≡ row_at wide w 0 → AllNumbered v s.vol
       → ((flat : List (List FlatStep)) → t ≡ next_deadline (store_of img b flat v last)) → t ≡ next_deadline s
@@ -53,8 +53,8 @@ module _ (w img : List ℕ) (s : Store) (e : read w ≡ some s) (i : Readable w 
 
 same-due : (t : Option ℕ) → Same (deadline_is t) (due t)
 unfolding number_of values_of answers.number_of answers.values_of
-same-due none = record { number = refl; values = refl }
-same-due (some t) = record { number = refl; values = refl }
+same-due None = record { number = refl; values = refl }
+same-due (Some t) = record { number = refl; values = refl }
 
 pub deadline-on : (w : List ℕ) → OnStore deadline w
 unfolding call_on

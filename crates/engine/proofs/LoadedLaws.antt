@@ -2,7 +2,8 @@
 use mathlib.Core.Path.{◌≡◌, refl, sym, ap, ◌∙◌, subst}
 use mathlib.Core.Bool.{true, false, false≢true}
 use mathlib.Core.List.{List}
-use mathlib.Core.Option.{Option, none, some, none-ne-some}
+use Rattle.std.specs.Prelude.{Option, None, Some}
+use Rattle.std.proofs.lemmas.Option.{none-some}
 use Prim.Native.Nat.{ℕ, ◌<◌}
 use native.Mathlib.Omega.{arith}
 use lib.ListN.{length, get_or, take, get_or-eq_default}
@@ -33,25 +34,25 @@ use Rattle.store.proofs.LoadedSet.{loaded-read, image-read, accepted-read, form-
 use Rattle.store.proofs.RecordRules.{found_none, found_at}
 use Rattle.engine.specs.Sets.{activation_of, position_of}
 
-module _ (w : List ℕ) (s : Store) (e : read w ≡ some s) where
-  absent : (o : Option RuleSet) → present o ≡ false → o ≡ none
-  absent none p = refl
-  absent (some set) p = absurd (false≢true (sym p))
+module _ (w : List ℕ) (s : Store) (e : read w ≡ Some s) where
+  absent : (o : Option RuleSet) → present o ≡ false → o ≡ None
+  absent None p = refl
+  absent (Some set) p = absurd (false≢true (sym p))
 
-  pub no-set : is_one (loaded_in w).loaded ≡ false → s.loaded ≡ none
+  pub no-set : is_one (loaded_in w).loaded ≡ false → s.loaded ≡ None
   no-set p = absent s.loaded (sym (loaded-read w s (from-read w s e)) ∙ p)
 
 -- the set, by the words of its image
 pub record LoadedImage (w img : List ℕ) (s : Store) : Type 0 where
   pub set : RuleSet
-  pub is : s.loaded ≡ some set
+  pub is : s.loaded ≡ Some set
   pub image : set.image ≡ img
   pub passes : image_refusal img ≡ 0
   pub form : set ≡ set_of img (flatten_rules img)
   pub kept : Kept w img set
 
-module _ (w img : List ℕ) (s : Store) (e : read w ≡ some s) (i : Readable w → img ≡ (loaded_in w).image) where
-  abbrev pub image-of : (set : RuleSet) → s.loaded ≡ some set → LoadedImage w img s
+module _ (w img : List ℕ) (s : Store) (e : read w ≡ Some s) (i : Readable w → img ≡ (loaded_in w).image) where
+  abbrev pub image-of : (set : RuleSet) → s.loaded ≡ Some set → LoadedImage w img s
   image-of set l =
       let r = from-read w s e in
       let q : set.image ≡ img = sym (i r.readable ∙ image-read w s r set l) in
@@ -68,8 +69,8 @@ module _ (w img : List ℕ) (s : Store) (e : read w ≡ some s) (i : Readable w 
   loaded-image p = go s.loaded refl (sym (loaded-read w s (from-read w s e)) ∙ p)
     where
       go : (o : Option RuleSet) → s.loaded ≡ o → present o ≡ true → LoadedImage w img s
-      go none l p = absurd (false≢true p)
-      go (some set) l p = image-of set l
+      go None l p = absurd (false≢true p)
+      go (Some set) l p = image-of set l
 
 module _ (w img : List ℕ) (s : Store) (l : LoadedImage w img s) where
   pub count-loaded : rule_count s.loaded ≡ size_of img rules
@@ -80,40 +81,40 @@ module _ (w img : List ℕ) (s : Store) (l : LoadedImage w img s) where
 
 -- WHAT A STORE KEEPS FOR A NAME -------------------------------------------------------------------------------------------------------------
 kept-place : (o : Option RuleSet) (xs : List (Option ℕ)) (name : ℕ) → kept_at (rule_in o name) xs ≡ kept o xs name
-kept-place none xs name = refl
-kept-place (some set) xs name = refl
+kept-place None xs name = refl
+kept-place (Some set) xs name = refl
 
-inside : (o : Option RuleSet) (name i : ℕ) → rule_in o name ≡ some i → i < rule_count o
-inside none name i e = absurd (none-ne-some i e)
-inside (some set) name i e = (named_rule set.image name i e).0
+inside : (o : Option RuleSet) (name i : ℕ) → rule_in o name ≡ Some i → i < rule_count o
+inside None name i e = absurd (none-some i e)
+inside (Some set) name i e = (named_rule set.image name i e).0
 
 module _ (o : Option RuleSet) (xs : List (Option ℕ)) (name : ℕ) (r : Found) (e : r ≡ found (rule_in o name)) where
   abbrev of_rules : List (Option ℕ)
   of_rules = take (rule_count o) xs
 
-  pub nothing-kept : r ≡ Nothing → length xs ≡ 64 → get_or xs 64 none ≡ kept o of_rules name
+  pub nothing-kept : r ≡ Nothing → length xs ≡ 64 → get_or xs 64 None ≡ kept o of_rules name
   nothing-kept n l =
-      get_or-eq_default xs none (omega arith) ∙ sym (ap (λ (x : Option ℕ). kept_at x of_rules) (found_none (rule_in o name) r e n)) ∙ kept-place o of_rules name
+      get_or-eq_default xs None (omega arith) ∙ sym (ap (λ (x : Option ℕ). kept_at x of_rules) (found_none (rule_in o name) r e n)) ∙ kept-place o of_rules name
 
-  pub kept_there : (i : ℕ) → r ≡ At i → get_or xs i none ≡ kept o of_rules name
+  pub kept_there : (i : ℕ) → r ≡ At i → get_or xs i None ≡ kept o of_rules name
   kept_there i n =
       let q = found_at (rule_in o name) r i e n in
-      sym (get_or-take (rule_count o) xs i none (inside o name i q)) ∙ sym (ap (λ (x : Option ℕ). kept_at x of_rules) q) ∙ kept-place o of_rules name
+      sym (get_or-take (rule_count o) xs i None (inside o name i q)) ∙ sym (ap (λ (x : Option ℕ). kept_at x of_rules) q) ∙ kept-place o of_rules name
 
 -- where a rule is found a set is loaded
-pub set-of : (o : Option RuleSet) (rule i : ℕ) → rule_in o rule ≡ some i → (set : RuleSet) × (o ≡ some set)
-set-of none rule i e = absurd (none-ne-some i e)
-set-of (some set) rule i e = (set, refl)
+pub set-of : (o : Option RuleSet) (rule i : ℕ) → rule_in o rule ≡ Some i → (set : RuleSet) × (o ≡ Some set)
+set-of None rule i e = absurd (none-some i e)
+set-of (Some set) rule i e = (set, refl)
 
 -- what is read at that place is what the store keeps
-module _ (w : List ℕ) (s : Store) (e : read w ≡ some s) (k name : ℕ) (img : List ℕ) (i : ℕ) (x : Option ℕ) (n : name ≡ name_of img i) where
-  pub activation-kept : x ≡ get_or (changing_in w).activations k none → get_or (changing_in w).activations k none ≡ kept s.loaded (take (rule_count s.loaded) (changing_in w).activations) name
+module _ (w : List ℕ) (s : Store) (e : read w ≡ Some s) (k name : ℕ) (img : List ℕ) (i : ℕ) (x : Option ℕ) (n : name ≡ name_of img i) where
+  pub activation-kept : x ≡ get_or (changing_in w).activations k None → get_or (changing_in w).activations k None ≡ kept s.loaded (take (rule_count s.loaded) (changing_in w).activations) name
       → x ≡ activation_of img s i
   activation-kept a h =
       a ∙ h ∙ ap (kept s.loaded (take (rule_count s.loaded) (changing_in w).activations)) n
       ∙ ap (λ (v : Volatile). kept s.loaded v.rest.last_activation (name_of img i)) (volatile-read w s (from-read w s e))
 
-  pub position-kept : x ≡ get_or (changing_in w).positions k none → get_or (changing_in w).positions k none ≡ kept s.loaded (take (rule_count s.loaded) (changing_in w).positions) name
+  pub position-kept : x ≡ get_or (changing_in w).positions k None → get_or (changing_in w).positions k None ≡ kept s.loaded (take (rule_count s.loaded) (changing_in w).positions) name
       → x ≡ position_of img s i
   position-kept a h =
       a ∙ h ∙ ap (kept s.loaded (take (rule_count s.loaded) (changing_in w).positions)) n

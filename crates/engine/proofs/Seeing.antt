@@ -2,7 +2,7 @@
 use mathlib.Core.Path.{◌≡◌, refl, sym, ap, ◌∙◌}
 use mathlib.Core.Bool.{Bool, true, false, cond, false≢true}
 use mathlib.Core.List.{List, []}
-use mathlib.Core.Option.{Option, none, some}
+use Rattle.std.specs.Prelude.{Option, None, Some}
 use Prim.Native.Nat.{ℕ, ◌-◌}
 use native.Mathlib.Omega.{arith}
 use lib.Dec.{eqb}
@@ -72,7 +72,7 @@ no-effects n a e = let z : n ≡ n - 0 = omega arith in ap (λ (m : ℕ). replic
 abbrev pub OnStore : Call → List ℕ → Type 0
 OnStore c w = call_on c w ≡ on_store c (read w) w
 
-pub call-seen : (c : Call) (w w' os es : List ℕ) (s : Store) (r : Answer) (a : model.Answer) → OnStore c w → read w ≡ some s → (call c s).answer ≡ a → Same r a
+pub call-seen : (c : Call) (w w' os es : List ℕ) (s : Store) (r : Answer) (a : model.Answer) → OnStore c w → read w ≡ Some s → (call c s).answer ≡ a → Same r a
     → w' ≡ store_after a (call c s).store w → os ≡ answers.outcome_store (outcome_words_of c) a → es ≡ answers.effect_store (effect_words_of c) a
     → shown r w' os es ≡ seen (call_on c w)
 call-seen c w w' os es s r a o e q h n f g =
@@ -81,17 +81,17 @@ call-seen c w w' os es s r a o e q h n f g =
     ∙ ap seen (ap (λ (x : Option Store). on_store c x w) (sym e) ∙ sym o)
 
 -- WORDS THAT ARE NO STORE ------------------------------------------------------------------------------------------------------------------
-unread : (o : Option Store) → present o ≡ false → o ≡ none
-unread none p = refl
-unread (some s) p = absurd (false≢true (sym p))
+unread : (o : Option Store) → present o ≡ false → o ≡ None
+unread None p = refl
+unread (Some s) p = absurd (false≢true (sym p))
 
 -- the code's three answers
 pub no-refusal : (w : List ℕ) → present (read w) ≡ true → 0 ≡ refusal_of (read w) w
 no-refusal w p = go (read w) p
   where
     go : (o : Option Store) → present o ≡ true → 0 ≡ refusal_of o w
-    go none p = absurd (false≢true p)
-    go (some s) p = refl
+    go None p = absurd (false≢true p)
+    go (Some s) p = refl
 
 pub some-refusal : (w : List ℕ) → present (read w) ≡ false → (b : Bool) → b ≡ eqb (length w) 16384 → unless b 1 2 ≡ refusal_of (read w) w
 unfolding store_refusal
@@ -108,19 +108,19 @@ module _ (w : List ℕ) (n : ℕ) (q : n ≡ refusal_of (read w) w) where
   is_store z = go (read w) (sym q ∙ z)
     where
       go : (o : Option Store) → refusal_of o w ≡ 0 → present o ≡ true
-      go none e = absurd (unless-positive (eqb (length w) 16384) e)
-      go (some s) e = refl
+      go None e = absurd (unless-positive (eqb (length w) 16384) e)
+      go (Some s) e = refl
 
   record NoStore : Type 0 where
-    is : read w ≡ none
+    is : read w ≡ None
     number : n ≡ store_refusal w
 
   no_store : (n ≡ 0 → ⊥) → NoStore
   no_store z = go (read w) refl q
     where
       go : (o : Option Store) → read w ≡ o → n ≡ refusal_of o w → NoStore
-      go none e r = record { is = e; number = r }
-      go (some s) e r = absurd (z r)
+      go None e r = record { is = e; number = r }
+      go (Some s) e r = absurd (z r)
 
   pub refused-seen : (c : Call) (os es : List ℕ) → OnStore c w → (n ≡ 0 → ⊥) → os ≡ replicate (outcome_words_of c) 0 → es ≡ replicate (effect_words_of c) 0
       → shown (Refused n) w os es ≡ seen (call_on c w)
@@ -168,12 +168,12 @@ counters-store : (s : Store) → (call counters s).store ≡ s
 unfolding call
 counters-store s = refl
 
-counters-done : (w : List ℕ) (s : Store) → write s ≡ w → on_store counters (some s) w ≡ result counters (counted (counters_of s)) w
+counters-done : (w : List ℕ) (s : Store) → write s ≡ w → on_store counters (Some s) w ≡ result counters (counted (counters_of s)) w
 counters-done w s e =
     ap (λ (x : model.Answer). result counters x (store_after x (call counters s).store w)) (counters-call s)
     ∙ ap (result counters (counted (counters_of s))) (ap write (counters-store s) ∙ e)
 
-pub counters-seen : (w values : List ℕ) (s : Store) → read w ≡ some s → write s ≡ w → values ≡ counters_of s → shown_counters (record { refusal = 0; values = values }) w ≡ seen (call_on counters w)
+pub counters-seen : (w values : List ℕ) (s : Store) → read w ≡ Some s → write s ≡ w → values ≡ counters_of s → shown_counters (record { refusal = 0; values = values }) w ≡ seen (call_on counters w)
 unfolding answers.number_of answers.values_of
 counters-seen w values s e q v =
     counters-result (record { refusal = 0; values = values }) (counted (counters_of s)) w refl v refl

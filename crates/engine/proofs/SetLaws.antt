@@ -2,7 +2,7 @@
 use mathlib.Core.Path.{◌≡◌, refl, sym, ap, subst, ◌∙◌}
 use mathlib.Core.Bool.{Bool, true, false}
 use mathlib.Core.List.{List, [], ◌∷◌, ◌++◌, map, append-nil, append_assoc}
-use mathlib.Core.Option.{Option, none}
+use Rattle.std.specs.Prelude.{Option, None}
 use Prim.Native.Nat.{ℕ, zero, suc, ◌+◌, ◌-◌, ◌≤◌, ◌<◌}
 use native.Mathlib.Nat.{add-zero, zero-add}
 use native.Mathlib.Omega.{arith}
@@ -87,7 +87,7 @@ module _ (img : List ℕ) (s : Store) (n : ℕ) where
   unfoldable pub rules_to : ℕ → Rest → Rest
   rules_to i r =
       with_enabled (so_far (enabled_of img) false n i)
-      (with_last_activation (so_far (activation_of img s) none n i) (with_cycle_pos (so_far (position_of img s) none n i) r))
+      (with_last_activation (so_far (activation_of img s) None n i) (with_cycle_pos (so_far (position_of img s) None n i) r))
 
   -- from words v of which no rule is set yet
   module _ (v : List ℕ) where
@@ -99,7 +99,7 @@ module _ (img : List ℕ) (s : Store) (n : ℕ) where
     rules-begin e h =
         let m = meaning e in
         let same : with_rest (unset_rules n m.rest) m ≡ with_rest (rules_to 0 (unset_rules n m.rest)) m =
-        λ i. with_rest (with_enabled (none-set (enabled_of img) false n i) (with_last_activation (none-set (activation_of img s) none n i) (with_cycle_pos (none-set (position_of img s) none n i) m.rest))) m in
+        λ i. with_rest (with_enabled (none-set (enabled_of img) false n i) (with_last_activation (none-set (activation_of img s) None n i) (with_cycle_pos (none-set (position_of img s) None n i) m.rest))) m in
         record { says = subst (λ (x : model.Volatile). x ≡ with_rest (rules_to 0 x.rest) x) (sym h.says) same; sound = h.sound; based = refl }
 
     pub rules-go : (u w : List ℕ) (i : ℕ) → i < n → Means u (base v) (said (rules_to i (meaning v).rest))
@@ -107,7 +107,7 @@ module _ (img : List ℕ) (s : Store) (n : ℕ) where
     unfolding rules_to rule_of
     rules-go u w i h a b =
         subst (Means w (base v))
-        (λ j. said (with_enabled (one_set (enabled_of img) false n i h j) (with_last_activation (one_set (activation_of img s) none n i h j) (with_cycle_pos (one_set (position_of img s) none n i h j) (meaning v).rest))))
+        (λ j. said (with_enabled (one_set (enabled_of img) false n i h j) (with_last_activation (one_set (activation_of img s) None n i h j) (with_cycle_pos (one_set (position_of img s) None n i h j) (meaning v).rest))))
         (follows (λ (m : model.Volatile). with_rest (rule_of img s i m.rest) m) u w (base v) (said (rules_to i (meaning v).rest)) a b)
 
     pub rules-end : (e u : List ℕ) (i : ℕ) → i ≤ n → n ≤ i → n ≡ size_of img rules → Means v (base e) (with_rest (unset_rules n (meaning e).rest) (meaning e))
@@ -115,8 +115,8 @@ module _ (img : List ℕ) (s : Store) (n : ℕ) where
     unfolding rules_to rules_of
     rules-end e u i h l q a b =
         let bits = all_set (enabled_of img) false n i h l ∙ ap (λ (k : ℕ). map (enabled_of img) (up_from 0 k)) q in
-        let activations = all_set (activation_of img s) none n i h l ∙ ap (λ (k : ℕ). map (activation_of img s) (up_from 0 k)) q in
-        let positions = all_set (position_of img s) none n i h l ∙ ap (λ (k : ℕ). map (position_of img s) (up_from 0 k)) q in
+        let activations = all_set (activation_of img s) None n i h l ∙ ap (λ (k : ℕ). map (activation_of img s) (up_from 0 k)) q in
+        let positions = all_set (position_of img s) None n i h l ∙ ap (λ (k : ℕ). map (position_of img s) (up_from 0 k)) q in
         let c : Means u (base v) (said (rules_of img s (meaning v).rest)) =
         subst (Means u (base v)) (λ j. said (with_enabled (bits j) (with_last_activation (activations j) (with_cycle_pos (positions j) (meaning v).rest)))) b in
         follows (λ (m : model.Volatile). with_rest (rules_of img s m.rest) m) v u (base e) _ a c

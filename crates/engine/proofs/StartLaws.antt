@@ -2,7 +2,7 @@
 use mathlib.Core.Path.{◌≡◌, refl, sym, ap, ◌∙◌}
 use mathlib.Core.Bool.{Bool, false}
 use mathlib.Core.List.{List, [], ◌∷◌, map}
-use mathlib.Core.Option.{Option, some}
+use Rattle.std.specs.Prelude.{Option, Some}
 use Prim.Native.Nat.{ℕ, zero, suc, ◌+◌, ◌-◌, ◌≤◌}
 use native.Mathlib.Nat.{le_of_suc-le-suc, not-suc-le-zero}
 use native.Mathlib.Omega.{arith}
@@ -47,7 +47,7 @@ unfolding table_at
 bits-words w n l h =
     sym (first-bits 64 n (drop state_place w) h (omega (arith, length-drop state_place w))) ∙ sym (ap (take n) (bits_at w))
 
-module _ (w : List ℕ) (s : Store) (e : read w ≡ some s) where
+module _ (w : List ℕ) (s : Store) (e : read w ≡ Some s) where
   -- the first words of the part, as many as there are rules
   pub enabled-words : (n to : ℕ) → n ≤ 64 → n ≡ rule_count s.loaded → to ≡ state_place + n → map is_one (take (to - state_place) (drop state_place w)) ≡ s.vol.rest.enabled
   enabled-words n to h q z =

@@ -2,7 +2,7 @@
 use mathlib.Core.Path.{◌≡◌, refl, sym, ap, ◌∙◌, subst}
 use mathlib.Core.Bool.{true, false≢true}
 use mathlib.Core.List.{List}
-use mathlib.Core.Option.{Option, none, some}
+use Rattle.std.specs.Prelude.{Option, None, Some}
 use Prim.Native.Nat.{ℕ, ◌+◌}
 use lib.ListN.{length}
 use Rattle.model.specs.Lists.{present}
@@ -22,7 +22,7 @@ use Rattle.store.proofs.Stored.{long, time-laid, set-laid, volatile-laid, from-r
 -- what is known of it
 pub record Said (w : List ℕ) : Type 0 where
   pub store : Store
-  pub is : read w ≡ some store
+  pub is : read w ≡ Some store
   pub written : write store ≡ w
   pub keeps : Keeps store
   pub reads : ReadsAs w store
@@ -32,19 +32,19 @@ pub said : (w : List ℕ) → present (read w) ≡ true → Said w
 said w p = go (read w) refl p
   where
     go : (o : Option Store) → read w ≡ o → present o ≡ true → Said w
-    go none e p = absurd (false≢true p)
-    go (some s) e p =
+    go None e p = absurd (false≢true p)
+    go (Some s) e p =
         let r = write_read w s e in
         let a = from-read w s e in
         record { store = s; is = e; written = r.written; keeps = r.keeps; reads = a; long = a.readable.long }
 
 -- the value that is read is the store's
-pub value_read : (w : List ℕ) (s : Store) → read w ≡ some s → (n : ℕ) (v : List ℕ) → n ≡ rule_count s.loaded → AllNumbered v (volatile_in n (changing_in w)) → AllNumbered v s.vol
+pub value_read : (w : List ℕ) (s : Store) → read w ≡ Some s → (n : ℕ) (v : List ℕ) → n ≡ rule_count s.loaded → AllNumbered v (volatile_in n (changing_in w)) → AllNumbered v s.vol
 value_read w s e n v q a =
     subst (λ (m : Volatile). AllNumbered v m) (ap (λ (k : ℕ). volatile_in k (changing_in w)) q ∙ volatile-read w s (from-read w s e)) a
 
 -- its Every slots
-pub old-slots : (w : List ℕ) (s : Store) (n : ℕ) → read w ≡ some s → n ≡ row_at any w slots_place → table_at slot_row n w (slots_place + 1) ≡ s.vol.rest.every
+pub old-slots : (w : List ℕ) (s : Store) (n : ℕ) → read w ≡ Some s → n ≡ row_at any w slots_place → table_at slot_row n w (slots_place + 1) ≡ s.vol.rest.every
 old-slots w s n e q = ap (λ (m : ℕ). table_at slot_row m w (slots_place + 1)) q ∙ sym (slots_at w) ∙ ap (λ (v : Volatile). v.rest.every) (volatile-read w s (from-read w s e))
 
 -- ALL THREE PARTS, AND TWO ----------------------------------------------------------------------------------------------------------------

@@ -1,6 +1,6 @@
 -- Document 01's number and values for each case of the code's answers, and what a caller sees of them.
 use Rattle.std.specs.Prelude.{cond, List, [], ◌∷◌, ℕ, eqb}
-use Rattle.std.proofs.Math.Option.{Option, none, some}
+use Rattle.std.specs.Prelude.{Option, None, Some}
 use Rattle.words.specs.Pairs.{low_of, high_of}
 use Rattle.engine.specs.Seen.{Seen}
 use Rattle.engine.specs.declared.Answer.{Answer}
@@ -36,5 +36,5 @@ shown_counters r w =
 
 -- the next deadline, if there is one
 abbrev pub deadline_is : Option ℕ → Answer
-deadline_is none = NoDeadline
-deadline_is (some t) = Due t
+deadline_is None = NoDeadline
+deadline_is (Some t) = Due t

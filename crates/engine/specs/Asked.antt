@@ -1,6 +1,6 @@
 -- Calls that ask: the store, and what else is given, are checked, an answer is given, and nothing changes.
 use Rattle.std.specs.Prelude.{List, [], ℕ, zero, suc}
-use Rattle.std.proofs.Math.Option.{Option, none, some}
+use Rattle.std.specs.Prelude.{Option, None, Some}
 use Rattle.model.specs.State.{Store}
 use Rattle.model.specs.Store.{read}
 use Rattle.model.specs.OnWords.{store_refusal}
@@ -13,13 +13,13 @@ use Rattle.engine.specs.Seen.{Seen}
 
 -- the lowest refusal: that of the words w, if they are no store, before the one of what else is given, `other`, 0 where that is accepted
 abbrev pub lowest_of : Option Store → List ℕ → ℕ → ℕ
-lowest_of none w other = store_refusal w
-lowest_of (some s) w other = other
+lowest_of None w other = store_refusal w
+lowest_of (Some s) w other = other
 
 abbrev pub asked_of : Option Store → List ℕ → ℕ → ℕ → (Store → Asked) → Asked
-asked_of none w other n answer = declined n (store_refusal w)
-asked_of (some s) w zero n answer = answer s
-asked_of (some s) w (suc other) n answer = declined n (suc other)
+asked_of None w other n answer = declined n (store_refusal w)
+asked_of (Some s) w zero n answer = answer s
+asked_of (Some s) w (suc other) n answer = declined n (suc other)
 
 -- a call on the words w, lent n words, that answers from what a store holds
 unfoldable pub asked : List ℕ → ℕ → ℕ → (Store → Asked) → Asked

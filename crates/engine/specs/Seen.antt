@@ -1,6 +1,6 @@
 -- What a call shows its caller: document 01's number and values of the answer, and the words of the lent stores after the call.
 use Rattle.std.specs.Prelude.{List, ℕ}
-use Rattle.std.proofs.Math.Option.{Option, none, some}
+use Rattle.std.specs.Prelude.{Option, None, Some}
 use Rattle.model.specs.Answers.{number_of, values_of}
 use Rattle.model.specs.State.{Store}
 use Rattle.model.specs.OnWords.{Result, store_refusal}
@@ -18,5 +18,5 @@ seen r =
 
 -- 1 or 2 for words that are no store, 0 for a store
 abbrev pub refusal_of : Option Store → List ℕ → ℕ
-refusal_of none w = store_refusal w
-refusal_of (some s) w = 0
+refusal_of None w = store_refusal w
+refusal_of (Some s) w = 0

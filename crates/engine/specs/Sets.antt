@@ -1,6 +1,6 @@
 -- What load and unload leave of the parts that calls change.
 use Rattle.std.specs.Prelude.{List, [], map, ℕ, set}
-use Rattle.std.proofs.Math.Option.{Option}
+use Rattle.std.specs.Prelude.{Option}
 use Rattle.model.specs.Rules.{name_of, enabled_of, rule_indices}
 use Rattle.model.specs.State.{Rest, Volatile, Store, with_enabled, with_last_activation, with_cycle_pos}
 use Rattle.model.specs.Calls.{kept}

@@ -1,6 +1,6 @@
 // Tick and run of a store that keeps the store rules, with a snapshot that is accepted: `handle`.
 ghost use Rattle.std.specs.Prelude.{◌≡◌, true, not, ◌||◌, cond, length, replicate};
-ghost use Rattle.std.proofs.Math.Option.{some};
+ghost use Rattle.std.specs.Prelude.{Some};
 ghost use Rattle.model.specs.Activate as model;
 ghost use Rattle.model.specs.Lists.{present};
 ghost use Rattle.model.specs.State.{RuleSet, Store, is_enabled};
@@ -94,9 +94,9 @@ fn run_at(
     i: u32,
     dry: bool,
 ) -> Handled
-    requires store_value { (present (read store.now) ≡ true) × ((s : Store) → read store.now ≡ some s → rule_in s.loaded rule ≡ some i) }
+    requires store_value { (present (read store.now) ≡ true) × ((s : Store) → read store.now ≡ Some s → rule_in s.loaded rule ≡ Some i) }
     requires room { Room 1 (carried v.old x) }
-    ensures { (s : Store) (set : RuleSet) → read store.now ≡ some s → s.loaded ≡ some set → Continues (carried v.old x) outcomes.old effects.old (run_rule (record { world = world_of snapshot.now; set = set }) (some i) dry (meaning v.old)) (carried v.new result) outcomes.new effects.new }
+    ensures { (s : Store) (set : RuleSet) → read store.now ≡ Some s → s.loaded ≡ Some set → Continues (carried v.old x) outcomes.old effects.old (run_rule (record { world = world_of snapshot.now; set = set }) (Some i) dry (meaning v.old)) (carried v.new result) outcomes.new effects.new }
 {
     if !starts(v, i, dry) {
         state::bump(v, counters::SUPPRESSED_DISABLED, 1);
@@ -122,7 +122,7 @@ fn run_rule(
     dry: bool,
 ) -> Handled
     requires { (present (read store.now) ≡ true) × AllNumbered v.old (meaning v.old) }
-    ensures { (s : Store) → read store.now ≡ some s → Continues (begun v.old) outcomes.old effects.old (ran_in s.loaded rule dry snapshot.now (meaning v.old)) (carried v.new result) outcomes.new effects.new }
+    ensures { (s : Store) → read store.now ≡ Some s → Continues (begun v.old) outcomes.old effects.old (ran_in s.loaded rule dry snapshot.now (meaning v.old)) (carried v.new result) outcomes.new effects.new }
 {
     let x = Handled {
         outcomes: 0,
@@ -161,8 +161,8 @@ fn service(
     effects: &mut [u32],
     v: &mut [u32],
 ) -> Handled
-    requires { (present (read store.now) ≡ true) × (snapshot_refusal snapshot.now ≡ 0) × ((s : Store) → read store.now ≡ some s → AllNumbered v.old s.vol) }
-    ensures { (s : Store) → read store.now ≡ some s → Continues (begun v.old) outcomes.old effects.old (ticked_in s.loaded snapshot.now (meaning v.old)) (carried v.new result) outcomes.new effects.new }
+    requires { (present (read store.now) ≡ true) × (snapshot_refusal snapshot.now ≡ 0) × ((s : Store) → read store.now ≡ Some s → AllNumbered v.old s.vol) }
+    ensures { (s : Store) → read store.now ≡ Some s → Continues (begun v.old) outcomes.old effects.old (ticked_in s.loaded snapshot.now (meaning v.old)) (carried v.new result) outcomes.new effects.new }
 {
     if !is_loaded(store) {
         return Handled {

@@ -1,6 +1,6 @@
 // What load and unload make of the parts that calls change.
 ghost use Rattle.std.specs.Prelude.{◌≡◌, true, List, [], ℕ, ◌<◌, length, get_or, take};
-ghost use Rattle.std.proofs.Math.Option.{Option, none, some};
+ghost use Rattle.std.specs.Prelude.{Option, None, Some};
 ghost use Rattle.model.specs.Image.{size_of};
 ghost use Rattle.model.specs.Rows.{rules};
 ghost use Rattle.model.specs.Load.{image_refusal};
@@ -33,7 +33,7 @@ fn without_set(v: &mut [u32])
 // Where the store has what it keeps for the rule of a name; past the last rule where it has nothing.
 fn old_place(store: &[u32], name: u32) -> usize
     requires { present (read store.now) ≡ true }
-    ensures { (s : Store) (xs : List (Option ℕ)) → read store.now ≡ some s → length xs ≡ 64 → get_or xs result none ≡ kept s.loaded (take (rule_count s.loaded) xs) name }
+    ensures { (s : Store) (xs : List (Option ℕ)) → read store.now ≡ Some s → length xs ≡ 64 → get_or xs result None ≡ kept s.loaded (take (rule_count s.loaded) xs) name }
 {
     match stored::rule_in(store, name) {
         Found::Nothing => MAX_RULES,
@@ -44,7 +44,7 @@ fn old_place(store: &[u32], name: u32) -> usize
 // Rule i of a set: its bit, and what the store keeps for its name.
 fn put_rule(store: &[u32], image: &[u32], i: u32, v: &mut [u32])
     requires { (present (read store.now) ≡ true) × (image_refusal image.now ≡ 0) × Sound v.old }
-    ensures { (s : Store) → read store.now ≡ some s → Means v.new (base v.old) (with_rest (rule_of image.now s i (meaning v.old).rest) (meaning v.old)) }
+    ensures { (s : Store) → read store.now ≡ Some s → Means v.new (base v.old) (with_rest (rule_of image.now s i (meaning v.old).rest) (meaning v.old)) }
 {
     let k = old_place(store, image::rule::name_of(image, i));
     let on = image::rule::enabled_of(image, i);
@@ -58,7 +58,7 @@ fn put_rule(store: &[u32], image: &[u32], i: u32, v: &mut [u32])
 // The rules of a set.
 fn put_rules(store: &[u32], image: &[u32], v: &mut [u32])
     requires { (present (read store.now) ≡ true) × (image_refusal image.now ≡ 0) × Sound v.old }
-    ensures { (s : Store) → read store.now ≡ some s → Means v.new (base v.old) (with_rest (rules_of image.now s (meaning v.old).rest) (meaning v.old)) }
+    ensures { (s : Store) → read store.now ≡ Some s → Means v.new (base v.old) (with_rest (rules_of image.now s (meaning v.old).rest) (meaning v.old)) }
 {
     let n = image::layout::size_of(image, 0);
     state::rules::unset_rules(v, n as usize);
@@ -72,7 +72,7 @@ fn put_rules(store: &[u32], image: &[u32], v: &mut [u32])
 // With the set of an image that load accepts.
 fn with_set(store: &[u32], image: &[u32], time: u64, v: &mut [u32])
     requires { (present (read store.now) ≡ true) × (image_refusal image.now ≡ 0) × AllNumbered v.old (meaning v.old) }
-    ensures { (s : Store) → read store.now ≡ some s → s.vol ≡ meaning v.old → AllNumbered v.new (cleared (rest_with image.now time s) s.vol) }
+    ensures { (s : Store) → read store.now ≡ Some s → s.vol ≡ meaning v.old → AllNumbered v.new (cleared (rest_with image.now time s) s.vol) }
 {
     let n = read::word_at(store, table::SLOTS) as usize;
     every::rebuild_every(image, store, table::SLOTS + 1, n, time, v);

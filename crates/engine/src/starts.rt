@@ -1,6 +1,6 @@
 // What starts next by the wall clock, of a store that keeps the store rules: document 02, request 7.
 ghost use Rattle.std.specs.Prelude.{◌≡◌, true, map, ◌<◌};
-ghost use Rattle.std.proofs.Math.Option.{some};
+ghost use Rattle.std.specs.Prelude.{Some};
 ghost use Rattle.model.specs.Lists.{present};
 ghost use Rattle.model.specs.Snapshot.{snapshot_refusal};
 ghost use Rattle.model.specs.State.{Store};
@@ -19,7 +19,7 @@ use world::{MaybeSun, MaybeWall};
 // The bits of the loaded rules, a word each.
 fn bits_in(store: &[u32]) -> &[u32]
     requires { present (read store.now) ≡ true }
-    ensures { (s : Store) → read store.now ≡ some s → map is_one result.now ≡ s.vol.rest.enabled }
+    ensures { (s : Store) → read store.now ≡ Some s → map is_one result.now ≡ s.vol.rest.enabled }
 {
     let from = table::BITS;
     let to = from + stored::rule_count(store);
@@ -29,7 +29,7 @@ fn bits_in(store: &[u32]) -> &[u32]
 // From minute t of the week on: without a set nothing starts.
 fn next_from(store: &[u32], sun: MaybeSun, t: u32) -> NextStart
     requires { (present (read store.now) ≡ true) × (t < 10080) }
-    ensures { (s : Store) → read store.now ≡ some s → result ≡ next_of_set s.loaded s.vol.rest.enabled (sun_option sun) t }
+    ensures { (s : Store) → read store.now ≡ Some s → result ≡ next_of_set s.loaded s.vol.rest.enabled (sun_option sun) t }
 {
     if !is_loaded(store) {
         return NextStart::NoStart;
@@ -42,7 +42,7 @@ fn next_from(store: &[u32], sun: MaybeSun, t: u32) -> NextStart
 // In the world of a snapshot that is accepted.
 pub fn next_start(store: &[u32], snapshot: &[u32]) -> NextStart
     requires { (present (read store.now) ≡ true) × (snapshot_refusal snapshot.now ≡ 0) }
-    ensures { (s : Store) → read store.now ≡ some s → result ≡ next_start s (world_of snapshot.now) }
+    ensures { (s : Store) → read store.now ≡ Some s → result ≡ next_start s (world_of snapshot.now) }
 {
     match world::wall(snapshot) {
         MaybeWall::Known(w) => next_from(store, world::sun(snapshot), week_minute(w)),

@@ -1,6 +1,6 @@
 // What a store that keeps the store rules holds.
 ghost use Rattle.std.specs.Prelude.{◌≡◌, true, [], ◌≤◌, length};
-ghost use Rattle.std.proofs.Math.Option.{some};
+ghost use Rattle.std.specs.Prelude.{Some};
 ghost use Rattle.model.specs.Lists.{present};
 ghost use Rattle.model.specs.State.{Store};
 ghost use Rattle.model.specs.Store.{read, rule_count};
@@ -35,7 +35,7 @@ pub fn refusal(store: &[u32]) -> u32
 // How many rules are loaded.
 pub fn rule_count(store: &[u32]) -> usize
     requires { present (read store.now) ≡ true }
-    ensures { (result ≤ 64) × ((s : Store) → read store.now ≡ some s → result ≡ rule_count s.loaded) }
+    ensures { (result ≤ 64) × ((s : Store) → read store.now ≡ Some s → result ≡ rule_count s.loaded) }
 {
     if !is_loaded(store) {
         return 0;
@@ -46,7 +46,7 @@ pub fn rule_count(store: &[u32]) -> usize
 // The parts that calls change, as the words of a state.
 pub fn begin(store: &[u32], v: &mut [u32])
     requires { (present (read store.now) ≡ true) × (length v.old ≡ state_words) }
-    ensures { (s : Store) → read store.now ≡ some s → AllNumbered v.new s.vol }
+    ensures { (s : Store) → read store.now ≡ Some s → AllNumbered v.new s.vol }
 {
     let rules = rule_count(store);
     store::volatile::begin(store, rules, v);
@@ -55,7 +55,7 @@ pub fn begin(store: &[u32], v: &mut [u32])
 // The rule of a name in the loaded set.
 pub fn rule_in(store: &[u32], name: u32) -> Found
     requires { present (read store.now) ≡ true }
-    ensures { (s : Store) → read store.now ≡ some s → result ≡ found (rule_in s.loaded name) }
+    ensures { (s : Store) → read store.now ≡ Some s → result ≡ found (rule_in s.loaded name) }
 {
     if !is_loaded(store) {
         return Found::Nothing;

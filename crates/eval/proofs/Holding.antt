@@ -2,7 +2,7 @@
 use mathlib.Core.Path.{◌≡◌, refl, sym, ap, ◌∙◌}
 use mathlib.Core.Bool.{Bool, true, false}
 use mathlib.Core.List.{List}
-use mathlib.Core.Option.{Option, none, some}
+use Rattle.std.specs.Prelude.{Option, None, Some}
 use Prim.Native.Nat.{ℕ, ◌+◌, ◌<◌}
 use native.Mathlib.Numerals.{add-one}
 use lib.ListN.{length, drop, get_or}
@@ -35,14 +35,14 @@ module _ (e : Env) (s : Rest) (cs : List Condition) (k : ℕ) {c : Condition} {r
   unfolding left whole conditions_hold
   goes h = rw add-one (rw (drop-cons cs k NoCondition l, says Yes h) at inv)
 
-  pub fails : r ≡ No → some false ≡ conditions_hold e s cs
+  pub fails : r ≡ No → Some false ≡ conditions_hold e s cs
   unfolding left whole conditions_hold
   fails h = rw (drop-cons cs k NoCondition l, says No h) at inv
 
-  pub stops : r ≡ Unevaluable → none ≡ conditions_hold e s cs
+  pub stops : r ≡ Unevaluable → None ≡ conditions_hold e s cs
   unfolding left whole conditions_hold
   stops h = rw (drop-cons cs k NoCondition l, says Unevaluable h) at inv
 
-pub ends : (e : Env) (s : Rest) (cs : List Condition) (k : ℕ) → k ≡ length cs → left e s cs k ≡ whole e s cs → some true ≡ conditions_hold e s cs
+pub ends : (e : Env) (s : Rest) (cs : List Condition) (k : ℕ) → k ≡ length cs → left e s cs k ≡ whole e s cs → Some true ≡ conditions_hold e s cs
 unfolding left whole conditions_hold
 ends e s cs k n inv = rw (n, drop-length cs) at inv

@@ -2,7 +2,7 @@
 use mathlib.Core.Path.{◌≡◌, refl}
 use mathlib.Core.Bool.{true, false≢true}
 use mathlib.Core.List.{List, [], ◌∷◌}
-use mathlib.Core.Option.{none}
+use Rattle.std.specs.Prelude.{None}
 use Prim.Native.Nat.{ℕ}
 use denote.Enum.Declared.{tag_of}
 use types.Run.{OneOf, miss}
@@ -61,7 +61,7 @@ past-devices ControllerActive h e = refl
 past-devices (VarCompare name cmp tag operand) h e = refl
 past-devices NoCondition h e = refl
 
-pub past-state : (e : Env) (s : Rest) (x : Condition) → past_devices x ≡ true → OneOf other_than_state (tag_of the_type x) → none ≡ eval_condition e s x
+pub past-state : (e : Env) (s : Rest) (x : Condition) → past_devices x ≡ true → OneOf other_than_state (tag_of the_type x) → None ≡ eval_condition e s x
 unfolding eval_condition
 past-state v s (TimeInRange start end) h e = absurd (false≢true h)
 past-state v s (DayIn days) h e = absurd (false≢true h)

@@ -1,7 +1,7 @@
 -- Answers of other crates as options, and the steps of the definitions on them. Assumes nothing.
 use mathlib.Core.Path.{◌≡◌, refl}
 use mathlib.Core.Bool.{Bool, true, false}
-use mathlib.Core.Option.{Option, none, some}
+use Rattle.std.specs.Prelude.{Option, None, Some}
 use Prim.Native.Nat.{ℕ}
 use native.Mathlib.Omega.{arith}
 use lib.IntN.{ℤ}
@@ -15,21 +15,21 @@ use Rattle.image.specs.Found.{found}
 use Rattle.eval.specs.Answers.{compared_by, text_compared, in_range}
 
 -- the place of a rule that was found, and none
-pub found_at : (o : Option ℕ) (i : ℕ) → At i ≡ found o → o ≡ some i
+pub found_at : (o : Option ℕ) (i : ℕ) → At i ≡ found o → o ≡ Some i
 unfolding found
-found_at none i e = let z : ◌≡◌ {A = ℕ} 0 1 = cc in absurd (omega arith)
-found_at (some j) i e = let p : i ≡ j = cc in rw p
+found_at None i e = let z : ◌≡◌ {A = ℕ} 0 1 = cc in absurd (omega arith)
+found_at (Some j) i e = let p : i ≡ j = cc in rw p
 
-pub found_none : (o : Option ℕ) → Nothing ≡ found o → o ≡ none
+pub found_none : (o : Option ℕ) → Nothing ≡ found o → o ≡ None
 unfolding found
-found_none none e = refl
-found_none (some j) e = let z : ◌≡◌ {A = ℕ} 0 1 = cc in absurd (omega arith)
+found_none None e = refl
+found_none (Some j) e = let z : ◌≡◌ {A = ℕ} 0 1 = cc in absurd (omega arith)
 
 -- a number that is known against one that may be missing
-pub known-compared : (cmp : ℕ) {x y : ℤ} {o p : Option ℤ} → x ≡ y → o ≡ p → compared_by cmp (some x) o ≡ (p >>= λ z. some (compare_i64 cmp y z))
+pub known-compared : (cmp : ℕ) {x y : ℤ} {o p : Option ℤ} → x ≡ y → o ≡ p → compared_by cmp (Some x) o ≡ (p >>= λ z. Some (compare_i64 cmp y z))
 known-compared cmp e f = rw (e, f)
 
-pub text-compared : (e : Env) (s : Rest) (text cmp : ℕ) (b : Bool) (x : ℕ) → some (text_compared text cmp b x) ≡ compare_var e s (some (Text text)) cmp b x
+pub text-compared : (e : Env) (s : Rest) (text cmp : ℕ) (b : Bool) (x : ℕ) → Some (text_compared text cmp b x) ≡ compare_var e s (Some (Text text)) cmp b x
 text-compared e s text cmp true x = refl
 text-compared e s text cmp false x = refl
 

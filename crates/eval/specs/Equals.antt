@@ -1,6 +1,6 @@
 -- What the contracts say: the answer is the specification's, in every environment of this snapshot and this image.
 use Rattle.std.specs.Prelude.{ℕ, ◌≡◌, Bool, List}
-use Rattle.std.proofs.Math.Option.{Option}
+use Rattle.std.specs.Prelude.{Option}
 use Rattle.model.specs.State.{Env, Rest}
 use Rattle.model.specs.World.{is_one}
 use Rattle.model.specs.Eval.{eval_reading, eval_value, value_at, resolve_time_bound, bound_at, sun_is_up, level_is, compare_var, older_than, eval_condition, condition_at, conditions_hold}

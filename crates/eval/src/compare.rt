@@ -1,6 +1,6 @@
 // Tests and comparisons.
 ghost use Rattle.std.specs.Prelude.{◌≡◌};
-ghost use Rattle.std.proofs.Math.Option.{some};
+ghost use Rattle.std.specs.Prelude.{Some};
 ghost use Rattle.model.specs.Arith.{compare_i64};
 ghost use Rattle.model.specs.Eval.{equal_b, compare_text};
 ghost use Rattle.model.specs.World.{is_one};
@@ -11,7 +11,7 @@ use crate::{Minute, Number, Verdict};
 
 // A test that can be made.
 pub fn verdict(b: bool) -> Verdict
-    ensures { verdict_of result ≡ some b }
+    ensures { verdict_of result ≡ Some b }
 {
     if b {
         return Verdict::Yes;

@@ -1,6 +1,6 @@
 // What the snapshot says of lamps, groups and inputs, as numbers: one function for each kind of reading.
 ghost use Rattle.std.specs.Prelude.{◌≡◌, pos};
-ghost use Rattle.std.proofs.Math.Option.{some};
+ghost use Rattle.std.specs.Prelude.{Some};
 ghost use Rattle.model.specs.Eval.{from_bool, number};
 ghost use Rattle.model.specs.declared.Reading.TheVariants as reading;
 ghost use Rattle.world.specs.Values.{word_option};
@@ -11,14 +11,14 @@ use crate::Number;
 use world::{MaybeGroup, MaybeInput, MaybeLamp, MaybeWord};
 
 pub fn from_word(w: u32) -> Number
-    ensures { number_of result ≡ some (pos w) }
+    ensures { number_of result ≡ Some (pos w) }
 {
     Number::Value(w as i64)
 }
 
 // 0 false, 1 true.
 pub fn from_bool(b: bool) -> Number
-    ensures { number_of result ≡ some (from_bool b) }
+    ensures { number_of result ≡ Some (from_bool b) }
 {
     if b {
         return Number::Value(1);

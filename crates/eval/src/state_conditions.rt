@@ -1,6 +1,6 @@
 // The conditions on what the store keeps: rules, timers and variables.
 ghost use Rattle.std.specs.Prelude.{◌≡◌};
-ghost use Rattle.std.proofs.Math.Option.{some};
+ghost use Rattle.std.specs.Prelude.{Some};
 ghost use Rattle.model.specs.World.{is_one};
 ghost use Rattle.model.specs.declared.Condition.TheVariants as condition;
 ghost use Rattle.model.specs.declared.VarValue.TheVariants.{Int, Text};
@@ -81,7 +81,7 @@ fn compare_int(
 ) -> Verdict
     requires sized { Sized image.now }
     requires sound { Sound v.now }
-    ensures { ComparesVar snapshot.now image.now (meaning v.now).rest (some (Int n)) cmp tag operand result }
+    ensures { ComparesVar snapshot.now image.now (meaning v.now).rest (Some (Int n)) cmp tag operand result }
 {
     if tag == 1 {
         return verdict(cmp == 1);

@@ -2,7 +2,7 @@
 use mathlib.Core.Path.{◌≡◌, refl, sym, ap, subst, ◌∙◌}
 use mathlib.Core.Bool.{Bool, true, false}
 use mathlib.Core.List.{List, [], ◌∷◌, ◌++◌, map, append_assoc, append-nil}
-use mathlib.Core.Option.{none}
+use Rattle.std.specs.Prelude.{None}
 use Prim.Native.Nat.{ℕ, zero, suc, ◌+◌, ◌*◌, ◌≤◌, ◌<◌}
 use native.Mathlib.Numerals.{add-one}
 use native.Mathlib.Omega.{arith}
@@ -51,7 +51,7 @@ module _ (n : ℕ) (w : List ℕ) (k : ℕ) where
   count = rows-count slot_row slot_laws n (drop k w)
 
   -- the search for a slot that stood before: none of the first i is it, and x stands at place i
-  module _ (p : EverySlot → Bool) (i : ℕ) (x : EverySlot) (before : find p (take i xs) ≡ none) (h : i < n) (e : x ≡ row_at slot_row w (k + i * 5)) where
+  module _ (p : EverySlot → Bool) (i : ℕ) (x : EverySlot) (before : find p (take i xs) ≡ None) (h : i < n) (e : x ≡ row_at slot_row w (k + i * 5)) where
     there : get_or xs i x ≡ x
     there = row_here i x h ∙ sym e
 
@@ -61,10 +61,10 @@ module _ (n : ℕ) (w : List ℕ) (k : ℕ) where
         let first : First p xs i = rw take-length at (stops p xs (length xs) i x before (omega (arith, count)) within (rw there t)) in
         rw (found p xs i first x (omega (arith, count)), there)
 
-    pub not-here : p x ≡ false → find p (take (i + 1) xs) ≡ none
+    pub not-here : p x ≡ false → find p (take (i + 1) xs) ≡ None
     not-here t = goes_on p xs n i x before h (omega (arith, count)) (rw there t)
 
-  pub due-fresh : (p : EverySlot → Bool) (i fresh : ℕ) → find p (take i xs) ≡ none → i ≤ n → n ≤ i → fresh ≡ due_or fresh (find p xs)
+  pub due-fresh : (p : EverySlot → Bool) (i fresh : ℕ) → find p (take i xs) ≡ None → i ≤ n → n ≤ i → fresh ≡ due_or fresh (find p xs)
   due-fresh p i fresh before h m = let all : take i xs ≡ xs = take_all i xs (omega (arith, count)) in rw (← all, before)
 
 -- SLOTS THAT JOIN ------------------------------------------------------------------------------------------------------------------------------

@@ -5,7 +5,7 @@ use native.Mathlib.Omega.{arith}
 use native.Mathlib.Numerals.{add-one}
 use mathlib.Core.Path.{◌≡◌, refl, ap, ◌∙◌}
 use mathlib.Core.Bool.{Bool, true, false, not, ◌&&◌}
-use mathlib.Core.Option.{Option, none, some}
+use Rattle.std.specs.Prelude.{Option, None, Some}
 use lib.Dec.{leb}
 use lib.IntN.{ℤ, pos, negsuc}
 use lib.ListN.{length, set}
@@ -40,10 +40,10 @@ stored-bits z n f e = e ∙ ap bits64 (signed-bits z f)
 pub stored-sum : (y step z : ℤ) → SFits w64 y → SFits w64 step → z ≡ saturating_add_i64 (signed64 (bits64 y)) (signed64 (bits64 step)) → z ≡ saturating_add_i64 y step
 stored-sum y step z f g e = e ∙ ap (λ (x : ℤ). saturating_add_i64 x (signed64 (bits64 step))) (signed-bits y f) ∙ ap (saturating_add_i64 y) (signed-bits step g)
 
-pub stored_some : (z : ℤ) (o : Option ℤ) → SFits w64 z → some z ≡ o → some (signed64 (bits64 z)) ≡ o
-stored_some z o f e = ap some (signed-bits z f) ∙ e
+pub stored_some : (z : ℤ) (o : Option ℤ) → SFits w64 z → Some z ≡ o → Some (signed64 (bits64 z)) ≡ o
+stored_some z o f e = ap Some (signed-bits z f) ∙ e
 
-pub stored-level : (z : ℤ) (o : Option ℤ) (level : Option ℕ) → SFits w64 z → some z ≡ o → level ≡ level_of (signed64 (bits64 z)) → level ≡ level_at o
+pub stored-level : (z : ℤ) (o : Option ℤ) (level : Option ℕ) → SFits w64 z → Some z ≡ o → level ≡ level_of (signed64 (bits64 z)) → level ≡ level_at o
 stored-level z o level f e p = p ∙ ap level_of (signed-bits z f) ∙ ap level_at e
 
 module _ (e : Env) (j : Job) (s : Rest) where
@@ -103,7 +103,7 @@ module _ (e : Env) (j : Job) (s : Rest) where
 
       pub cycle-wet :
           j.dry ≡ false
-          → emits (with_cycle_pos (set s.cycle_pos j.index (some ((at + 1) % count))) s) 1 scene 0 0 j.hold ≡ run_prim e j s (Cycle first count)
+          → emits (with_cycle_pos (set s.cycle_pos j.index (Some ((at + 1) % count))) s) 1 scene 0 0 j.hold ≡ run_prim e j s (Cycle first count)
       unfolding run_prim prim_cycle cycle_effect
       cycle-wet d = rw (add-one, word, here, ne_eqb count 0 some-scenes, d)
 
@@ -184,42 +184,42 @@ module _ (e : Env) (j : Job) (s : Rest) where
 
   -- the sum with what a variable holds
   module _ (name : ℕ) (step : ℤ) (held : VarFound) where
-    pub add-absent : (n : ℕ) → held ≡ Absent → n ≡ bits64 step → var_set e j s name (Int n) ≡ var_add e j s name (some step) (found_value held)
+    pub add-absent : (n : ℕ) → held ≡ Absent → n ≡ bits64 step → var_set e j s name (Int n) ≡ var_add e j s name (Some step) (found_value held)
     add-absent n h b = rw (h, b)
 
     pub add-integer :
         (x : VarValue) (m : ℕ) (y z : ℤ) (n : ℕ) → held ≡ Found x → x ≡ Int m → y ≡ signed64 m → z ≡ saturating_add_i64 y step → n ≡ bits64 z
-        → var_set e j s name (Int n) ≡ var_add e j s name (some step) (found_value held)
+        → var_set e j s name (Int n) ≡ var_add e j s name (Some step) (found_value held)
     add-integer x m y z n h k p q b = rw (h, k, b, q, p)
 
-    pub add-text : (x : VarValue) (t : ℕ) → held ≡ Found x → x ≡ Text t → fails s ≡ var_add e j s name (some step) (found_value held)
+    pub add-text : (x : VarValue) (t : ℕ) → held ≡ Found x → x ≡ Text t → fails s ≡ var_add e j s name (Some step) (found_value held)
     add-text x t h k = rw (h, k)
 
   -- from 0 to the group limit
   module _ (adapter group : ℕ) (x : ℤ) where
     pub select-within :
         (n limit : ℕ) → SFits w64 x → limit < 2 ^ 32 → limit ≡ group_limit e.set.image → n ≡ bits64 x → n ≤ limit
-        → emits s 7 adapter group n 0 ≡ selects e j s adapter group (some x)
+        → emits s 7 adapter group n 0 ≡ selects e j s adapter group (Some x)
     select-within n limit f small l b h = within x f b
       where
         beyond : (k : ℕ) → k < 2 ^ 63 → n ≡ 2 ^ 64 - suc k → ⊥
         beyond k g b' = omega arith
 
-        within : (y : ℤ) → SFits w64 y → n ≡ bits64 y → emits s 7 adapter group n 0 ≡ selects e j s adapter group (some y)
+        within : (y : ℤ) → SFits w64 y → n ≡ bits64 y → emits s 7 adapter group n 0 ≡ selects e j s adapter group (Some y)
         within (pos k) f b' = rw (← l, b', le-leb k limit (omega arith))
         within (negsuc k) f b' = absurd (beyond k f.sfits b')
 
-    pub select-beyond : (n limit : ℕ) → limit ≡ group_limit e.set.image → n ≡ bits64 x → limit < n → fails s ≡ selects e j s adapter group (some x)
+    pub select-beyond : (n limit : ℕ) → limit ≡ group_limit e.set.image → n ≡ bits64 x → limit < n → fails s ≡ selects e j s adapter group (Some x)
     select-beyond n limit l b h = outside x b
       where
-        outside : (y : ℤ) → n ≡ bits64 y → fails s ≡ selects e j s adapter group (some y)
+        outside : (y : ℤ) → n ≡ bits64 y → fails s ≡ selects e j s adapter group (Some y)
         outside (pos k) b' = rw (← l, lt-leb k limit (omega arith))
         outside (negsuc k) b' = refl
 
   -- ---- the bits of rules
   module _ (rule : ℕ) (on : Bool) where
-    pub bit_found : (i : ℕ) (o : Option ℕ) → some i ≡ o → set_rule_bit e j s rule on (some i) ≡ set_rule_bit e j s rule on o
+    pub bit_found : (i : ℕ) (o : Option ℕ) → Some i ≡ o → set_rule_bit e j s rule on (Some i) ≡ set_rule_bit e j s rule on o
     bit_found i o h = ap (λ (x : Option ℕ). set_rule_bit e j s rule on x) h
 
-    pub bit-nothing : (o : Option ℕ) → none ≡ o → fails s ≡ set_rule_bit e j s rule on o
+    pub bit-nothing : (o : Option ℕ) → None ≡ o → fails s ≡ set_rule_bit e j s rule on o
     bit-nothing o h = rw (← h)

@@ -5,9 +5,10 @@ use native.Mathlib.Nat.{not-suc-le-zero}
 use mathlib.Core.Path.{◌≡◌, refl, sym, ap, ◌∙◌}
 use mathlib.Core.Bool.{Bool, true, false, cond, ◌&&◌}
 use mathlib.Core.List.{List, [], ◌∷◌, map}
-use mathlib.Core.Option.{none, some}
+use Rattle.std.specs.Prelude.{None, Some}
 use lib.Dec.{eqb, leb}
-use lib.ListN.{length, take, drop, get_or, get_elem?, length-take, length-drop, length-map}
+use lib.ListN.{length, take, drop, get_or, length-take, length-drop, length-map}
+use Rattle.std.specs.Prelude.{slice_get}
 use lib.Seq.{get_or-drop}
 use borrow.Author.Tests.{leb-true, ne_eqb}
 use Rattle.model.specs.Codec.{rows_at}
@@ -58,11 +59,11 @@ next_row w p =
     let e3 : 4 + (p * 4 + 3) ≡ suc p * 4 + 3 = omega arith in
     rw (get_or-drop 4 w (p * 4) 0, get_or-drop 4 w (p * 4 + 1) 0, get_or-drop 4 w (p * 4 + 2) 0, get_or-drop 4 w (p * 4 + 3) 0, e1, e2, e3, e0)
 
-row-there : (n p : ℕ) (w : List ℕ) → p < n → some (row_at w p) ≡ get_elem? (rows_at step_row n w) p
+row-there : (n p : ℕ) (w : List ℕ) → p < n → Some (row_at w p) ≡ slice_get (rows_at step_row n w) p
 unfolding rows_at
 row-there zero p w h = absurd (not-suc-le-zero h)
-row-there (suc n) zero w h = ap some (sym (first-row w))
-row-there (suc n) (suc p) w h = ap some (sym (next_row w p)) ∙ row-there n p (drop 4 w) (omega arith)
+row-there (suc n) zero w h = ap Some (sym (first-row w))
+row-there (suc n) (suc p) w h = ap Some (sym (next_row w p)) ∙ row-there n p (drop 4 w) (omega arith)
 
 rows-count : (n : ℕ) (w : List ℕ) → length (rows_at step_row n w) ≡ n
 unfolding rows_at
@@ -73,22 +74,22 @@ steps-count : (w : List ℕ) → length (steps_in w) ≡ length w / 4
 unfolding steps_in
 steps-count w = length-map (rows_at step_row (length w / 4) w) step_of ∙ rows-count (length w / 4) w
 
-map-there : {A B : Type 0} (f : A → B) (xs : List A) (p : ℕ) (x : A) → some x ≡ get_elem? xs p → some (f x) ≡ get_elem? (map f xs) p
+map-there : {A B : Type 0} (f : A → B) (xs : List A) (p : ℕ) (x : A) → Some x ≡ slice_get xs p → Some (f x) ≡ slice_get (map f xs) p
 map-there f [] p x e = cc
-map-there f (y ∷ ys) zero x e = let q : x ≡ y = cc in ap (λ z. some (f z)) q
+map-there f (y ∷ ys) zero x e = let q : x ≡ y = cc in ap (λ z. Some (f z)) q
 map-there f (y ∷ ys) (suc p) x e = map-there f ys p x e
 
-beyond : {A : Type 0} (xs : List A) (p : ℕ) → length xs ≤ p → none ≡ get_elem? xs p
+beyond : {A : Type 0} (xs : List A) (p : ℕ) → length xs ≤ p → None ≡ slice_get xs p
 beyond [] p h = refl
 beyond (x ∷ xs) zero h = absurd (not-suc-le-zero h)
 beyond (x ∷ xs) (suc p) h = beyond xs p (omega arith)
 
 module _ (w : List ℕ) (p : ℕ) where
-  pub step-there : (x : Step) → p * 4 + 4 ≤ length w → x ≡ step_of (row_at w p) → some x ≡ get_elem? (steps_in w) p
+  pub step-there : (x : Step) → p * 4 + 4 ≤ length w → x ≡ step_of (row_at w p) → Some x ≡ slice_get (steps_in w) p
   unfolding steps_in
-  step-there x h d = ap some d ∙ map-there step_of (rows_at step_row (length w / 4) w) p (row_at w p) (row-there (length w / 4) p w (omega arith))
+  step-there x h d = ap Some d ∙ map-there step_of (rows_at step_row (length w / 4) w) p (row_at w p) (row-there (length w / 4) p w (omega arith))
 
-  pub step_past : length w < p * 4 + 4 → none ≡ get_elem? (steps_in w) p
+  pub step_past : length w < p * 4 + 4 → None ≡ slice_get (steps_in w) p
   step_past h = beyond (steps_in w) p (omega (arith, steps-count w))
 
 -- ---- what flattening gives
@@ -114,10 +115,10 @@ near-list w own n r f e =
       near = ap (λ (l : List ℕ). all is_near (steps_in l)) e ∙ ap (all is_near) (said w own f.steps f.says n) ∙ f.near n;
     }
 
-near-at : (xs : List Step) (p : ℕ) (x : Step) → all is_near xs ≡ true → some x ≡ get_elem? xs p → (p < length xs) × (reach x ≤ 2048)
+near-at : (xs : List Step) (p : ℕ) (x : Step) → all is_near xs ≡ true → Some x ≡ slice_get xs p → (p < length xs) × (reach x ≤ 2048)
 near-at [] p x h e = absurd (differ e)
   where
-    differ : some x ≡ none → ⊥
+    differ : Some x ≡ None → ⊥
     differ q = let z : ◌≡◌ {A = ℕ} 0 1 = cc in omega arith
 near-at (y ∷ ys) zero x h e =
     let p = both (is_near y) (all is_near ys) h in
@@ -128,7 +129,7 @@ near-at (y ∷ ys) (suc p) x h e =
     (omega (arith, q.0), q.1)
 
 -- a step that was found stands below 2,048, and leads no further
-pub found-near : (w : List ℕ) (p : ℕ) (x : Step) → NearWords w → some x ≡ get_elem? (steps_in w) p → (p < 2048) × (reach x ≤ 2048)
+pub found-near : (w : List ℕ) (p : ℕ) (x : Step) → NearWords w → Some x ≡ slice_get (steps_in w) p → (p < 2048) × (reach x ≤ 2048)
 found-near w p x f e =
     let q = near-at (steps_in w) p x f.near e in
     (omega (arith, q.0, f.few, steps-count w), q.1)

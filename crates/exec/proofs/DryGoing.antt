@@ -5,7 +5,7 @@ use native.Mathlib.Nat.{add_assoc, add-zero}
 use mathlib.Core.Path.{◌≡◌, refl, sym, ap, subst, ◌∙◌}
 use mathlib.Core.Bool.{Bool, true, false}
 use mathlib.Core.List.{List, []}
-use mathlib.Core.Option.{Option, none, some}
+use Rattle.std.specs.Prelude.{Option, None, Some}
 use lib.ListN.{length, get_or, length-append}
 use Rattle.model.specs.Actions as actions
 use Rattle.model.specs.Dry.{next_step, found, dry_step, dry_branch, dry_turn, run_steps_dry, unpaid_dry, DryStepResult}
@@ -43,9 +43,9 @@ step-bodies e j (Wait ms) sp qs s = refl
 step-bodies e j (Branch c t n) sp qs s = go (condition_at e s c)
   where
     go : (o : Option Bool) → (dry_branch o t n sp qs s).bodies ≡ qs
-    go (some true) = refl
-    go (some false) = refl
-    go none = refl
+    go (Some true) = refl
+    go (Some false) = refl
+    go None = refl
 step-bodies e j (After ms) sp qs s = refl
 step-bodies e j Fail sp qs s = refl
 
@@ -62,12 +62,12 @@ take_dry d m =
     }
 
 module _ (e : Env) (j : actions.Job) (b : ℕ) (m : DryMachine) where
-  turn-none : next_step e j m.point m.bodies ≡ none → left_dry true b e j m ≡ left_dry false (suc b) e j m
+  turn-none : next_step e j m.point m.bodies ≡ None → left_dry true b e j m ≡ left_dry false (suc b) e j m
   unfolding left_dry run_steps_dry dry_turn
   turn-none h = rw h
 
   turn-some :
-      (x : Step) (p : Point) (qs : List Point) → next_step e j m.point m.bodies ≡ some (record { step = x; point = p; bodies = qs })
+      (x : Step) (p : Point) (qs : List Point) → next_step e j m.point m.bodies ≡ Some (record { step = x; point = p; bodies = qs })
       → left_dry false b e j (take_dry (dry_step e j x p qs m.vol.rest) m) ≡ left_dry false (suc b) e j m
   unfolding left_dry run_steps_dry dry_turn take_dry finish_dry
   turn-some x p qs h = rw (h, reason-assoc, put-append, length-append, add_assoc)
@@ -107,8 +107,8 @@ module _ (snapshot image part : List ℕ) (own : ℕ) (job : Job) (run r : DryRu
       record {
         says = λ flat b e g.
             let E = env_of snapshot image flat in
-            let none_left : next_step E (job_of job) run.point (bodies_of run) ≡ none =
-            moved.says E (job_of job) e ∙ ap (λ (o : Option Step). found o r.point (bodies_of r) none) (sym (here flat e) ∙ ap step_option n) in
+            let none_left : next_step E (job_of job) run.point (bodies_of run) ≡ None =
+            moved.says E (job_of job) e ∙ ap (λ (o : Option Step). found o r.point (bodies_of r) None) (sym (here flat e) ∙ ap step_option n) in
             ended-anywhere E (job_of job) b (dry_machine run words) _ (ap meaning moved.same.vol) moved.same.reason moved.same.count refl
             ∙ turn-none E (job_of job) b (dry_machine run words) none_left;
         sound = subst Sound (sym moved.same.vol) s;
@@ -126,8 +126,8 @@ module _ (snapshot image part : List ℕ) (own : ℕ) (job : Job) (run r : DryRu
       record {
         says = λ flat b e g.
             let E = env_of snapshot image flat in
-            let next : next_step E (job_of job) run.point (bodies_of run) ≡ some (record { step = x; point = r.point; bodies = bodies_of r }) =
-            moved.says E (job_of job) e ∙ ap (λ (o : Option Step). found o r.point (bodies_of r) none) (sym (here flat e) ∙ ap step_option n) in
+            let next : next_step E (job_of job) run.point (bodies_of run) ≡ Some (record { step = x; point = r.point; bodies = bodies_of r }) =
+            moved.says E (job_of job) e ∙ ap (λ (o : Option Step). found o r.point (bodies_of r) None) (sym (here flat e) ∙ ap step_option n) in
             let same : dry_machine f exit ≡ take_dry (dry_step E (job_of job) x r.point (bodies_of r) (meaning r.vol).rest) (dry_machine r words) =
             taken_is r q f x words exit d _ k t (s flat (bodies_of r)) (step-bodies E (job_of job) x r.point (bodies_of r) _) in
             ap (λ (z : Bool). left_dry z b E (job_of job) (dry_machine f exit)) (t.ended ∙ k.same.ended ∙ moved.same.ended ∙ g)
@@ -141,7 +141,7 @@ module _ (snapshot image part : List ℕ) (own : ℕ) (job : Job) (run r : DryRu
         most = omega (arith, t.queued, k.most, moved.most);
       }
     where
-      moved-machine : (E : Env) (b : ℕ) → next_step E (job_of job) run.point (bodies_of run) ≡ some (record { step = x; point = r.point; bodies = bodies_of r })
+      moved-machine : (E : Env) (b : ℕ) → next_step E (job_of job) run.point (bodies_of run) ≡ Some (record { step = x; point = r.point; bodies = bodies_of r })
           → left_dry false b E (job_of job) (take_dry (dry_step E (job_of job) x r.point (bodies_of r) (meaning r.vol).rest) (dry_machine r words)) ≡ left_dry false b E (job_of job) (take_dry (dry_step E (job_of job) x r.point (bodies_of r) (meaning run.vol).rest) (dry_machine run words))
       moved-machine E b h = take-moved E (job_of job) b x run r words moved.same
 
@@ -155,13 +155,13 @@ module _ (e : Env) (j : actions.Job) (m : DryMachine) where
   unfolding left_dry run_steps_dry finish_dry put_effects
   left-unpaid reason h = rw (h, add-zero)
 
-unpaid-none : (o : Option Step) (p : Point) (qs : List Point) → false ≡ present o → unpaid_dry (found o p qs none) ≡ 0
-unpaid-none none p qs h = refl
-unpaid-none (some x) p qs h = cc
+unpaid-none : (o : Option Step) (p : Point) (qs : List Point) → false ≡ present o → unpaid_dry (found o p qs None) ≡ 0
+unpaid-none None p qs h = refl
+unpaid-none (Some x) p qs h = cc
 
-unpaid-some : (o : Option Step) (p : Point) (qs : List Point) → true ≡ present o → unpaid_dry (found o p qs none) ≡ 2
-unpaid-some none p qs h = cc
-unpaid-some (some x) p qs h = refl
+unpaid-some : (o : Option Step) (p : Point) (qs : List Point) → true ≡ present o → unpaid_dry (found o p qs None) ≡ 2
+unpaid-some None p qs h = cc
+unpaid-some (Some x) p qs h = refl
 
 module _ (part : List ℕ) (own : ℕ) (run : DryRunNow) (r : RunDone) (same : r.vol ≡ run.vol) (counted : r.count ≡ run.count) where
   pub finish-ended-dry : run.ended ≡ true → r.reason ≡ run.reason → DryFinishes part own run r

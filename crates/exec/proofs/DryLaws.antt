@@ -3,7 +3,7 @@ use Prim.Native.Nat.{ℕ}
 use mathlib.Core.Path.{◌≡◌, refl, ap, ◌∙◌}
 use mathlib.Core.Bool.{Bool, true, false, cond}
 use mathlib.Core.List.{List}
-use mathlib.Core.Option.{Option, none, some}
+use Rattle.std.specs.Prelude.{Option, None, Some}
 use lib.Dec.{leb, ltb, eqb}
 use lib.IntN.{ℤ, pos, negsuc}
 use Rattle.words.specs.Pairs.{joined}
@@ -30,43 +30,43 @@ use Rattle.exec.specs.DryRuns.{DrySteps}
 use Rattle.exec.specs.Done.{StepDone}
 
 -- ---- a dry run disables no rule
-either : (t : Bool) (a b : PrimResult) → a.disables ≡ none → b.disables ≡ none → (cond t a b).disables ≡ none
+either : (t : Bool) (a b : PrimResult) → a.disables ≡ None → b.disables ≡ None → (cond t a b).disables ≡ None
 either true a b p q = p
 either false a b p q = q
 
 module _ (e : Env) (j : Job) (s : Rest) (dry : j.dry ≡ true) where
-  arm-none : (name ms : ℕ) (s' : Rest) → (arm_timer e j s name ms s').disables ≡ none
+  arm-none : (name ms : ℕ) (s' : Rest) → (arm_timer e j s name ms s').disables ≡ None
   unfolding arm_timer
   arm-none name ms s' = rw dry
 
-  set-none : (name : ℕ) (x : VarValue) → (var_set e j s name x).disables ≡ none
+  set-none : (name : ℕ) (x : VarValue) → (var_set e j s name x).disables ≡ None
   unfolding var_set
   set-none name x = rw dry
 
-  bit-none : (rule : ℕ) (on : Bool) (o : Option ℕ) → (set_rule_bit e j s rule on o).disables ≡ none
+  bit-none : (rule : ℕ) (on : Bool) (o : Option ℕ) → (set_rule_bit e j s rule on o).disables ≡ None
   unfolding fails
-  bit-none rule on none = refl
-  bit-none rule on (some i) = rw dry
+  bit-none rule on None = refl
+  bit-none rule on (Some i) = rw dry
 
-  select-none : (adapter group : ℕ) (n : Option ℤ) → (selects e j s adapter group n).disables ≡ none
+  select-none : (adapter group : ℕ) (n : Option ℤ) → (selects e j s adapter group n).disables ≡ None
   unfolding fails
-  select-none adapter group none = refl
-  select-none adapter group (some (negsuc n)) = refl
-  select-none adapter group (some (pos n)) = either (leb n (group_limit e.set.image)) (actions.emits s 7 adapter group n 0) (fails s) refl refl
+  select-none adapter group None = refl
+  select-none adapter group (Some (negsuc n)) = refl
+  select-none adapter group (Some (pos n)) = either (leb n (group_limit e.set.image)) (actions.emits s 7 adapter group n 0) (fails s) refl refl
 
-  dims-none : (target hold : ℕ) (level : Option ℕ) → (dims e j s target hold level).disables ≡ none
+  dims-none : (target hold : ℕ) (level : Option ℕ) → (dims e j s target hold level).disables ≡ None
   unfolding fails
-  dims-none target hold none = refl
-  dims-none target hold (some n) = refl
+  dims-none target hold None = refl
+  dims-none target hold (Some n) = refl
 
-  add_none : (name : ℕ) (step : Option ℤ) (held : Option VarValue) → (var_add e j s name step held).disables ≡ none
+  add_none : (name : ℕ) (step : Option ℤ) (held : Option VarValue) → (var_add e j s name step held).disables ≡ None
   unfolding fails
-  add_none name none held = refl
-  add_none name (some x) none = set-none name _
-  add_none name (some x) (some (Int n)) = set-none name _
-  add_none name (some x) (some (Text t)) = refl
+  add_none name None held = refl
+  add_none name (Some x) None = set-none name _
+  add_none name (Some x) (Some (Int n)) = set-none name _
+  add_none name (Some x) (Some (Text t)) = refl
 
-  pub dry-none : (x : Action) → (run_prim e j s x).disables ≡ none
+  pub dry-none : (x : Action) → (run_prim e j s x).disables ≡ None
   unfolding run_prim prim_light prim_recall prim_apply prim_cycle cycle_effect prim_var_set fails
   dry-none (Light target hold answer verb) =
       either (eqb answer 0) (actions.emits s 0 target verb (actions.hold_or hold j.hold) 0) (cond (eqb answer 1) (actions.no_effect s) (fails s)) refl
@@ -116,14 +116,14 @@ module _ (e : Env) (j : Job) (b : ℕ) (sp : Point) (v : List ℕ) (r : StepDone
   branch-dry c t n s = go (condition_at e (meaning v).rest c) s
     where
       go : (o : Option Bool) → Steps v r (run_branch o t n sp (meaning v)) → DrySteps v r (dry_branch o t n sp qs (meaning v).rest)
-      go (some true) u = record { state = u.state; effect = u.effect; reason = u.reason; next = u.next }
-      go (some false) u = record { state = u.state; effect = u.effect; reason = u.reason; next = u.next }
-      go none u = record { state = u.state; effect = u.effect; reason = u.reason; next = u.next }
+      go (Some true) u = record { state = u.state; effect = u.effect; reason = u.reason; next = u.next }
+      go (Some false) u = record { state = u.state; effect = u.effect; reason = u.reason; next = u.next }
+      go None u = record { state = u.state; effect = u.effect; reason = u.reason; next = u.next }
 
   pub wait-dry : (ms : ℕ) (to : Point) → to ≡ advance sp 0 → GoesOn v to r → DrySteps v r (dry_step e j (Wait ms) sp qs (meaning v).rest)
   unfolding dry_step
-  wait-dry ms to h s = record { state = s.state; effect = s.effect; reason = s.reason; next = s.next ∙ ap some h }
+  wait-dry ms to h s = record { state = s.state; effect = s.effect; reason = s.reason; next = s.next ∙ ap Some h }
 
   pub after-dry : (ms : ℕ) (to : Point) → to ≡ advance sp 0 → GoesOn v to r → DrySteps v r (dry_step e j (After ms) sp qs (meaning v).rest)
   unfolding dry_step
-  after-dry ms to h s = record { state = s.state; effect = s.effect; reason = s.reason; next = s.next ∙ ap some h }
+  after-dry ms to h s = record { state = s.state; effect = s.effect; reason = s.reason; next = s.next ∙ ap Some h }

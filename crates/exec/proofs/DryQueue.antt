@@ -5,8 +5,9 @@ use native.Mathlib.Numerals.{add-one}
 use mathlib.Core.Path.{◌≡◌, refl, sym, ap, ◌∙◌}
 use mathlib.Core.Bool.{true, false}
 use mathlib.Core.List.{List, [], ◌∷◌, ◌++◌, map}
-use mathlib.Core.Option.{Option, none, some}
-use lib.ListN.{length, take, drop, set, get_or, get_elem?, length-take, drop_of_length-le}
+use Rattle.std.specs.Prelude.{Option, None, Some}
+use lib.ListN.{length, take, drop, set, get_or, length-take, drop_of_length-le}
+use Rattle.std.specs.Prelude.{slice_get}
 use lib.Seq.{take-suc-set, drop-append-le, drop-cons, get_or-take, length-take-le}
 use types.Run.{OneOf, miss}
 use denote.Enum.Declared.{tag_of}
@@ -93,10 +94,10 @@ module _ (run : DryRunNow) (x : Step) (fits : run.first ≤ run.queued) where
       }
 
 -- ---- the next step
-module _ (part : List ℕ) (own : ℕ) (list : List ℕ) (p : Point) (m : MaybeStep) (of : list ≡ list_words part own p.list) (at : step_option m ≡ get_elem? (steps_in list) p.place) where
+module _ (part : List ℕ) (own : ℕ) (list : List ℕ) (p : Point) (m : MaybeStep) (of : list ≡ list_words part own p.list) (at : step_option m ≡ slice_get (steps_in list) p.place) where
   -- the step at the point is what the code found
   pub is_found : step_option m ≡ step_in part own p
-  is_found = at ∙ ap (λ (w : List ℕ). get_elem? (steps_in w) p.place) of
+  is_found = at ∙ ap (λ (w : List ℕ). slice_get (steps_in w) p.place) of
 
   pub has-none : m ≡ Nothing → false ≡ present (step_in part own p)
   has-none n = ap present (sym (ap step_option n) ∙ is_found)
@@ -107,27 +108,27 @@ module _ (part : List ℕ) (own : ℕ) (list : List ℕ) (p : Point) (m : MaybeS
 -- the step of the rule
 pub is-step : (part : List ℕ) (own : ℕ) (p : Point) (e : Env) (j : actions.Job) → Says part own (get_or e.set.flat j.index []) → step_in part own p ≡ step_at e.set j.index p
 unfolding step_at
-is-step part own p e j s = ap (λ (xs : List Step). get_elem? xs p.place) (said part own (get_or e.set.flat j.index []) s p.list)
+is-step part own p e j s = ap (λ (xs : List Step). slice_get xs p.place) (said part own (get_or e.set.flat j.index []) s p.list)
 
 found_none : (o : Option Step) (p : Point) (qs : List Point) (more : Option NextStep) → present o ≡ false → found o p qs more ≡ more
-found_none none p qs more h = refl
-found_none (some x) p qs more h = cc
+found_none None p qs more h = refl
+found_none (Some x) p qs more h = cc
 
-found_some : (o : Option Step) (p : Point) (qs : List Point) (more : Option NextStep) → present o ≡ true → found o p qs more ≡ found o p qs none
-found_some none p qs more h = cc
-found_some (some x) p qs more h = refl
+found_some : (o : Option Step) (p : Point) (qs : List Point) (more : Option NextStep) → present o ≡ true → found o p qs more ≡ found o p qs None
+found_some None p qs more h = cc
+found_some (Some x) p qs more h = refl
 
 module _ (e : Env) (j : actions.Job) (p : Point) where
   next-pops : (q : Point) (qs : List Point) → present (step_at e.set j.index p) ≡ false → next_step e j p (q ∷ qs) ≡ next_step e j q qs
   unfolding next_step
   next-pops q qs h = found_none (step_at e.set j.index p) p (q ∷ qs) (next_step e j q qs) h
 
-  next-stands : (qs : List Point) → present (step_at e.set j.index p) ≡ true → next_step e j p qs ≡ found (step_at e.set j.index p) p qs none
+  next-stands : (qs : List Point) → present (step_at e.set j.index p) ≡ true → next_step e j p qs ≡ found (step_at e.set j.index p) p qs None
   unfolding next_step
   next-stands [] h = refl
   next-stands (q ∷ qs) h = found_some (step_at e.set j.index p) p (q ∷ qs) (next_step e j q qs) h
 
-  next_last : next_step e j p [] ≡ found (step_at e.set j.index p) p [] none
+  next_last : next_step e j p [] ≡ found (step_at e.set j.index p) p [] None
   unfolding next_step
   next_last = refl
 
@@ -178,7 +179,7 @@ module _ (part : List ℕ) (own : ℕ) (run r : DryRunNow) (inv : Moving part ow
       record {
         says = λ e j l.
             let z = none-queued r.bodies r.first r.queued h in
-            inv.says e j l ∙ ap (next_step e j r.point) z ∙ next_last e j r.point ∙ ap (λ (qs : List Point). found (step_at e.set j.index r.point) r.point qs none) (sym z);
+            inv.says e j l ∙ ap (next_step e j r.point) z ∙ next_last e j r.point ∙ ap (λ (qs : List Point). found (step_at e.set j.index r.point) r.point qs None) (sym z);
         same = inv.same;
         fits = inv.fits;
         most = inv.most;

@@ -3,7 +3,7 @@ use Prim.Native.Nat.{ℕ}
 use mathlib.Core.Path.{◌≡◌, refl, ap, subst, ◌∙◌}
 use mathlib.Core.Bool.{Bool, true, false, cond}
 use mathlib.Core.List.{List}
-use mathlib.Core.Option.{Option, none, some}
+use Rattle.std.specs.Prelude.{Option, None, Some}
 use lib.Dec.{leb}
 use lib.ListN.{length, set}
 use Rattle.words.specs.Saturating.{saturating_add, max64}
@@ -36,15 +36,15 @@ follows f v w r s m d =
     }
 
 -- a search by name
-pub found_at : (o : Option ℕ) (i : ℕ) → At i ≡ found o → some i ≡ o
+pub found_at : (o : Option ℕ) (i : ℕ) → At i ≡ found o → Some i ≡ o
 unfolding found
-found_at none i e = cc
-found_at (some k) i e = cc
+found_at None i e = cc
+found_at (Some k) i e = cc
 
-pub found_nothing : (o : Option ℕ) → Nothing ≡ found o → none ≡ o
+pub found_nothing : (o : Option ℕ) → Nothing ≡ found o → None ≡ o
 unfolding found
-found_nothing none e = refl
-found_nothing (some k) e = cc
+found_nothing None e = refl
+found_nothing (Some k) e = cc
 
 -- a state that takes one more timer, and one more value of a variable
 pub armed-wet : (v w : List ℕ) (name due : ℕ) → leb 16 (length (meaning v).rest.timers) ≡ false → Means w (base v) (armed name due (meaning v)) → Means w (base v) (with_rest (add_timer name due (meaning v).rest) (meaning v))
@@ -61,6 +61,6 @@ due-is due now n ms d h = rw h at d
 
 -- a bit that is set; who disables also strikes
 pub bit-flipped : (on : Bool) (rule i : ℕ) (v : model-state.Volatile)
-    → flipped rule i on v ≡ struck (cond on none (some rule)) (with_rest (with_enabled (set v.rest.enabled i on) v.rest) v)
+    → flipped rule i on v ≡ struck (cond on None (Some rule)) (with_rest (with_enabled (set v.rest.enabled i on) v.rest) v)
 bit-flipped true rule i v = refl
 bit-flipped false rule i v = refl

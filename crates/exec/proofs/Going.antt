@@ -5,10 +5,11 @@ use native.Mathlib.Nat.{add_assoc, add-zero}
 use mathlib.Core.Path.{◌≡◌, refl, sym, ap, subst, ◌∙◌}
 use mathlib.Core.Bool.{Bool, true, false, not}
 use mathlib.Core.List.{List, [], ◌++◌}
-use mathlib.Core.Option.{Option, none, some}
+use Rattle.std.specs.Prelude.{Option, None, Some}
 use lib.Dec.{eqb}
 use borrow.Author.Tests.{ne_eqb}
-use lib.ListN.{length, get_or, get_elem?, length-append}
+use lib.ListN.{length, get_or, length-append}
+use Rattle.std.specs.Prelude.{slice_get}
 use Rattle.model.specs.Actions as actions
 use Rattle.model.specs.Exec as model
 use Rattle.model.specs.Exec.{run_steps, with_step, continue_run, exec, first_reason, ended, unpaid}
@@ -38,8 +39,8 @@ use Rattle.exec.proofs.Decoded.{said}
 
 -- a step emits at most one effect
 pub few : {A : Type 0} (o : Option A) → length (to_list o) ≤ 1
-few none = omega arith
-few (some a) = omega arith
+few None = omega arith
+few (Some a) = omega arith
 
 -- ---- reasons
 some-reason : (a : ℕ) → eqb (suc a) 0 ≡ false
@@ -75,13 +76,13 @@ module _ (e : Env) (j : actions.Job) (b : ℕ) (m : Machine) where
   -- where the step leads
   step_left : (x : Step) (d : model.StepResult) (n : Option Point) → d.next ≡ n → finish m (continue_run x d n (λ sp v. run_steps b e j sp v)) ≡ left_of (not (present n)) b e j (take_step d m)
   unfolding left_of continue_run take_step
-  step_left x d none h = taken-ends m d _ refl refl refl
-  step_left x d (some sp) h = taken-goes m d _ (run_steps b e j sp d.vol) refl refl refl ∙ ap (λ (o : Option Point). finish (take_step d m) (run_steps b e j (or_else m.point o) d.vol)) (sym h)
+  step_left x d None h = taken-ends m d _ refl refl refl
+  step_left x d (Some sp) h = taken-goes m d _ (run_steps b e j sp d.vol) refl refl refl ∙ ap (λ (o : Option Point). finish (take_step d m) (run_steps b e j (or_else m.point o) d.vol)) (sym h)
 
   with-left : (o : Option Step) → finish m (with_step o m.vol rest_of) ≡ left_of (turn_with o e j b m).ended b e j (turn_with o e j b m)
   unfolding left_of with_step turn_with rest_of finish take_step
-  with-left none = refl
-  with-left (some x) = let d = exec e j b m.point x m.vol in step_left x d d.next refl
+  with-left None = refl
+  with-left (Some x) = let d = exec e j b m.point x m.vol in step_left x d d.next refl
 
   pub left-turn : left_of false (suc b) e j m ≡ left_of (turn_of e j b m).ended b e j (turn_of e j b m)
   unfolding left_of run_steps rest_of
@@ -98,7 +99,7 @@ module _ (e : Env) (j : actions.Job) (b : ℕ) (m : Machine) where
 
 -- ---- the code's turn
 turn_at :
-    (e : Env) (j : actions.Job) (b : ℕ) (m : Machine) (x : Step) → some x ≡ get_elem? (list_in (get_or e.set.flat j.index []) m.point.list) m.point.place
+    (e : Env) (j : actions.Job) (b : ℕ) (m : Machine) (x : Step) → Some x ≡ slice_get (list_in (get_or e.set.flat j.index []) m.point.list) m.point.place
     → take_step (exec e j b m.point x m.vol) m ≡ turn_of e j b m
 unfolding turn_with step_at
 turn_at e j b m x o = rw (← o)
@@ -107,13 +108,13 @@ taken_is : (run r : RunNow) (w exit : List ℕ) (d : StepDone) (v : List ℕ) (x
 unfolding take_step
 taken_is run r w exit d v x t s = rw (t.vol, t.point, t.reason, t.count, t.written, t.ended, s.state.says, s.effect, s.reason, s.next)
 
-module _ (snapshot image list : List ℕ) (job : Job) (left : ℕ) (run : RunNow) (words : List ℕ) (found : MaybeStep) (at : step_option found ≡ get_elem? (steps_in list) run.point.place) where
+module _ (snapshot image list : List ℕ) (job : Job) (left : ℕ) (run : RunNow) (words : List ℕ) (found : MaybeStep) (at : step_option found ≡ slice_get (steps_in list) run.point.place) where
   pub turn-ends : found ≡ Nothing → Sound run.vol → Turned snapshot image list job left run words (record { vol = run.vol; point = run.point; reason = run.reason; count = run.count; ended = true }) words
   unfolding turn_with step_at
   turn-ends n s =
       record {
         says = λ flat l.
-            let o : none ≡ get_elem? (list_in (get_or flat job.index []) run.point.list) run.point.place = sym (ap step_option n) ∙ at ∙ ap (λ (xs : List Step). get_elem? xs run.point.place) l in
+            let o : None ≡ slice_get (list_in (get_or flat job.index []) run.point.list) run.point.place = sym (ap step_option n) ∙ at ∙ ap (λ (xs : List Step). slice_get xs run.point.place) l in
             rw (← o);
         sound = s;
         based = refl;
@@ -138,7 +139,7 @@ module _ (snapshot image list : List ℕ) (job : Job) (left : ℕ) (run : RunNow
     where
       steps : (flat : List (List FlatStep)) → steps_in list ≡ list_in (get_or flat job.index []) run.point.list → machine r exit ≡ turn_of (env_of snapshot image flat) (job_of job) left (machine run words)
       steps flat l =
-          let o : some x ≡ get_elem? (list_in (get_or flat job.index []) run.point.list) run.point.place = sym (ap step_option n) ∙ at ∙ ap (λ (xs : List Step). get_elem? xs run.point.place) l in
+          let o : Some x ≡ slice_get (list_in (get_or flat job.index []) run.point.list) run.point.place = sym (ap step_option n) ∙ at ∙ ap (λ (xs : List Step). slice_get xs run.point.place) l in
           taken_is run r words exit d run.vol _ t (s flat) ∙ turn_at (env_of snapshot image flat) (job_of job) left (machine run words) x o
 
 -- ---- the loop
@@ -228,14 +229,14 @@ module _ (list : List ℕ) (run : RunNow) (r : RunDone) (same : r.vol ≡ run.vo
         counted = counted;
       }
 
-  module _ (found : MaybeStep) (at : step_option found ≡ get_elem? (steps_in list) run.point.place) (goes : run.ended ≡ false) where
+  module _ (found : MaybeStep) (at : step_option found ≡ slice_get (steps_in list) run.point.place) (goes : run.ended ≡ false) where
     pub finish-unpaid : ((o : Option Step) → step_option found ≡ o → r.reason ≡ first_reason run.reason (unpaid o)) → Finishes list run r
     unfolding step_at
     finish-unpaid q =
         record {
           says = λ w e j l.
               rw (same, counted)
-              (left-unpaid e j 0 (machine run w) r.reason (q _ (at ∙ ap (λ (xs : List Step). get_elem? xs run.point.place) l))
+              (left-unpaid e j 0 (machine run w) r.reason (q _ (at ∙ ap (λ (xs : List Step). slice_get xs run.point.place) l))
               ∙ ap (λ (t : Bool). left_of t 0 e j (machine run w)) (sym goes));
           same = same;
           counted = counted;

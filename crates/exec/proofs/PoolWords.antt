@@ -1,7 +1,7 @@
 -- The place of a Cycle in its list, and its pool word: past the end of the image it is 0, however far past. Assumes nothing.
 use Prim.Native.Nat.{ℕ, ◌+◌, ◌%◌, ◌≤◌, ◌<◌}
 use mathlib.Core.Bool.{true, false}
-use mathlib.Core.Option.{Option}
+use Rattle.std.specs.Prelude.{Option}
 use Rattle.model.specs.Lists.{or_else}
 use Rattle.rows.specs.Options.{option32}
 use Rattle.rows.specs.declared.OptionU32.{OptionU32}

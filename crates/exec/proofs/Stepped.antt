@@ -8,7 +8,7 @@ use native.Mathlib.Omega.{arith}
 use mathlib.Core.Path.{◌≡◌, refl, ap, subst, ◌∙◌}
 use mathlib.Core.Bool.{true, false}
 use mathlib.Core.List.{List}
-use mathlib.Core.Option.{Option, none, some}
+use Rattle.std.specs.Prelude.{Option, None, Some}
 use Rattle.model.specs.Actions as actions
 use Rattle.model.specs.Eval.{condition_at}
 use Rattle.model.specs.Exec as model
@@ -39,8 +39,8 @@ unfolding after_prim
 after-does v a x to d = go x.disables refl
   where
     go : (o : Option ℕ) → x.disables ≡ o → Steps v (record { vol = a.vol; effect = a.effect; reason = a.reason; next = At to }) (after_prim o x to (meaning v))
-    go none e = record { state = rw e at d.state; effect = d.effect; reason = d.reason; next = refl }
-    go (some q) e = record { state = rw e at d.state; effect = d.effect; reason = d.reason; next = refl }
+    go None e = record { state = rw e at d.state; effect = d.effect; reason = d.reason; next = refl }
+    go (Some q) e = record { state = rw e at d.state; effect = d.effect; reason = d.reason; next = refl }
 
 module _ (e : Env) (j : actions.Job) (b : ℕ) (sp to : Point) (v : List ℕ) where
   pub primitive-is : (i : ℕ) → to ≡ advance sp 0 → (let a = actions.prim_at e j (meaning v).rest i in after_prim a.disables a to (meaning v)) ≡ exec e j b sp (Primitive i) (meaning v)
@@ -62,18 +62,18 @@ module _ (e : Env) (j : actions.Job) (b : ℕ) (sp to : Point) (v : List ℕ) wh
         (body : Point) → body ≡ body_start sp → to ≡ advance sp 0 → (let x = schedule e j b ms body (meaning v) in Means w (base v) x.vol × (reason ≡ x.reason))
         → Steps v (record { vol = w; effect = Nothing; reason = reason; next = At to }) (exec e j b sp (After ms) (meaning v))
     unfolding exec
-    after_is body q t s = let u = rw q at s in record { state = u.0; effect = refl; reason = u.1; next = ap some t }
+    after_is body q t s = let u = rw q at s in record { state = u.0; effect = refl; reason = u.1; next = ap Some t }
 
   module _ (c t n : ℕ) where
-    pub then_is : some true ≡ condition_at e (meaning v).rest c → to ≡ enter_then sp t n → ◌≡◌ {A = model.StepResult} (record { vol = meaning v; report = plain; effect = none; reason = 0; next = some to }) (exec e j b sp (Branch c t n) (meaning v))
+    pub then_is : Some true ≡ condition_at e (meaning v).rest c → to ≡ enter_then sp t n → ◌≡◌ {A = model.StepResult} (record { vol = meaning v; report = plain; effect = None; reason = 0; next = Some to }) (exec e j b sp (Branch c t n) (meaning v))
     unfolding exec run_branch
     then_is h p = rw (← h, p)
 
-    pub else_is : some false ≡ condition_at e (meaning v).rest c → to ≡ advance sp t → ◌≡◌ {A = model.StepResult} (record { vol = meaning v; report = plain; effect = none; reason = 0; next = some to }) (exec e j b sp (Branch c t n) (meaning v))
+    pub else_is : Some false ≡ condition_at e (meaning v).rest c → to ≡ advance sp t → ◌≡◌ {A = model.StepResult} (record { vol = meaning v; report = plain; effect = None; reason = 0; next = Some to }) (exec e j b sp (Branch c t n) (meaning v))
     unfolding exec run_branch
     else_is h p = rw (← h, p)
 
-    pub neither-is : none ≡ condition_at e (meaning v).rest c → to ≡ advance sp (t + n) → (let a = actions.fails (meaning v).rest in after_prim a.disables a to (meaning v)) ≡ exec e j b sp (Branch c t n) (meaning v)
+    pub neither-is : None ≡ condition_at e (meaning v).rest c → to ≡ advance sp (t + n) → (let a = actions.fails (meaning v).rest in after_prim a.disables a to (meaning v)) ≡ exec e j b sp (Branch c t n) (meaning v)
     unfolding exec run_branch actions.fails
     neither-is h p = rw (← h, p)
 

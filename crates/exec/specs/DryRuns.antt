@@ -1,6 +1,6 @@
 -- A dry run, in the specification's terms.
 use Rattle.std.specs.Prelude.{ℕ, suc, ◌+◌, ◌≤◌, ◌≡◌, Bool, true, false, List, [], ◌∷◌, ◌++◌, map, length, get_or, take, drop}
-use Rattle.std.proofs.Math.Option.{none, some}
+use Rattle.std.specs.Prelude.{None, Some}
 use Rattle.words.specs.Saturating.{max32}
 use Rattle.model.specs.Actions as actions
 use Rattle.model.specs.Dry as model
@@ -29,7 +29,7 @@ pub record DrySteps (v : List ℕ) (r : StepDone) (d : model.DryStepResult) : Ty
   pub state : Means r.vol (base v) (with_rest d.rest (meaning v))
   pub effect : effect_option r.effect ≡ d.effect
   pub reason : r.reason ≡ d.reason
-  pub next : next_option r.next ≡ some d.next
+  pub next : next_option r.next ≡ Some d.next
 
 abbrev pub DryStepsIn : List ℕ → List ℕ → Job → List ℕ → Point → Step → StepDone → Type 0
 DryStepsIn snapshot image j v sp x r =
@@ -68,7 +68,7 @@ pub record Queues (run : DryRunNow) (x : Step) (r : DryRunNow) : Type 0 where
 pub record Moved (part : List ℕ) (own : ℕ) (run r : DryRunNow) : Type 0 where
   pub says :
       (e : Env) (j : actions.Job) → Says part own (get_or e.set.flat j.index [])
-      → model.next_step e j run.point (bodies_of run) ≡ model.found (step_at e.set j.index r.point) r.point (bodies_of r) none
+      → model.next_step e j run.point (bodies_of run) ≡ model.found (step_at e.set j.index r.point) r.point (bodies_of r) None
   pub same : SameRun run r
   pub fits : r.first ≤ r.queued
   pub most : r.queued ≡ run.queued

@@ -1,7 +1,7 @@
 -- A rule's lists as words.
 use Rattle.std.specs.Prelude.{ℕ, ◌≤◌, ◌≡◌, Bool, true, List, leb, length}
-use Rattle.std.proofs.Math.Option.{Option, none, some}
-use Rattle.std.proofs.Math.ListN.{get_elem?}
+use Rattle.std.specs.Prelude.{Option, None, Some}
+use Rattle.std.specs.Prelude.{slice_get}
 use Rattle.model.specs.Flat.{list_in}
 use Rattle.model.specs.Lists.{all}
 use Rattle.model.specs.Steps.{FlatStep}
@@ -13,12 +13,12 @@ use Rattle.exec.specs.declared.MaybeStep.{MaybeStep}
 use Rattle.exec.specs.declared.MaybeStep.TheVariants.{Nothing, One}
 
 abbrev pub step_option : MaybeStep → Option Step
-step_option Nothing = none
-step_option (One x) = some x
+step_option Nothing = None
+step_option (One x) = Some x
 
 -- the step at a point of a rule, in its part of the flat steps
 abbrev pub step_in : List ℕ → ℕ → Point → Option Step
-step_in w own p = get_elem? (steps_in (list_words w own p.list)) p.place
+step_in w own p = slice_get (steps_in (list_words w own p.list)) p.place
 
 -- no step leads further than a list is long
 abbrev pub is_near : Step → Bool

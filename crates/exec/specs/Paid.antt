@@ -1,6 +1,6 @@
 -- What one paid step did, in the specification's terms.
 use Rattle.std.specs.Prelude.{ℕ, ◌+◌, ◌≡◌, List}
-use Rattle.std.proofs.Math.Option.{Option, none, some}
+use Rattle.std.specs.Prelude.{Option, None, Some}
 use Rattle.model.specs.Actions as actions
 use Rattle.model.specs.Exec as model
 use Rattle.model.specs.Outcome.{plain}
@@ -18,8 +18,8 @@ use Rattle.exec.specs.declared.Next.TheVariants.{Ends, At}
 use Rattle.exec.specs.Done.{ActionDone, StepDone}
 
 abbrev pub next_option : Next → Option Point
-next_option Ends = none
-next_option (At sp) = some sp
+next_option Ends = None
+next_option (At sp) = Some sp
 
 -- how far behind itself a step can lead
 abbrev pub reach : Step → ℕ
@@ -40,7 +40,7 @@ abbrev pub Follows : ActionDone → Point → StepDone → Type 0
 Follows a to r = (v : List ℕ) (x : actions.PrimResult) → Does v a x → Steps v r (model.after_prim x.disables x to (meaning v))
 
 abbrev pub GoesOn : List ℕ → Point → StepDone → Type 0
-GoesOn v to r = Steps v r (record { vol = meaning v; report = plain; effect = none; reason = 0; next = some to })
+GoesOn v to r = Steps v r (record { vol = meaning v; report = plain; effect = None; reason = 0; next = Some to })
 
 -- a step, in every environment; in every environment of a snapshot; in every one of a snapshot and an image
 abbrev pub StepsAlways : Job → List ℕ → Point → Step → StepDone → Type 0

@@ -1,6 +1,6 @@
 -- What an action did, in the specification's terms.
 use Rattle.std.specs.Prelude.{ℕ, ◌≡◌, Bool, List, ℤ}
-use Rattle.std.proofs.Math.Option.{Option, none, some}
+use Rattle.std.specs.Prelude.{Option, None, Some}
 use denote.Enum.Declared.{tag_of}
 use Rattle.model.specs.Actions as model
 use Rattle.model.specs.State as model-state
@@ -22,16 +22,16 @@ use Rattle.exec.specs.declared.PrimResult.{PrimResult}
 use Rattle.exec.specs.Done.{ActionDone, action_done}
 
 abbrev pub effect_option : MaybeEffect → Option Effect
-effect_option Nothing = none
-effect_option (One x) = some x
+effect_option Nothing = None
+effect_option (One x) = Some x
 
 abbrev pub job_of : Job → model.Job
 job_of j = record { rule = j.rule; index = j.index; hold = j.hold; trigger = j.trigger; dry = j.dry; number = j.number }
 
 -- who disables a rule also strikes its continuations
 abbrev pub struck : Option ℕ → model-state.Volatile → model-state.Volatile
-struck none v = v
-struck (some q) v = strike q v
+struck None v = v
+struck (Some q) v = strike q v
 
 -- from v the action came to r, and the specification to a
 pub record Does (v : List ℕ) (r : ActionDone) (a : model.PrimResult) : Type 0 where

@@ -1,6 +1,6 @@
 -- A run under way, and what comes of it, in the specification's terms.
 use Rattle.std.specs.Prelude.{ℕ, suc, ◌+◌, ◌≤◌, ◌≡◌, Bool, true, false, not, List, [], length, get_or}
-use Rattle.std.proofs.Math.Option.{Option, none, some}
+use Rattle.std.specs.Prelude.{Option, None, Some}
 use Rattle.words.specs.Saturating.{max32, max64}
 use Rattle.model.specs.Exec as model
 use Rattle.model.specs.Actions as actions
@@ -66,8 +66,8 @@ take_step d m =
 
 -- one turn, given the step at the run's place
 unfoldable pub turn_with : Option Step → Env → actions.Job → ℕ → Machine → Machine
-turn_with none e j b m = record { vol = m.vol; point = m.point; reason = m.reason; count = m.count; words = m.words; ended = true }
-turn_with (some x) e j b m = take_step (model.exec e j b m.point x m.vol) m
+turn_with None e j b m = record { vol = m.vol; point = m.point; reason = m.reason; count = m.count; words = m.words; ended = true }
+turn_with (Some x) e j b m = take_step (model.exec e j b m.point x m.vol) m
 
 abbrev pub turn_of : Env → actions.Job → ℕ → Machine → Machine
 turn_of e j b m = turn_with (step_at e.set j.index m.point) e j b m

@@ -1,6 +1,6 @@
 // The steps of a list as words, four words a step.
 ghost use Rattle.std.specs.Prelude.{◌≡◌};
-ghost use Rattle.std.proofs.Math.ListN.{get_elem?};
+ghost use Rattle.std.specs.Prelude.{slice_get};
 ghost use Rattle.flat.specs.Words.{step_of, steps_in};
 ghost use Rattle.exec.specs.Lists.{step_option};
 

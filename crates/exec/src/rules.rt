@@ -1,5 +1,5 @@
 // The bits of rules. Who disables a rule also strikes its continuations.
-ghost use Rattle.std.proofs.Math.Option.{some};
+ghost use Rattle.std.specs.Prelude.{Some};
 ghost use Rattle.model.specs.Rules.{rule_named};
 ghost use Rattle.image.specs.Sized.{Sized};
 ghost use Rattle.state.specs.Meaning.{Sound};
@@ -12,7 +12,7 @@ use image::rule::Found;
 
 fn set_bit_at(v: &mut [u32], job: Job, rule: u32, i: u32, on: bool) -> PrimResult
     requires { Sound v.old }
-    ensures { SetsBit job v.old rule on (some i) (action_done v.new result) }
+    ensures { SetsBit job v.old rule on (Some i) (action_done v.new result) }
 {
     if job.dry {
         return no_effect();

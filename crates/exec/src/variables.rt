@@ -1,6 +1,6 @@
 // Variables, and the panel's selection: the actions that read a value. A dry run changes no variable, and does not notice that 16 stand.
 ghost use Rattle.std.specs.Prelude.{List, ℕ};
-ghost use Rattle.std.proofs.Math.Option.{some};
+ghost use Rattle.std.specs.Prelude.{Some};
 ghost use Rattle.model.specs.declared.Action.TheVariants.{VarSet, VarAdd, PanelSelect};
 ghost use Rattle.image.specs.Sized.{Sized};
 ghost use Rattle.state.specs.Meaning.{Sound};
@@ -56,7 +56,7 @@ pub fn var_set(
 // A number is added to what a variable holds: to 0 where there is none, to no text.
 fn add_to(v: &mut [u32], job: Job, name: u32, step: i64, held: VarFound) -> PrimResult
     requires { Sound v.old }
-    ensures { Adds job v.old name (some step) (found_value held) (action_done v.new result) }
+    ensures { Adds job v.old name (Some step) (found_value held) (action_done v.new result) }
 {
     match held {
         VarFound::Absent => assign(v, job, name, VarValue::Int(words::bits_of(step))),
@@ -100,7 +100,7 @@ fn select(
     selected: i64,
 ) -> PrimResult
     requires { Sized image.now × Sound v.old }
-    ensures { Selects image.now job v.old adapter group (some selected) (action_done v.new result) }
+    ensures { Selects image.now job v.old adapter group (Some selected) (action_done v.new result) }
 {
     let bits = words::bits_of(selected);
     if bits <= image::layout::group_limit(image) as u64 {

@@ -1,6 +1,6 @@
 -- What the functions of evaluation answer, as words.
 use Rattle.std.specs.Prelude.{ℕ, Bool, true, false, cond, ◌&&◌, List, [], ◌∷◌, eqb, ℤ, length}
-use Rattle.std.proofs.Math.Option.{Option, none, some}
+use Rattle.std.specs.Prelude.{Option, None, Some}
 use Rattle.words.specs.Pairs.{low_of, high_of}
 use Rattle.words.specs.Signed.{bits64}
 use Rattle.model.specs.Lists.{all}
@@ -33,9 +33,9 @@ rest_in image store = (volatile_in (size_of image rules) (changing_in store)).re
 
 -- 0 no, 1 yes, 2 unevaluable; 3 where an argument is refused
 abbrev pub verdict_code : Option Bool → ℕ
-verdict_code none = 2
-verdict_code (some false) = 0
-verdict_code (some true) = 1
+verdict_code None = 2
+verdict_code (Some false) = 0
+verdict_code (Some true) = 1
 
 unfoldable pub condition_answer : List ℕ → List ℕ → List ℕ → ℕ → ℕ
 condition_answer snapshot image store i =
@@ -46,8 +46,8 @@ abbrev pub marked : ℕ → ℕ → List ℕ
 marked m x = m ∷ low_of x ∷ high_of x ∷ []
 
 abbrev pub number_words : Option ℤ → List ℕ
-number_words none = marked 2 0
-number_words (some z) = marked 1 (bits64 z)
+number_words None = marked 2 0
+number_words (Some z) = marked 1 (bits64 z)
 
 unfoldable pub value_answer : List ℕ → List ℕ → List ℕ → ℕ → List ℕ
 value_answer snapshot image store i =

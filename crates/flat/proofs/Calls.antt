@@ -2,7 +2,7 @@
 use mathlib.Core.Path.{◌≡◌, refl}
 use mathlib.Core.Bool.{Bool}
 use mathlib.Core.List.{List, [], ◌∷◌}
-use mathlib.Core.Option.{Option, none, some}
+use Rattle.std.specs.Prelude.{Option, None, Some}
 use Prim.Native.Nat.{ℕ, ◌+◌, ◌-◌, ◌/◌, ◌≤◌}
 use native.Mathlib.Omega.{arith}
 use lib.ListN.{length, take, drop}
@@ -51,12 +51,12 @@ module _ {acts blocks calls : List ℕ} {scratch d : ℕ} {c : FlattenCtx} {n m 
 
 module _ (acts blocks : List ℕ) (t : List Flattening) (c : FlattenCtx) (n m : ℕ) where
   block_none : (o : Option Record) → found_in o ≡ Nothing → flatten_block acts blocks o t c n m ≡ one_step step.Fail
-  block_none none e = refl
-  block_none (some r) e = let z : ◌≡◌ {A = ℕ} 0 1 = cc in absurd (omega arith)
+  block_none None e = refl
+  block_none (Some r) e = let z : ◌≡◌ {A = ℕ} 0 1 = cc in absurd (omega arith)
 
   block-some : (o : Option Record) (first count : ℕ) → found_in o ≡ Block first count → flatten_block acts blocks o t c n m ≡ flatten_list (take count (drop first t)) c n m
-  block-some none first count e = let z : ◌≡◌ {A = ℕ} 0 1 = cc in absurd (omega arith)
-  block-some (some r) first count e =
+  block-some None first count e = let z : ◌≡◌ {A = ℕ} 0 1 = cc in absurd (omega arith)
+  block-some (Some r) first count e =
       let f : r.a ≡ first = cc in
       let g : r.b ≡ count = cc in
       rw (f, g)

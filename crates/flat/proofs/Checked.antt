@@ -2,7 +2,7 @@
 use mathlib.Core.Path.{◌≡◌, refl, sym, ap, ◌∙◌}
 use mathlib.Core.Bool.{Bool, true, false, ◌||◌, cond}
 use mathlib.Core.List.{List, [], ◌∷◌, map}
-use mathlib.Core.Option.{Option, some}
+use Rattle.std.specs.Prelude.{Option, Some}
 use Prim.Native.Nat.{ℕ, zero, suc, ◌+◌, ◌*◌, ◌-◌, ◌/◌, ◌≤◌, ◌<◌}
 use native.Mathlib.Nat.{mul_comm}
 use native.Mathlib.Omega.{arith}
@@ -62,7 +62,7 @@ module _ (r : Record) (n i : ℕ)
         | no h ↦ rw (lt-ltb r.kind 23 (omega arith)) tt
       ]
 
-found_here : (n : ℕ) (b : Bool) (r : Record) (o : Option Record) → r.a + r.b ≤ n → BlockIn n (found_in o) → BlockIn n (found_in (cond b (some r) o))
+found_here : (n : ℕ) (b : Bool) (r : Record) (o : Option Record) → r.a + r.b ≤ n → BlockIn n (found_in o) → BlockIn n (found_in (cond b (Some r) o))
 found_here n true r o x y = x
 found_here n false r o x y = y
 

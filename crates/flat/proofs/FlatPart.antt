@@ -101,7 +101,7 @@ module _ (fs : List Flattened) (lists steps : List ℕ) where
   unfolding same_flat
   not_made h = rw h
 
-  module _ (n : ℕ) (same : Bool) (none rows : List ℕ) (m : MadeOf fs n same steps none rows) where
+  module _ (n : ℕ) (same : Bool) (None rows : List ℕ) (m : MadeOf fs n same steps None rows) where
     sized : length (step_part fs) ≡ n * 4
     sized = layout-length (stored fs) ∙ ap (λ (k : ℕ). k * 4) (sym m.count)
 

@@ -2,7 +2,7 @@
 use mathlib.Core.Path.{◌≡◌, refl, sym, subst}
 use mathlib.Core.Bool.{Bool, true, false}
 use mathlib.Core.List.{List, [], ◌∷◌}
-use mathlib.Core.Option.{Option, none, some}
+use Rattle.std.specs.Prelude.{Option, None, Some}
 use Prim.Native.Nat.{ℕ, zero, suc, ◌+◌, ◌-◌, ◌/◌, ◌<◌}
 use lib.Dec.{leb}
 use lib.ListN.{length, take, drop}
@@ -136,8 +136,8 @@ module _ (A L : Of) (h : Closed A L) where
         (of-action d call i (flattenings_from acts blks call k (suc i)) behind g (flow_of (record_in acts i)), behind)
 
     of-block : (d : ℕ) (r : Option Record) (t : List Flattening) → Actions d t → Action (suc d) (flatten_block acts blks r t)
-    of-block d none t g c n m = h.fails (suc d) c n m
-    of-block d (some r) t g c n m = h.calls d c n m (flatten_list (take r.b (drop r.a t)) c n m) (of_part d r.b r.a t g c n m)
+    of-block d None t g c n m = h.fails (suc d) c n m
+    of-block d (Some r) t g c n m = h.calls d c n m (flatten_list (take r.b (drop r.a t)) c n m) (of_part d r.b r.a t g c n m)
 
     of-call : (d b : ℕ) → Action d (flatten_call acts blks d b)
     unfolding flatten_call

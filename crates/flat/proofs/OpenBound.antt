@@ -3,7 +3,7 @@
 use mathlib.Core.Path.{◌≡◌, refl, sym, subst}
 use mathlib.Core.Bool.{Bool, true, false}
 use mathlib.Core.List.{List, [], ◌∷◌}
-use mathlib.Core.Option.{Option, none, some}
+use Rattle.std.specs.Prelude.{Option, None, Some}
 use Prim.Native.Nat.{ℕ, zero, suc, ◌+◌, ◌-◌, ◌/◌, ◌≤◌}
 use native.Mathlib.Omega.{arith}
 use lib.Dec.{leb}
@@ -128,8 +128,8 @@ module _ (acts blks : List ℕ) where
       (few-in-action d opened i (flattenings_from acts blks call k (suc i)) (openings_from acts blks call opened k (suc i)) behind g (flow_of (record_in acts i)), behind)
 
   few-in-block : (d : ℕ) (r : Option Record) (gs : List Flattening) (os : List Opening) → AllFew d os → Few (suc d) (open_block acts blks r gs os)
-  few-in-block d none gs os g c n m = omega arith
-  few-in-block d (some r) gs os g c n m = omega (arith, few-in-part d r.a r.b gs os g c n m)
+  few-in-block d None gs os g c n m = omega arith
+  few-in-block d (Some r) gs os g c n m = omega (arith, few-in-part d r.a r.b gs os g c n m)
 
   few-in-call : (d b : ℕ) → Few d (open_call acts blks d b)
   unfolding open_call

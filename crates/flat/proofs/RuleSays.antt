@@ -2,13 +2,14 @@
 use mathlib.Core.Path.{◌≡◌, refl, sym, ap, ◌∙◌}
 use mathlib.Core.Bool.{cond, ◌&&◌}
 use mathlib.Core.List.{List, [], ◌∷◌, ◌++◌, map, append_assoc}
-use mathlib.Core.Option.{Option, none, some}
+use Rattle.std.specs.Prelude.{Option, None, Some}
 use Prim.Native.Nat.{ℕ, zero, suc, ◌+◌, ◌*◌, ◌/◌}
 use native.Mathlib.Nat.{zero-add}
 use native.Mathlib.Omega.{arith}
 use borrow.Author.Tests.{leb-true, leb-false, le-leb, lt-leb}
 use lib.Dec.{leb, eqb}
-use lib.ListN.{length, take, drop, get_or, get_elem?, length-append}
+use lib.ListN.{length, take, drop, get_or, length-append}
+use Rattle.std.specs.Prelude.{slice_get}
 use lib.Seq.{take-append_seam, drop_at}
 use Rattle.model.specs.declared.FlattenCtx.{FlattenCtx}
 use Rattle.model.specs.Steps.{FlatStep, steps_of}
@@ -23,13 +24,13 @@ use Rattle.flat.proofs.EachRule.{of-rule}
 -- ROWS AND STEPS ----------------------------------------------------------------------------------------------------------------------
 -- the rows of the body that a row names, in a rule's part
 abbrev pub row_body : List Row → Option Row → List Row
-row_body part none = []
-row_body part (some r) = cond (eqb r.0 3) (take r.1.1.1 (drop r.1.1.0 part)) []
+row_body part None = []
+row_body part (Some r) = cond (eqb r.0 3) (take r.1.1.1 (drop r.1.1.0 part)) []
 
 -- a row says this step
 pub record RowSays (part : List Row) (r : Row) (x : FlatStep) : Type 0 where
   pub step : step_of r ≡ x.step
-  pub body : map step_of (row_body part (some r)) ≡ x.body
+  pub body : map step_of (row_body part (Some r)) ≡ x.body
 
 abbrev pub RowsSay : List Row → List Row → List FlatStep → Type 0
 RowsSay part [] [] = Unit {0}
@@ -44,7 +45,7 @@ module _ (part : List Row) where
   say-steps (r ∷ rs) [] h = absurd h
   say-steps (r ∷ rs) (x ∷ xs) h = rw (h.0.step, say-steps rs xs h.1)
 
-  pub say-body : (rs : List Row) (xs : List FlatStep) (p : ℕ) → RowsSay part rs xs → map step_of (row_body part (get_elem? rs p)) ≡ body_in (get_elem? xs p)
+  pub say-body : (rs : List Row) (xs : List FlatStep) (p : ℕ) → RowsSay part rs xs → map step_of (row_body part (slice_get rs p)) ≡ body_in (slice_get xs p)
   say-body [] [] p h = refl
   say-body [] (x ∷ xs) p h = absurd h
   say-body (r ∷ rs) [] p h = absurd h
@@ -138,8 +139,8 @@ steps-in rs =
 
 -- the words of the body that a row names, among all words
 abbrev named_words : List ℕ → Option Row → List ℕ
-named_words w none = []
-named_words w (some r) = cond (eqb r.0 3) (take (r.1.1.1 * 4) (drop (r.1.1.0 * 4) w)) []
+named_words w None = []
+named_words w (Some r) = cond (eqb r.0 3) (take (r.1.1.1 * 4) (drop (r.1.1.0 * 4) w)) []
 
 one_more : (r : Row) (rs : List Row) (i : ℕ) → leb (suc (suc i) * 4) (length (layout (r ∷ rs))) ≡ leb (suc i * 4) (length (layout rs))
 one_more r rs i =
@@ -151,7 +152,7 @@ named-at : (w : List ℕ) (rs : List Row) (i : ℕ)
     → cond (leb (suc i * 4) (length (layout rs)) && eqb (get_or (layout rs) (i * 4) 0) 3)
     (take (get_or (layout rs) (i * 4 + 3) 0 * 4) (drop (get_or (layout rs) (i * 4 + 2) 0 * 4) w))
     []
-    ≡ named_words w (get_elem? rs i)
+    ≡ named_words w (slice_get rs i)
 named-at w [] i = rw (lt-leb (suc i * 4) 0 (omega arith))
 named-at w (r ∷ rs) zero = rw (le-leb (1 * 4) (length (layout (r ∷ rs))) (omega arith))
 named-at w (r ∷ rs) (suc i) =
@@ -160,17 +161,17 @@ named-at w (r ∷ rs) (suc i) =
     rw (one_more r rs i, e, f, four-more i) (rw (four-more i) at (named-at w rs i))
 
 named-rows : (rs : List Row) (o : Option Row) → named_words (layout rs) o ≡ layout (row_body rs o)
-named-rows rs none = refl
-named-rows rs (some r) =
+named-rows rs None = refl
+named-rows rs (Some r) =
     by (eqb r.0 3)
     (λ e. rw e (ap (take (r.1.1.1 * 4)) (drop-words r.1.1.0 rs) ∙ take_words r.1.1.1 (drop r.1.1.0 rs)))
     (λ e. rw e)
 
-pub body-words : (rs : List Row) (i : ℕ) → body_words (layout rs) i ≡ layout (row_body rs (get_elem? rs i))
+pub body-words : (rs : List Row) (i : ℕ) → body_words (layout rs) i ≡ layout (row_body rs (slice_get rs i))
 unfolding body_words
-body-words rs i = named-at (layout rs) rs i ∙ named-rows rs (get_elem? rs i)
+body-words rs i = named-at (layout rs) rs i ∙ named-rows rs (slice_get rs i)
 
-behind-front : (rs ss : List Row) (p : ℕ) → get_elem? (rs ++ ss) (length rs + p) ≡ get_elem? ss p
+behind-front : (rs ss : List Row) (p : ℕ) → slice_get (rs ++ ss) (length rs + p) ≡ slice_get ss p
 behind-front [] ss p = rw (zero-add p)
 behind-front (r ∷ rs) ss p =
     let e : suc (length rs) + p ≡ suc (length rs + p) = omega arith in
@@ -184,7 +185,7 @@ part_says bodies rows xs h zero =
     ∙ steps-in rows ∙ say-steps (bodies ++ rows) rows xs h
 part_says bodies rows xs h (suc p) =
     ap steps_in (body-words (bodies ++ rows) (length bodies + p) ∙ ap (λ (o : Option Row). layout (row_body (bodies ++ rows) o)) (behind-front bodies rows p))
-    ∙ steps-in (row_body (bodies ++ rows) (get_elem? rows p)) ∙ say-body (bodies ++ rows) rows xs p h
+    ∙ steps-in (row_body (bodies ++ rows) (slice_get rows p)) ∙ say-body (bodies ++ rows) rows xs p h
 
 pub rule-rows : (img : List ℕ) (i : ℕ) → RowsSay (part_of (flatten_rule img i)) (flatten_rule img i).rows (flatten_rule img i).steps
 rule-rows img i = of-rule SaysAt SaysAt says-closed img i [] (flatten_rule img i).rows refl

@@ -1,7 +1,7 @@
 -- How many lists flattening has open at once, which is what its stack grows with: form by form along the definition of flattening
 -- (crates/model/specs/Flat.antt), whose own numbers of steps decide how far a list is taken.
 use Rattle.std.specs.Prelude.{true, false, cond, List, [], ◌∷◌, ℕ, zero, suc, ◌+◌, ◌-◌, ◌/◌, leb, length, take, drop}
-use Rattle.std.proofs.Math.Option.{Option, none, some}
+use Rattle.std.specs.Prelude.{Option, None, Some}
 use Rattle.model.specs.declared.Record.{Record}
 use Rattle.model.specs.declared.FlowAction.{FlowAction}
 use Rattle.model.specs.declared.FlowAction.TheVariants.{Wait, After, Call, Repeat, Conditional, Plain}
@@ -70,8 +70,8 @@ module _ (acts blks : List ℕ) where
       open_action opened i (flattenings_from acts blks call k (suc i)) behind (flow_of (record_in acts i)) ∷ behind
 
   abbrev pub open_block : Option Record → List Flattening → List Opening → Opening
-  open_block none gs os c n m = 0
-  open_block (some r) gs os c n m = open_part r.a r.b gs os c n m
+  open_block None gs os c n m = 0
+  open_block (Some r) gs os c n m = open_part r.a r.b gs os c n m
 
   unfoldable pub open_call : ℕ → ℕ → Opening
   open_call zero b c n m = 0

@@ -1,6 +1,6 @@
 -- What the functions of flattening require and ensure.
 use Rattle.std.specs.Prelude.{◌≡◌, Bool, false, ◌&&◌, List, [], ◌++◌, ℕ, zero, suc, ◌+◌, ◌*◌, ◌/◌, ◌≤◌, ◌<◌, length, take, drop, get_or}
-use Rattle.std.proofs.Math.Option.{Option, none, some}
+use Rattle.std.specs.Prelude.{Option, None, Some}
 use Rattle.model.specs.declared.Record.{Record}
 use Rattle.model.specs.declared.FlowAction.{FlowAction}
 use Rattle.model.specs.declared.FlowAction.TheVariants.{Wait, After, Call, Repeat, Conditional, Plain}
@@ -30,8 +30,8 @@ action_at acts blocks d i = form_at acts blocks d i (action_in acts i)
 
 -- a block's list of actions, as the code says it: first record and count
 abbrev pub found_in : Option Record → Found
-found_in none = Nothing
-found_in (some r) = Block r.a r.b
+found_in None = Nothing
+found_in (Some r) = Block r.a r.b
 
 -- what the block table gives, where 0 stands for no block and k + 1 for block k
 unfoldable pub block_at : List ℕ → ℕ → Found

@@ -1,7 +1,7 @@
 -- Flat steps as words: four words a step, as model's `step_row` has them (the law is `layout_is` of proofs/Words.antt).
 use Rattle.std.specs.Prelude.{◌≡◌, Bool, true, false, cond, ◌&&◌, List, [], ◌∷◌, ◌++◌, map, ℕ, zero, suc, ◌+◌, ◌*◌, ◌/◌, eqb, leb, length, take, drop, get_or}
-use Rattle.std.proofs.Math.Option.{Option, none, some}
-use Rattle.std.proofs.Math.ListN.{get_elem?}
+use Rattle.std.specs.Prelude.{Option, None, Some}
+use Rattle.std.specs.Prelude.{slice_get}
 use Rattle.model.specs.Codec.{rows_at}
 use Rattle.model.specs.Parts.{step_row}
 use Rattle.model.specs.Flat.{Row, list_in}
@@ -19,13 +19,13 @@ layout (r ∷ rs) = row_words r ++ layout rs
 
 -- word `at` is x
 abbrev pub is_at : Option ℕ → ℕ → Bool
-is_at none x = false
-is_at (some y) x = eqb y x
+is_at None x = false
+is_at (Some y) x = eqb y x
 
 -- these words stand in `seen` from `at` on
 unfoldable pub same_at : List ℕ → ℕ → List ℕ → Bool
 same_at seen at [] = true
-same_at seen at (x ∷ xs) = is_at (get_elem? seen at) x && same_at seen (suc at) xs
+same_at seen at (x ∷ xs) = is_at (slice_get seen at) x && same_at seen (suc at) xs
 
 -- READING -----------------------------------------------------------------------------------------------------------------------------
 -- the step that four words say

@@ -3,7 +3,7 @@ use mathlib.Core.Path.{◌≡◌, refl, sym, ◌∙◌, ap, subst}
 use Prim.Native.Nat.{ℕ, zero, suc}
 use mathlib.Core.Bool.{Bool, true, false, cond, true≢false}
 use mathlib.Core.List.{List, [], ◌∷◌, ◌++◌, append-nil, append_assoc}
-use mathlib.Core.Option.{Option, none, some}
+use Rattle.std.specs.Prelude.{Option, None, Some}
 use Rattle.model.specs.Lists.{or_else}
 use Rattle.model.specs.Image.{budget}
 use Rattle.model.specs.Rules.{name_of, rule_named, name_order}
@@ -170,18 +170,18 @@ module _ (e : Env) where
       (resumes _ _)
 
   pub runs-wet : (x : Option ℕ) (v : Volatile) → Faithful e.set [] (run_rule e x false v)
-  runs-wet none v = no-outcome v
-  runs-wet (some i) v = by (is_enabled v.rest i) (λ t. rw t (activates i 0 Manual v refl)) (λ f. rw f (no-outcome _))
+  runs-wet None v = no-outcome v
+  runs-wet (Some i) v = by (is_enabled v.rest i) (λ t. rw t (activates i 0 Manual v refl)) (λ f. rw f (no-outcome _))
 
 -- THE CALLS ---------------------------------------------------------------------------------------------------------------------------
 -- a tick, with the set in the store or without one
 ticks-refused : (o : Option RuleSet) (n : ℕ) (s : Store) → Ticks o (refuse n s)
-ticks-refused none n s = record { trace = refl; outcomes = refl }
-ticks-refused (some set) n s = activations no_more
+ticks-refused None n s = record { trace = refl; outcomes = refl }
+ticks-refused (Some set) n s = activations no_more
 
-tick-commits : (n now : ℕ) (x : Handled) (s : Store) (set : RuleSet) (cs : List Pending) → Faithful set cs x → Ticks (some set) (committing n now x s)
+tick-commits : (n now : ℕ) (x : Handled) (s : Store) (set : RuleSet) (cs : List Pending) → Faithful set cs x → Ticks (Some set) (committing n now x s)
 tick-commits zero now x s set cs h = trace-of h.part
-tick-commits (suc n) now x s set cs h = ticks-refused (some set) (suc n) s
+tick-commits (suc n) now x s set cs h = ticks-refused (Some set) (suc n) s
 
 no-output-commits : (n now : ℕ) (v : Volatile) (s : Store) → NoOutput (committing n now (no_outcome v) s)
 no-output-commits zero now v s = record { trace = refl; outcomes = refl }
@@ -189,8 +189,8 @@ no-output-commits (suc n) now v s = record { trace = refl; outcomes = refl }
 
 tick-of : (o : Option RuleSet) (snap : List ℕ) (os es : ℕ) (s : Store) → Ticks o (tick_with o snap os es s)
 unfolding tick_with committed
-tick-of none snap os es s = no-output-commits (overflow os es (no_outcome s.vol)) (now_of snap) s.vol s
-tick-of (some set) snap os es s =
+tick-of None snap os es s = no-output-commits (overflow os es (no_outcome s.vol)) (now_of snap) s.vol s
+tick-of (Some set) snap os es s =
     let e : Env = record { world = world_of snap; set = set } in
     tick-commits (overflow os es (service_tick e s.vol)) (now_of snap) (service_tick e s.vol) s set _ (ticks e s.vol)
 
@@ -200,17 +200,17 @@ tick-given o (suc n) s K h = ticks-refused o (suc n) s
 
 -- a wet run
 runs-refused : (o : Option RuleSet) (r n : ℕ) (s : Store) → RunsWet r o (refuse n s)
-runs-refused none r n s = record { trace = refl; outcomes = refl }
-runs-refused (some set) r n s = record { runs = no_more; only = tt }
+runs-refused None r n s = record { trace = refl; outcomes = refl }
+runs-refused (Some set) r n s = record { runs = no_more; only = tt }
 
-run-commits : (n now : ℕ) (x : Handled) (s : Store) (set : RuleSet) (r : ℕ) → Faithful set [] x → OnlyOf r x.outcomes → RunsWet r (some set) (committing n now x s)
+run-commits : (n now : ℕ) (x : Handled) (s : Store) (set : RuleSet) (r : ℕ) → Faithful set [] x → OnlyOf r x.outcomes → RunsWet r (Some set) (committing n now x s)
 run-commits zero now x s set r h only = record { runs = activations-of h.part; only = only }
-run-commits (suc n) now x s set r h only = runs-refused (some set) r (suc n) s
+run-commits (suc n) now x s set r h only = runs-refused (Some set) r (suc n) s
 
 run_of : (o : Option RuleSet) (r : ℕ) (snap : List ℕ) (os es : ℕ) (s : Store) → RunsWet r o (run_with o r false snap os es s)
 unfolding run_with committed
-run_of none r snap os es s = no-output-commits (overflow os es (no_outcome s.vol)) (now_of snap) s.vol s
-run_of (some set) r snap os es s =
+run_of None r snap os es s = no-output-commits (overflow os es (no_outcome s.vol)) (now_of snap) s.vol s
+run_of (Some set) r snap os es s =
     let e : Env = record { world = world_of snap; set = set } in
     let x = run_rule e (rule_named set.image r) false s.vol in
     run-commits (overflow os es x) (now_of snap) x s set r (runs-wet e (rule_named set.image r) s.vol) (run_only e r s.vol)
@@ -225,8 +225,8 @@ load-no-output zero t img fs s = record { trace = refl; outcomes = refl }
 load-no-output (suc n) t img fs s = record { trace = refl; outcomes = refl }
 
 enable-no-output : (o : Option ℕ) (r : ℕ) (on : Bool) (s : Store) → NoOutput (enabling o r on s)
-enable-no-output none r on s = record { trace = refl; outcomes = refl }
-enable-no-output (some i) r on s = record { trace = refl; outcomes = refl }
+enable-no-output None r on s = record { trace = refl; outcomes = refl }
+enable-no-output (Some i) r on s = record { trace = refl; outcomes = refl }
 
 pub call-conforms : (c : Call) (s : Store) → Conforms c s.loaded (call c s)
 unfolding call call_load call_unload call_enable

@@ -6,7 +6,8 @@ use Prim.Native.Nat.{ℕ, suc, ◌+◌, ◌≤◌}
 use native.Mathlib.Omega.{arith}
 use mathlib.Core.Bool.{Bool, true, false, ◌&&◌, ◌||◌, false≢true}
 use mathlib.Core.List.{List, [], ◌∷◌, ◌++◌, map, nil≢cons, cons≢nil, head-eq_of_cons-eq, tail-eq_of_cons-eq}
-use mathlib.Core.Option.{Option, none, some, none-ne-some, some-injective}
+use Rattle.std.specs.Prelude.{Option, None, Some}
+use Rattle.std.proofs.lemmas.Option.{none-some, same_Some}
 use borrow.Author.Tests.{leb-true}
 use lib.ListN.{length, length-append}
 use Rattle.model.specs.Lists.{to_list, all}
@@ -245,32 +246,32 @@ list-body-waits (cut_off u) h = absurd (false≢true h)
 -- LISTS OF PLAIN ACTIONS AND WAITS ALONE ---------------------------------------------------------------------------------------------
 -- the step that is the action of record i, if it nests nothing
 abbrev pub own_step : ℕ → FlowAction → Option Step
-own_step i Plain = some (Primitive i)
-own_step i (WaitAction ms) = some (Wait ms)
-own_step i (AfterAction ms f k) = none
-own_step i (Call b) = none
-own_step i (Repeat t f k) = none
-own_step i (Conditional q yf yk ef ek) = none
+own_step i Plain = Some (Primitive i)
+own_step i (WaitAction ms) = Some (Wait ms)
+own_step i (AfterAction ms f k) = None
+own_step i (Call b) = None
+own_step i (Repeat t f k) = None
+own_step i (Conditional q yf yk ef ek) = None
 
-none-some : {A : Type 0} {B : Type 0} {x : A} {o : Option A} → o ≡ none → o ≡ some x → B
-none-some {x = x} u v = absurd (none-ne-some x (sym u ∙ v))
+none-and-some : {A : Type 0} {B : Type 0} {x : A} {o : Option A} → o ≡ None → o ≡ Some x → B
+none-and-some {x = x} u v = absurd (none-some x (sym u ∙ v))
 
-own-action : {img : List ℕ} {p : Context} {n i : ℕ} {s : Step} {xs : List FlatStep} → ActionForm img p n i xs → own_step i (flow_at img i) ≡ some s → xs ≡ plain s ∷ []
-own-action {i = i} {s = s} (is_plain e) o = ap (λ x. plain x ∷ []) (some-injective _ s (sym (ap (own_step i) e) ∙ o))
-own-action {i = i} {s = s} (is-wait e) o = ap (λ x. plain x ∷ []) (some-injective _ s (sym (ap (own_step i) e) ∙ o))
-own-action {i = i} (is-after e q h) o = none-some (ap (own_step i) e) o
-own-action {i = i} (after-in-after e q) o = none-some (ap (own_step i) e) o
-own-action {i = i} (is_call e d q h) o = none-some (ap (own_step i) e) o
-own-action {i = i} (call-past-limit e d) o = none-some (ap (own_step i) e) o
-own-action {i = i} (call-unknown e d q) o = none-some (ap (own_step i) e) o
-own-action {i = i} (is-repeat e q h c) o = none-some (ap (own_step i) e) o
-own-action {i = i} (repeat-refused e q) o = none-some (ap (own_step i) e) o
-own-action {i = i} (is-branch e q h g) o = none-some (ap (own_step i) e) o
-own-action {i = i} (branch-in-branch e q) o = none-some (ap (own_step i) e) o
+own-action : {img : List ℕ} {p : Context} {n i : ℕ} {s : Step} {xs : List FlatStep} → ActionForm img p n i xs → own_step i (flow_at img i) ≡ Some s → xs ≡ plain s ∷ []
+own-action {i = i} {s = s} (is_plain e) o = ap (λ x. plain x ∷ []) (same_Some _ s (sym (ap (own_step i) e) ∙ o))
+own-action {i = i} {s = s} (is-wait e) o = ap (λ x. plain x ∷ []) (same_Some _ s (sym (ap (own_step i) e) ∙ o))
+own-action {i = i} (is-after e q h) o = none-and-some (ap (own_step i) e) o
+own-action {i = i} (after-in-after e q) o = none-and-some (ap (own_step i) e) o
+own-action {i = i} (is_call e d q h) o = none-and-some (ap (own_step i) e) o
+own-action {i = i} (call-past-limit e d) o = none-and-some (ap (own_step i) e) o
+own-action {i = i} (call-unknown e d q) o = none-and-some (ap (own_step i) e) o
+own-action {i = i} (is-repeat e q h c) o = none-and-some (ap (own_step i) e) o
+own-action {i = i} (repeat-refused e q) o = none-and-some (ap (own_step i) e) o
+own-action {i = i} (is-branch e q h g) o = none-and-some (ap (own_step i) e) o
+own-action {i = i} (branch-in-branch e q) o = none-and-some (ap (own_step i) e) o
 
 -- of such a list that fits behind the steps before it the steps are its own, in order: no cut, no Fail
 pub own-steps : {img is : List ℕ} {p : Context} {n : ℕ} {xs : List FlatStep} → ListForm img p n is xs → (ss : List Step)
-    → map (λ i. own_step i (flow_at img i)) is ≡ map some ss → n + length is ≤ 256 → xs ≡ map plain ss
+    → map (λ i. own_step i (flow_at img i)) is ≡ map Some ss → n + length is ≤ 256 → xs ≡ map plain ss
 own-steps at-end [] e h = refl
 own-steps at-end (s ∷ ss) e h = absurd (nil≢cons e)
 own-steps (action u a q) [] e h = absurd (cons≢nil e)

@@ -2,7 +2,8 @@
 use mathlib.Core.Path.{◌≡◌, sym, ◌∙◌, subst}
 use mathlib.Core.Bool.{true, false}
 use mathlib.Core.List.{List, [], ◌∷◌, ◌++◌}
-use mathlib.Core.Option.{Option, none, some, none-ne-some, some-injective}
+use Rattle.std.specs.Prelude.{Option, None, Some}
+use Rattle.std.proofs.lemmas.Option.{none-some, same_Some}
 use Rattle.model.specs.Lists.{all}
 use Rattle.model.specs.State.{Store, RuleSet}
 use Rattle.model.specs.Outcome.{defers, paid}
@@ -33,11 +34,11 @@ keeps-after s k [] w = k
 keeps-after s k (c ∷ cs) w = keeps-after (call c s).store (call-keeps c s (and_l (in_words c) _ w) k) cs (and_r (in_words c) _ w)
 
 -- a set that the calls leave is in its flat form
-form_of : (o : Option RuleSet) (set : RuleSet) → FlatFormOf o → o ≡ some set → FlatForm set
-form_of none set h e = absurd (none-ne-some set e)
-form_of (some s) set h e = subst FlatForm (some-injective s set e) (subst FlatForm (sym h) (flat-form s.image))
+form_of : (o : Option RuleSet) (set : RuleSet) → FlatFormOf o → o ≡ Some set → FlatForm set
+form_of None set h e = absurd (none-some set e)
+form_of (Some s) set h e = subst FlatForm (same_Some s set e) (subst FlatForm (sym h) (flat-form s.image))
 
-set-flat : (s : Store) → Keeps s → (xs ys : List Call) (set : RuleSet) → all in_words (xs ++ ys) ≡ true → set_after s.loaded (notices s xs) ≡ some set → FlatForm set
+set-flat : (s : Store) → Keeps s → (xs ys : List Call) (set : RuleSet) → all in_words (xs ++ ys) ≡ true → set_after s.loaded (notices s xs) ≡ Some set → FlatForm set
 set-flat s k xs ys set w e = form_of (final_store s xs).loaded set (keeps-after s k xs (all-front in_words xs ys w)).flat (set_after_lem s xs ∙ e)
 
 pub demand3 : (s : Store) → Keeps s → (cs : List Call) → all in_words cs ≡ true → Demand3 s cs

@@ -4,7 +4,7 @@ use Prim.Native.Nat.{ℕ, zero, suc, ◌+◌, ◌-◌, ◌*◌, ◌/◌, ◌≤�
 use native.Mathlib.Omega.{arith}
 use mathlib.Core.Bool.{Bool, true, false, ◌&&◌, true≢false}
 use mathlib.Core.List.{List, [], ◌∷◌, map, tail, cons≢nil, head-eq_of_cons-eq, tail-eq_of_cons-eq}
-use mathlib.Core.Option.{Option, none, some}
+use Rattle.std.specs.Prelude.{Option, None, Some}
 use lib.Dec.{leb, ltb, eqb}
 use lib.ListN.{set}
 use borrow.Author.Tests.{ltb-true, eqb-true, lt-ltb, le-ltb}
@@ -50,8 +50,8 @@ pub record Unchanged (l l' : Ledger) : Type 0 where
 continue-unchanged : (y : Step) (d : StepResult) (x : Option Point) (K : Point → Volatile → RunOutput) (l : Ledger) → ((sp : Point) (v : Volatile) (m : Ledger) → Unchanged m (post_items (K sp v).trace m))
     → Unchanged l (post_items (continue_run y d x K).trace l)
 unfolding continue_run post_item
-continue-unchanged y d none K l ih = record { budget = refl; due = refl; count = refl }
-continue-unchanged y d (some sp) K l ih =
+continue-unchanged y d None K l ih = record { budget = refl; due = refl; count = refl }
+continue-unchanged y d (Some sp) K l ih =
     let i = ih sp d.vol (post_item (paid y d.report d.effect) l) in
     record { budget = i.budget; due = i.due; count = i.count }
 
@@ -59,8 +59,8 @@ with-step-unchanged : (b : ℕ) (e : Env) (w : Job) (sp : Point) (v : Volatile) 
     → ((sp' : Point) (v' : Volatile) (m : Ledger) → Unchanged m (post_items (run_steps b e w sp' v').trace m)) → (x : Option Step)
     → Unchanged l (post_items (with_step x v (λ s. let d = exec e w b sp s v in continue_run s d d.next (λ sp' v'. run_steps b e w sp' v'))).trace l)
 unfolding with_step
-with-step-unchanged b e w sp v l ih none = record { budget = refl; due = refl; count = refl }
-with-step-unchanged b e w sp v l ih (some x) = continue-unchanged x (exec e w b sp x v) (exec e w b sp x v).next (λ sp' v'. run_steps b e w sp' v') l ih
+with-step-unchanged b e w sp v l ih None = record { budget = refl; due = refl; count = refl }
+with-step-unchanged b e w sp v l ih (Some x) = continue-unchanged x (exec e w b sp x v) (exec e w b sp x v).next (λ sp' v'. run_steps b e w sp' v') l ih
 
 runs-unchanged : (b : ℕ) (e : Env) (w : Job) (sp : Point) (v : Volatile) (l : Ledger) → Unchanged l (post_items (run_steps b e w sp v).trace l)
 unfolding run_steps
@@ -119,7 +119,7 @@ module _ (ρ : Activation) where
     executes w true v l wet eb h = absurd (true≢false wet)
     executes w false v l wet eb h =
         let n = next_number v.last_number in
-        let u = with_number (suc v.last_number) (with_rest (with_last_activation (set v.rest.last_activation w.index (some e.world.now)) (bump activations_total v.rest)) v) in
+        let u = with_number (suc v.last_number) (with_rest (with_last_activation (set v.rest.last_activation w.index (Some e.world.now)) (bump activations_total v.rest)) v) in
         let x = runs-bound ρ (image.budget e.set.image) e (numbered n w) start u (post_item (started w.rule) l) ok eb in
         let y = runs-unchanged (image.budget e.set.image) e (numbered n w) start u (post_item (started w.rule) l) in
         let z = starts-bound l.count l.budget (amortized ρ l) h.within in
@@ -245,19 +245,19 @@ module _ (ρ : Activation) where
 
   enables : (x : Option ℕ) (r : ℕ) (b : Bool) (s : Store) (l : Ledger) → flats_ok s.loaded ≡ true → Within l → Stays (enable r b) l (enabling x r b s)
   unfolding events_of post
-  enables none r true s l ok h = record { ok = ok; within = h }
-  enables (some i) r true s l ok h = record { ok = ok; within = h }
-  enables none r false s l ok h = record { ok = ok; within = let y = struck-sum ρ r l.standing.postings in less l (post (disabled r) l) (omega arith) refl h }
-  enables (some i) r false s l ok h = record { ok = ok; within = let y = struck-sum ρ r l.standing.postings in less l (post (disabled r) l) (omega arith) refl h }
+  enables None r true s l ok h = record { ok = ok; within = h }
+  enables (Some i) r true s l ok h = record { ok = ok; within = h }
+  enables None r false s l ok h = record { ok = ok; within = let y = struck-sum ρ r l.standing.postings in less l (post (disabled r) l) (omega arith) refl h }
+  enables (Some i) r false s l ok h = record { ok = ok; within = let y = struck-sum ρ r l.standing.postings in less l (post (disabled r) l) (omega arith) refl h }
 
   tick-bound : (snap : List ℕ) (os es : ℕ) (o : Option RuleSet) (s : Store) (l : Ledger) → s.loaded ≡ o → Agree s l → flats_ok s.loaded ≡ true → Within l
       → Stays (tick snap os es) l (tick_with o snap os es s)
   unfolding tick_with committed events_of post world_of
-  tick-bound snap os es none s l e a ok h =
+  tick-bound snap os es None s l e a ok h =
       let q = leaves-bound (now_of snap) l.standing.postings in
       commits (tick snap os es) (overflow os es (no_outcome s.vol)) (now_of snap) (no_outcome s.vol) s l ok h
       (record { ok = ok; within = less l (post (ticked (now_of snap)) l) (omega arith) refl h })
-  tick-bound snap os es (some set) s l e a ok h =
+  tick-bound snap os es (Some set) s l e a ok h =
       let env : Env = record { world = world_of snap; set = set } in
       let x = ticks s.loaded a.j a.k env s.vol l a.sim (sym (ap flats_ok e) ∙ ok) (a.budget ∙ ap budget_of e) h in
       commits (tick snap os es) (overflow os es (service_tick env s.vol)) (now_of snap) (service_tick env s.vol) s l ok h
@@ -265,17 +265,17 @@ module _ (ρ : Activation) where
 
   runs-wet : (e : Env) → flat_ok e.set ≡ true → (x : Option ℕ) (v : Volatile) (l : Ledger) → l.budget ≡ image.budget e.set.image → Within l
       → BoundKept l (run_rule e x false v)
-  runs-wet e ok none v l eb h = no-outcome v l h
-  runs-wet e ok (some i) v l eb h =
+  runs-wet e ok None v l eb h = no-outcome v l h
+  runs-wet e ok (Some i) v l eb h =
       by (is_enabled v.rest i) (λ t. rw t (activates e ok i 0 Manual v l refl eb h)) (λ f. rw f (no-outcome _ l h))
 
   run-bound : (r : ℕ) (snap : List ℕ) (os es : ℕ) (o : Option RuleSet) (s : Store) (l : Ledger) → s.loaded ≡ o → Agree s l → flats_ok s.loaded ≡ true → Within l
       → Stays (run r false snap os es) l (run_with o r false snap os es s)
   unfolding run_with committed events_of post
-  run-bound r snap os es none s l e a ok h =
+  run-bound r snap os es None s l e a ok h =
       commits (run r false snap os es) (overflow os es (no_outcome s.vol)) (now_of snap) (no_outcome s.vol) s l ok h
       (record { ok = ok; within = less l (post (ran (now_of snap)) l) (omega arith) refl h })
-  run-bound r snap os es (some set) s l e a ok h =
+  run-bound r snap os es (Some set) s l e a ok h =
       let env : Env = record { world = world_of snap; set = set } in
       let y = run_rule env (rule_named set.image r) false s.vol in
       let x = runs-wet env (sym (ap flats_ok e) ∙ ok) (rule_named set.image r) s.vol (post (ran (now_of snap)) l) (a.budget ∙ ap budget_of e)
@@ -286,9 +286,9 @@ module _ (ρ : Activation) where
   dry-bound : (r : ℕ) (snap : List ℕ) (os es : ℕ) (o : Option RuleSet) (s : Store) (l : Ledger) → flats_ok s.loaded ≡ true → Within l
       → Stays (run r true snap os es) l (run_with o r true snap os es s)
   unfolding run_with committed events_of
-  dry-bound r snap os es none s l ok h =
+  dry-bound r snap os es None s l ok h =
       commits (run r true snap os es) (overflow os es (no_outcome s.vol)) (now_of snap) (no_outcome s.vol) s l ok h (record { ok = ok; within = h })
-  dry-bound r snap os es (some set) s l ok h =
+  dry-bound r snap os es (Some set) s l ok h =
       let y = run_rule (record { world = world_of snap; set = set }) (rule_named set.image r) true s.vol in
       commits (run r true snap os es) (overflow os es y) (now_of snap) y s l ok h (record { ok = ok; within = h })
 
@@ -311,7 +311,7 @@ module _ (ρ : Activation) where
       let b = call-bound c s l a ok h in
       history-bound (call c s).store (post_all (events_of (is_refused (call c s).answer) c (call c s).trace) l) cs (follows c s l a).agree b.ok b.within
 
-  start-sum : (cs : List Pending) → potential_of ρ (map (λ (c : Pending). record { entry = entry_of c; age = c.seq; number = c.number; origin = none }) cs) ≡ 0
+  start-sum : (cs : List Pending) → potential_of ρ (map (λ (c : Pending). record { entry = entry_of c; age = c.seq; number = c.number; origin = None }) cs) ≡ 0
   start-sum [] = refl
   start-sum (c ∷ cs) = let ih = start-sum cs in omega arith
 

@@ -5,7 +5,7 @@ use Prim.Native.Nat.{ℕ, zero, suc, ◌+◌, ◌-◌}
 use native.Mathlib.Omega.{arith}
 use mathlib.Core.Bool.{Bool, true, false, false≢true}
 use mathlib.Core.List.{List, [], ◌∷◌, ◌++◌, map}
-use mathlib.Core.Option.{Option, none, some}
+use Rattle.std.specs.Prelude.{Option, None, Some}
 use lib.ListN.{length, take, drop}
 use Rattle.model.specs.Lists.{up_from}
 use Rattle.model.specs.Rows.{rules, actions, blocks}
@@ -41,8 +41,8 @@ module _ (img : List ℕ) where
 
     abbrev CallForm : ℕ → Option Record → List FlatStep → Type 0
     CallForm zero o ys = plain Fail ∷ [] ≡ ys
-    CallForm (suc d) none ys = plain Fail ∷ [] ≡ ys
-    CallForm (suc d) (some r) ys = ListForm img (inside_call d p) n (listed img r.a r.b) ys
+    CallForm (suc d) None ys = plain Fail ∷ [] ≡ ys
+    CallForm (suc d) (Some r) ys = ListForm img (inside_call d p) n (listed img r.a r.b) ys
 
     abbrev RepeatForm : ℕ → ℕ → ℕ → Bool → List FlatStep → Type 0
     RepeatForm t f k true ys = plain Fail ∷ [] ≡ ys

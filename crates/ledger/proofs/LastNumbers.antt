@@ -4,7 +4,7 @@ use Prim.Native.Nat.{ℕ, zero, suc, ◌≤◌}
 use native.Mathlib.Omega.{arith}
 use mathlib.Core.Bool.{Bool, true, false, ◌&&◌}
 use mathlib.Core.List.{List}
-use mathlib.Core.Option.{Option, none, some}
+use Rattle.std.specs.Prelude.{Option, None, Some}
 use lib.Dec.{leb}
 use lib.ListN.{length}
 use borrow.Author.Tests.{leb-true}
@@ -46,18 +46,18 @@ flips rule i true v h = h
 flips rule i false v h = h
 
 enables : (x : Option ℕ) (rule : ℕ) (on : Bool) (s : Store) → s.vol.last_number ≤ max64 → Fits (enabling x rule on s)
-enables none rule on s h = h
-enables (some i) rule on s h = flips rule i on s.vol h
+enables None rule on s h = h
+enables (Some i) rule on s h = flips rule i on s.vol h
 
 ticks : (o : Option RuleSet) (snap : List ℕ) (os es : ℕ) (s : Store) → s.vol.last_number ≤ max64 → Fits (tick_with o snap os es s)
 unfolding tick_with committed
-ticks none snap os es s h = commits _ os es _ _ s refl h
-ticks (some set) snap os es s h = commits _ os es _ _ s refl h
+ticks None snap os es s h = commits _ os es _ _ s refl h
+ticks (Some set) snap os es s h = commits _ os es _ _ s refl h
 
 runs : (o : Option RuleSet) (r : ℕ) (dry : Bool) (snap : List ℕ) (os es : ℕ) (s : Store) → s.vol.last_number ≤ max64 → Fits (run_with o r dry snap os es s)
 unfolding run_with committed
-runs none r dry snap os es s h = commits _ os es _ _ s refl h
-runs (some set) r dry snap os es s h = commits _ os es _ _ s refl h
+runs None r dry snap os es s h = commits _ os es _ _ s refl h
+runs (Some set) r dry snap os es s h = commits _ os es _ _ s refl h
 
 if-given : (n : ℕ) (s : Store) (K : Store → Done) → s.vol.last_number ≤ max64 → Fits (K s) → Fits (given n s K)
 if-given zero s K h k = k

@@ -5,7 +5,7 @@ use Prim.Native.Nat.{ℕ, zero, suc, ◌+◌, ◌≤◌, ◌<◌, zero-le}
 use native.Mathlib.Omega.{arith}
 use mathlib.Core.Bool.{Bool, true, false, not, ◌||◌, cond, false≢true}
 use mathlib.Core.List.{List, [], ◌∷◌, map}
-use mathlib.Core.Option.{Option, none}
+use Rattle.std.specs.Prelude.{Option, None}
 use lib.Dec.{leb, eqb}
 use borrow.Author.Tests.{leb-true, leb-false, eqb-true, ne_eqb}
 use Rattle.words.specs.Saturating.{max64}
@@ -121,7 +121,7 @@ in-below n g (k ∷ ks) h e =
 
 -- no set, no outcome but a dry run's; else the budget is that of the last load
 abbrev LoadedWith : Option RuleSet → ℕ → Type 0
-LoadedWith o b = (o ≡ none) ⊎ (budget_of o ≡ b)
+LoadedWith o b = (o ≡ None) ⊎ (budget_of o ≡ b)
 
 loads-with : (r : Bool) (c : Call) (o : Option RuleSet) (b : ℕ) → not (is_new c) ≡ true → LoadedWith o b → LoadedWith (set_after_call r c o) (budget_after_call r c b)
 unfolding set_of
@@ -136,7 +136,7 @@ loads-with false deadline o b e h = h
 loads-with false counters o b e h = h
 
 -- without a set nothing is shown but by a dry run
-unset : (c : Call) (d : Done) (l : Ledger) → Conforms c none d → Told c l d → all is_zero (numbers_in d) ≡ true
+unset : (c : Call) (d : Done) (l : Ledger) → Conforms c None d → Told c l d → all is_zero (numbers_in d) ≡ true
 unset c d l h (inr p) = p.0
 unset (new t) d l h (inl p) = rw h.outcomes
 unset (load t img) d l h (inl p) = rw h.outcomes

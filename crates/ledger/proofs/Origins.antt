@@ -4,7 +4,7 @@ use Prim.Native.Nat.{ℕ, zero, suc, ◌+◌, ◌≤◌}
 use native.Mathlib.Omega.{arith}
 use mathlib.Core.Bool.{Bool, true, false, not, ◌||◌, false≢true, true≢false}
 use mathlib.Core.List.{List, [], ◌∷◌, map}
-use mathlib.Core.Option.{Option, none, some}
+use Rattle.std.specs.Prelude.{Option, None, Some}
 use lib.Dec.{eqb}
 use lib.ListN.{length}
 use borrow.Author.Tests.{eqb-true, eqb-false, eq-eqb, ne_eqb}
@@ -21,8 +21,8 @@ use Rattle.ledger.proofs.NextNumber.{next-is}
 use Rattle.ledger.proofs.Numbers.{is_made, none_made, last_of, last-events, every-tail, every-leaving}
 
 abbrev pub origin_of : ℕ → ℕ → Option Activation
-origin_of b zero = none
-origin_of b (suc n) = some (record { number = n; budget = b })
+origin_of b zero = None
+origin_of b (suc n) = Some (record { number = n; budget = b })
 
 abbrev TiedAt : ℕ → Posting → Type 0
 TiedAt b h = h.origin ≡ origin_of b h.number
@@ -40,7 +40,7 @@ tied-payer b r (d ∷ ds) h = h.0
 tied-item : (i : Item) (l : Ledger) → last_of (post_item i l) ≤ max64 → Tied l → Tied (post_item i l)
 unfolding post_item post_report struck accept
 tied-item (started r) l f h =
-    record { postings = h.postings; due = h.due; payer = rw (next-is (last_of l) f) (ap (λ n. some (record { number = n; budget = l.budget })) (sym h.count)); count = ap suc h.count }
+    record { postings = h.postings; due = h.due; payer = rw (next-is (last_of l) f) (ap (λ n. Some (record { number = n; budget = l.budget })) (sym h.count)); count = ap suc h.count }
 tied-item (resumed c) l f h =
     record { postings = h.postings; due = every-tail (TiedAt l.budget) l.due h.due; payer = tied-payer l.budget c.rule l.due h.due; count = h.count }
 tied-item (aborted r) l f h = h
@@ -89,7 +89,7 @@ origins-items (started r ∷ is) l f h =
 origins-items (resumed c ∷ is) l f h =
     let t = tied-item (resumed c) l (fits-item (resumed c) is l (unfold post in f)) h in
     ap₂ ◌∷◌ (unfold post_item in t.payer) (origins-items is (post_item (resumed c) l) f t)
-origins-items (aborted r ∷ is) l f h = ap (λ ws. none ∷ ws) (origins-items is (post_item (aborted r) l) f (tied-item (aborted r) l (fits-item (aborted r) is l (unfold post in f)) h))
+origins-items (aborted r ∷ is) l f h = ap (λ ws. None ∷ ws) (origins-items is (post_item (aborted r) l) f (tied-item (aborted r) l (fits-item (aborted r) is l (unfold post in f)) h))
 origins-items (paid x s g ∷ is) l f h = origins-items is (post_item (paid x s g) l) f (tied-item (paid x s g) l (fits-item (paid x s g) is l (unfold post in f)) h)
 
 -- A CALL -----------------------------------------------------------------------------------------------------------------------------

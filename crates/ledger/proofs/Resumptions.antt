@@ -4,7 +4,7 @@ use Prim.Native.Nat.{ℕ, suc, ◌≤◌, ◌<◌}
 use native.Mathlib.Omega.{arith}
 use mathlib.Core.Bool.{Bool, true, false, not, true≢false}
 use mathlib.Core.List.{List, [], ◌∷◌, ◌++◌, map, append-nil, append_assoc}
-use mathlib.Core.Option.{Option, none}
+use Rattle.std.specs.Prelude.{Option, None}
 use lib.Dec.{leb, ltb, eqb}
 use lib.ListN.{length}
 use borrow.Author.Tests.{not-true, ltb-true, eq-eqb, ne_eqb, lt-ltb}
@@ -189,7 +189,7 @@ below-posts [] l h = h
 below-posts (m ∷ ms) l h = below-posts ms (post m l) (below-post m l h)
 
 below-start : (cs : List Pending) (n : ℕ) → all (λ (c : Pending). ltb c.seq n) cs ≡ true
-    → all (λ (h : Posting). ltb h.age n) (map (λ (c : Pending). record { entry = entry_of c; age = c.seq; number = c.number; origin = none }) cs) ≡ true
+    → all (λ (h : Posting). ltb h.age n) (map (λ (c : Pending). record { entry = entry_of c; age = c.seq; number = c.number; origin = None }) cs) ≡ true
 below-start [] n h = refl
 below-start (c ∷ cs) n h = and_i (ltb c.seq n) _ (and_l _ _ h) (below-start cs n (and_r (ltb c.seq n) _ h))
 
@@ -289,7 +289,7 @@ module _ (s : Store) (g : Sound s) (cs : List Call) (before behind : List Event)
 
 -- WHAT IS PENDING AT THE START -------------------------------------------------------------------------------------------------------------
 abbrev start_posting : Pending → Posting
-start_posting c = record { entry = entry_of c; age = c.seq; number = c.number; origin = none }
+start_posting c = record { entry = entry_of c; age = c.seq; number = c.number; origin = None }
 
 eqb-sym-false : (a b : ℕ) → not (eqb a b) ≡ true → eqb b a ≡ false
 eqb-sym-false a b h = ne_eqb b a (λ e. let z : true ≡ false = cc (eq-eqb a b (sym e)) in absurd (true≢false z))

@@ -4,7 +4,7 @@ use mathlib.Core.Logic.{inl, inr}
 use Prim.Native.Nat.{ℕ, zero, suc, ◌≤◌, zero-le, suc-le-suc}
 use mathlib.Core.Bool.{Bool, true, false, cond, not, ◌&&◌}
 use mathlib.Core.List.{[], ◌∷◌, ◌++◌, append-nil}
-use mathlib.Core.Option.{Option, none, some}
+use Rattle.std.specs.Prelude.{Option, None, Some}
 use lib.Dec.{leb, ltb, eqb}
 use lib.IntN.{ℤ, pos, negsuc}
 use lib.ListN.{length}
@@ -36,16 +36,16 @@ pub record RunEffects (b : ℕ) (x : RunOutput) : Type 0 where
 
 continue-run : (b : ℕ) (y : Step) (d : StepResult) (o : Option Point) (K : Point → Volatile → RunOutput) → ((sp : Point) (v : Volatile) → RunEffects b (K sp v)) → RunEffects (suc b) (continue_run y d o K)
 unfolding continue_run
-continue-run b y d none K ih = record { effects = sym (append-nil (to_list d.effect)); paid = suc-le-suc zero-le }
-continue-run b y d (some sp) K ih =
+continue-run b y d None K ih = record { effects = sym (append-nil (to_list d.effect)); paid = suc-le-suc zero-le }
+continue-run b y d (Some sp) K ih =
     let i = ih sp d.vol in
     record { effects = ap (λ xs. to_list d.effect ++ xs) i.effects; paid = suc-le-suc i.paid }
 
 with-step : (b : ℕ) (e : Env) (j : Job) (sp : Point) (v : Volatile) → ((sp' : Point) (v' : Volatile) → RunEffects b (run_steps b e j sp' v')) → (o : Option Step)
     → RunEffects (suc b) (with_step o v (λ x. let d = exec e j b sp x v in continue_run x d d.next (λ sp' v'. run_steps b e j sp' v')))
 unfolding with_step
-with-step b e j sp v ih none = record { effects = refl; paid = zero-le }
-with-step b e j sp v ih (some x) = continue-run b x (exec e j b sp x v) (exec e j b sp x v).next _ ih
+with-step b e j sp v ih None = record { effects = refl; paid = zero-le }
+with-step b e j sp v ih (Some x) = continue-run b x (exec e j b sp x v) (exec e j b sp x v).next _ ih
 
 pub run-effects : (b : ℕ) (e : Env) (j : Job) (sp : Point) (v : Volatile) → RunEffects b (run_steps b e j sp v)
 unfolding run_steps
@@ -54,8 +54,8 @@ run-effects (suc b) e j sp v = with-step b e j sp v (λ sp' v'. run-effects b e 
 
 -- WHAT AN ACTION SAYS --------------------------------------------------------------------------------------------------------------
 abbrev disable_report : Option ℕ → Report
-disable_report none = plain
-disable_report (some q) = disables q
+disable_report None = plain
+disable_report (Some q) = disables q
 
 -- it disables no rule, and notes reason 1 at the most
 NoDisable : PrimResult → Type 0
@@ -86,10 +86,10 @@ module _ (e : Env) (j : Job) (s : Rest) where
       (either (not (present (var_named s name)) && leb 16 (length s.vars)) _ _ (fails-no-disable _) (no-disable-same _))
 
   no-disable-add : (name : ℕ) (o : Option ℤ) (h : Option VarValue) → NoDisable (var_add e j s name o h)
-  no-disable-add name none h = fails-no-disable s
-  no-disable-add name (some x) none = no-disable-set name _
-  no-disable-add name (some x) (some (Int n)) = no-disable-set name _
-  no-disable-add name (some x) (some (Text t)) = fails-no-disable s
+  no-disable-add name None h = fails-no-disable s
+  no-disable-add name (Some x) None = no-disable-set name _
+  no-disable-add name (Some x) (Some (Int n)) = no-disable-set name _
+  no-disable-add name (Some x) (Some (Text t)) = fails-no-disable s
 
   no-disable-light : (t h a v : ℕ) → NoDisable (prim_light e j s t h a v)
   unfolding NoDisable prim_light
@@ -105,14 +105,14 @@ module _ (e : Env) (j : Job) (s : Rest) where
 
   no-disable-selects : (a g : ℕ) (o : Option ℤ) → NoDisable (selects e j s a g o)
   unfolding NoDisable
-  no-disable-selects a g none = fails-no-disable s
-  no-disable-selects a g (some (pos n)) = either (leb n (group_limit e.set.image)) _ _ (refl, inl refl) (fails-no-disable _)
-  no-disable-selects a g (some (negsuc n)) = fails-no-disable s
+  no-disable-selects a g None = fails-no-disable s
+  no-disable-selects a g (Some (pos n)) = either (leb n (group_limit e.set.image)) _ _ (refl, inl refl) (fails-no-disable _)
+  no-disable-selects a g (Some (negsuc n)) = fails-no-disable s
 
   no-disable-dims : (t h : ℕ) (o : Option ℕ) → NoDisable (dims e j s t h o)
   unfolding NoDisable
-  no-disable-dims t h none = fails-no-disable s
-  no-disable-dims t h (some level) = (refl, inl refl)
+  no-disable-dims t h None = fails-no-disable s
+  no-disable-dims t h (Some level) = (refl, inl refl)
 
   no-disable-varset : (n t l h : ℕ) → NoDisable (prim_var_set e j s n t l h)
   unfolding prim_var_set
@@ -126,14 +126,14 @@ module _ (e : Env) (j : Job) (s : Rest) where
   -- who enables or disables a rule, wet
   enable-reports : (r : ℕ) (o : Option ℕ) → NoDisable (set_rule_bit e j s r true o)
   unfolding NoDisable
-  enable-reports r none = fails-no-disable s
-  enable-reports r (some i) = either j.dry _ _ (refl, inl refl) (refl, inl refl)
+  enable-reports r None = fails-no-disable s
+  enable-reports r (Some i) = either j.dry _ _ (refl, inl refl) (refl, inl refl)
 
   disable-reports : j.dry ≡ false → (r : ℕ) (o : Option ℕ)
       → (disable_report (set_rule_bit e j s r false o).disables ≡ cond (present o) (disables r) plain) × MayFail (set_rule_bit e j s r false o).reason
   unfolding fails
-  disable-reports wet r none = (refl, inr refl)
-  disable-reports wet r (some i) = rw wet (refl, inl refl)
+  disable-reports wet r None = (refl, inr refl)
+  disable-reports wet r (Some i) = rw wet (refl, inl refl)
 
   action-reports : j.dry ≡ false → (a : Action) → (disable_report (run_prim e j s a).disables ≡ report_of e.set.image a) × MayFail (run_prim e j s a).reason
   unfolding NoDisable run_prim
@@ -168,9 +168,9 @@ schedule-reason : (e : Env) (j : Job) (b ms : ℕ) (sp : Point) (v : Volatile) �
 unfolding schedule dropped accepted
 schedule-reason e j b ms sp v = by (is_full v) (λ t. rw t) (λ f. rw f)
 
-waits-noting : (set : RuleSet) (i b ms : ℕ) (sp : Point) (d : Bool) (q : ℕ) → q ≡ reason_if d → step_at set i sp ≡ some (Wait ms)
-    → RunOf set i (suc b) sp (paid (Wait ms) (defers d ms (advance sp 0)) none ∷ []) q
-waits-noting set i b ms sp d q e here = subst (λ r. RunOf set i (suc b) sp (paid (Wait ms) (defers d ms (advance sp 0)) none ∷ []) r) (sym e) (waits {d = d} here)
+waits-noting : (set : RuleSet) (i b ms : ℕ) (sp : Point) (d : Bool) (q : ℕ) → q ≡ reason_if d → step_at set i sp ≡ Some (Wait ms)
+    → RunOf set i (suc b) sp (paid (Wait ms) (defers d ms (advance sp 0)) None ∷ []) q
+waits-noting set i b ms sp d q e here = subst (λ r. RunOf set i (suc b) sp (paid (Wait ms) (defers d ms (advance sp 0)) None ∷ []) r) (sym e) (waits {d = d} here)
 
 -- A WET RUN'S TRACE AND REASON ARE THE RUN OF THE RULE'S LIST -----------------------------------------------------------------------------
 -- a run's output as such a run, with a budget, from a point on
@@ -180,20 +180,20 @@ Walks e j b sp x = RunOf e.set j.index b sp x.trace x.reason
 module _ (e : Env) (j : Job) (wet : j.dry ≡ false) (b : ℕ) (sp : Point) (v : Volatile) (K : Point → Volatile → RunOutput)
     (ih : (to : Point) (w : Volatile) → Walks e j b to (K to w)) where
   acted-trace : (i : ℕ) (a : PrimResult) (q : Option ℕ) → (disable_report q ≡ report_of e.set.image (action_of (record_of e.set.image actions i))) × MayFail a.reason
-      → step_at e.set j.index sp ≡ some (Primitive i)
+      → step_at e.set j.index sp ≡ Some (Primitive i)
       → Walks e j (suc b) sp (continue_run (Primitive i) (after_prim q a (advance sp 0) v) (after_prim q a (advance sp 0) v).next K)
   unfolding after_prim continue_run
-  acted-trace i a none h here = continues a.reason here h refl (ih _ _)
-  acted-trace i a (some q) h here = continues a.reason here h refl (ih _ _)
+  acted-trace i a None h here = continues a.reason here h refl (ih _ _)
+  acted-trace i a (Some q) h here = continues a.reason here h refl (ih _ _)
 
-  branched-trace : (c t n : ℕ) (x : Option Bool) → step_at e.set j.index sp ≡ some (Branch c t n)
+  branched-trace : (c t n : ℕ) (x : Option Bool) → step_at e.set j.index sp ≡ Some (Branch c t n)
       → Walks e j (suc b) sp (continue_run (Branch c t n) (run_branch x t n sp v) (run_branch x t n sp v).next K)
   unfolding run_branch after_prim continue_run fails
-  branched-trace c t n (some true) here = continues 0 here (refl, refl, inl refl) (inl refl) (ih _ _)
-  branched-trace c t n (some false) here = continues 0 here (refl, refl, inl refl) (inr (inl refl)) (ih _ _)
-  branched-trace c t n none here = continues 1 here (refl, refl, inr refl) (inr (inr refl)) (ih _ _)
+  branched-trace c t n (Some true) here = continues 0 here (refl, refl, inl refl) (inl refl) (ih _ _)
+  branched-trace c t n (Some false) here = continues 0 here (refl, refl, inl refl) (inr (inl refl)) (ih _ _)
+  branched-trace c t n None here = continues 1 here (refl, refl, inr refl) (inr (inr refl)) (ih _ _)
 
-  exec-trace : (x : Step) → step_at e.set j.index sp ≡ some x → Walks e j (suc b) sp (continue_run x (exec e j b sp x v) (exec e j b sp x v).next K)
+  exec-trace : (x : Step) → step_at e.set j.index sp ≡ Some x → Walks e j (suc b) sp (continue_run x (exec e j b sp x v) (exec e j b sp x v).next K)
   unfolding exec after_prim continue_run fails
   exec-trace (Primitive i) here =
       acted-trace i (prim_at e j v.rest i) (prim_at e j v.rest i).disables (action-reports e j v.rest wet (action_of (record_of e.set.image actions i))) here
@@ -208,13 +208,13 @@ module _ (e : Env) (j : Job) (wet : j.dry ≡ false) (b : ℕ) (sp : Point) (v :
 
   with-step-trace : (o : Option Step) → step_at e.set j.index sp ≡ o → Walks e j (suc b) sp (with_step o v (λ x. let d = exec e j b sp x v in continue_run x d d.next K))
   unfolding with_step
-  with-step-trace none here = ended here
-  with-step-trace (some x) here = exec-trace x here
+  with-step-trace None here = ended here
+  with-step-trace (Some x) here = exec-trace x here
 
 -- at budget 0 a step that is left notes reason 2
 exhausted-trace : (set : RuleSet) (i : ℕ) (sp : Point) (o : Option Step) → step_at set i sp ≡ o → RunOf set i 0 sp [] (unpaid o)
-exhausted-trace set i sp none here = ended here
-exhausted-trace set i sp (some x) here = exhausted here
+exhausted-trace set i sp None here = ended here
+exhausted-trace set i sp (Some x) here = exhausted here
 
 pub run-trace : (b : ℕ) (e : Env) (j : Job) → j.dry ≡ false → (sp : Point) (v : Volatile) → Walks e j b sp (run_steps b e j sp v)
 unfolding run_steps

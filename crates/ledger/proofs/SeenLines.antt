@@ -5,7 +5,7 @@ use Prim.Native.Nat.{ℕ, zero, suc}
 use native.Mathlib.Omega.{arith}
 use mathlib.Core.Bool.{Bool, not}
 use mathlib.Core.List.{List, [], ◌∷◌, map}
-use mathlib.Core.Option.{Option, none, some}
+use Rattle.std.specs.Prelude.{Option, None, Some}
 use lib.Dec.{eqb}
 use lib.ListN.{length}
 use borrow.Author.Tests.{ne_eqb}
@@ -51,8 +51,8 @@ loads (suc n) t img fs s = refuses (load t img) n
 
 enables : (o : Option ℕ) (rule : ℕ) (on : Bool) (s : Store) → Tells (enable rule on) (enabling o rule on s).answer
 unfolding model.number_of model.values_of
-enables none rule on s = record { refusal = refl; count = refl }
-enables (some i) rule on s = record { refusal = refl; count = refl }
+enables None rule on s = record { refusal = refl; count = refl }
+enables (Some i) rule on s = record { refusal = refl; count = refl }
 
 ticks : (snap : List ℕ) (os es n now : ℕ) (x : Handled) (s : Store) → Tells (tick snap os es) (committing n now x s).answer
 unfolding model.number_of model.values_of
@@ -66,13 +66,13 @@ runs r dry snap os es (suc n) now x s = refuses (run r dry snap os es) n
 
 tick-tells : (o : Option RuleSet) (snap : List ℕ) (os es : ℕ) (s : Store) → Tells (tick snap os es) (tick_with o snap os es s).answer
 unfolding tick_with committed
-tick-tells none snap os es s = let x = no_outcome s.vol in ticks snap os es (overflow os es x) (now_of snap) x s
-tick-tells (some set) snap os es s = let x = service_tick (record { world = world_of snap; set = set }) s.vol in ticks snap os es (overflow os es x) (now_of snap) x s
+tick-tells None snap os es s = let x = no_outcome s.vol in ticks snap os es (overflow os es x) (now_of snap) x s
+tick-tells (Some set) snap os es s = let x = service_tick (record { world = world_of snap; set = set }) s.vol in ticks snap os es (overflow os es x) (now_of snap) x s
 
 run-tells : (o : Option RuleSet) (r : ℕ) (dry : Bool) (snap : List ℕ) (os es : ℕ) (s : Store) → Tells (run r dry snap os es) (run_with o r dry snap os es s).answer
 unfolding run_with committed
-run-tells none r dry snap os es s = let x = no_outcome s.vol in runs r dry snap os es (overflow os es x) (now_of snap) x s
-run-tells (some set) r dry snap os es s =
+run-tells None r dry snap os es s = let x = no_outcome s.vol in runs r dry snap os es (overflow os es x) (now_of snap) x s
+run-tells (Some set) r dry snap os es s =
     let x = run_rule (record { world = world_of snap; set = set }) (rule_named set.image r) dry s.vol in runs r dry snap os es (overflow os es x) (now_of snap) x s
 
 if-given : (c : Call) (n : ℕ) (s : Store) (K : Store → Done) → Tells c (K s).answer → Tells c (given n s K).answer

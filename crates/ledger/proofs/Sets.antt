@@ -3,7 +3,7 @@ use mathlib.Core.Path.{◌≡◌, refl, ◌∙◌, ap}
 use Prim.Native.Nat.{ℕ, zero, suc}
 use mathlib.Core.Bool.{Bool, true, false}
 use mathlib.Core.List.{List, [], ◌∷◌}
-use mathlib.Core.Option.{Option, none, some}
+use Rattle.std.specs.Prelude.{Option, None, Some}
 use Rattle.model.specs.State.{Store, RuleSet}
 use Rattle.model.specs.Activate.{Handled}
 use Rattle.model.specs.Flat.{flatten_rules}
@@ -22,8 +22,8 @@ load-leaves zero t img s = refl
 load-leaves (suc n) t img s = refl
 
 enable-leaves : (o : Option ℕ) (r : ℕ) (on : Bool) (s : Store) → Leaves (enable r on) s (enabling o r on s)
-enable-leaves none r on s = refl
-enable-leaves (some i) r on s = refl
+enable-leaves None r on s = refl
+enable-leaves (Some i) r on s = refl
 
 -- a tick or run leaves the set as it was, refused or not
 abbrev KeepsSet : Store → Done → Type 0
@@ -39,13 +39,13 @@ committed-keeps os es now x s = commit-keeps (overflow os es x) now x s
 
 tick-keeps : (o : Option RuleSet) (snap : List ℕ) (os es : ℕ) (s : Store) → KeepsSet s (tick_with o snap os es s)
 unfolding tick_with
-tick-keeps none snap os es s = committed-keeps os es _ _ s
-tick-keeps (some set) snap os es s = committed-keeps os es _ _ s
+tick-keeps None snap os es s = committed-keeps os es _ _ s
+tick-keeps (Some set) snap os es s = committed-keeps os es _ _ s
 
 run-keeps : (o : Option RuleSet) (r : ℕ) (dry : Bool) (snap : List ℕ) (os es : ℕ) (s : Store) → KeepsSet s (run_with o r dry snap os es s)
 unfolding run_with
-run-keeps none r dry snap os es s = committed-keeps os es _ _ s
-run-keeps (some set) r dry snap os es s = committed-keeps os es _ _ s
+run-keeps None r dry snap os es s = committed-keeps os es _ _ s
+run-keeps (Some set) r dry snap os es s = committed-keeps os es _ _ s
 
 given-keeps : (n : ℕ) (s : Store) (K : Store → Done) → KeepsSet s (K s) → KeepsSet s (given n s K)
 given-keeps zero s K h = h

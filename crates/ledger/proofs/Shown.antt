@@ -4,7 +4,7 @@ use Prim.Native.Nat.{ℕ, ◌+◌, ◌-◌, ◌*◌, ◌/◌, ◌≤◌}
 use native.Mathlib.Omega.{arith}
 use mathlib.Core.Bool.{Bool, true, false}
 use mathlib.Core.List.{List, [], ◌∷◌, ◌++◌, map, cons≢nil}
-use mathlib.Core.Option.{Option, none, some}
+use Rattle.std.specs.Prelude.{Option, None, Some}
 use lib.ListN.{length, length-append}
 use Rattle.model.specs.Lists.{to_list}
 use Rattle.model.specs.World.{now_of}
@@ -33,10 +33,10 @@ module _ (a : Activation) where
 
   -- ONE STEP, ONE RUN: its effects are counted for the payer's origin, and it begins nothing ------------------------------------------
   step_counts : (g : Option Effect) (w : Option Activation) (bs : List Activation) → effects_from a (count_effect g w bs) ≡ only_if (from a w) (length (to_list g)) + effects_from a bs
-  step_counts none none bs = omega arith
-  step_counts none (some b) bs = only-if-none (from a (some b)) (effects_from a bs)
-  step_counts (some x) none bs = omega arith
-  step_counts (some x) (some b) bs = refl
+  step_counts None None bs = omega arith
+  step_counts None (Some b) bs = only-if-none (from a (Some b)) (effects_from a bs)
+  step_counts (Some x) None bs = omega arith
+  step_counts (Some x) (Some b) bs = refl
 
   only-if-sum : (t : Bool) (xs ys : List Effect) (n : ℕ) → only_if t (length ys) + (only_if t (length xs) + n) ≡ only_if t (length (xs ++ ys)) + n
   only-if-sum true xs ys n = let e = length-append xs ys in omega arith
@@ -100,12 +100,12 @@ module _ (a : Activation) where
 
   -- ONE CALL, AND ALL -----------------------------------------------------------------------------------------------------------------------
   tick-shown : (o : Option RuleSet) (d : Done) → Ticks o d → Counts d.trace (outcomes_in d.answer)
-  tick-shown none d h = no-output-shown d.trace _ h.trace
-  tick-shown (some set) d h = trace-shown h
+  tick-shown None d h = no-output-shown d.trace _ h.trace
+  tick-shown (Some set) d h = trace-shown h
 
   run-wet-shown : (r : ℕ) (o : Option RuleSet) (d : Done) → RunsWet r o d → Counts d.trace (outcomes_in d.answer)
-  run-wet-shown r none d h = no-output-shown d.trace _ h.trace
-  run-wet-shown r (some set) d h = activations-shown h.runs
+  run-wet-shown r None d h = no-output-shown d.trace _ h.trace
+  run-wet-shown r (Some set) d h = activations-shown h.runs
 
   call-shown : (b : Bool) (c : Call) (o : Option RuleSet) (d : Done) (l : Ledger) → Conforms c o d
       → count (post_all (events_of b c d.trace) l) ≡ shown_with a (origins (events_of b c d.trace) l) (outcomes_in d.answer) + count l

@@ -5,7 +5,7 @@ use Prim.Native.Nat.{ℕ, zero, suc, pred, ◌+◌, ◌≤◌, ◌<◌}
 use native.Mathlib.Omega.{arith}
 use mathlib.Core.Bool.{Bool, true, false, not, true≢false, ◌&&◌}
 use mathlib.Core.List.{List, [], ◌∷◌, ◌++◌, map, tail, cons≢nil, head-eq_of_cons-eq, tail-eq_of_cons-eq, append_assoc}
-use mathlib.Core.Option.{Option, none, some}
+use Rattle.std.specs.Prelude.{Option, None, Some}
 use lib.Dec.{leb, eqb}
 use lib.ListN.{length, set, length-append, length-map}
 use borrow.Author.Tests.{leb-true, leb-false, le-leb, eq-eqb, ne_eqb}
@@ -166,14 +166,14 @@ module _ (o : Option RuleSet) (j k : ℕ) where
 
   acts-tell : (a : PrimResult) (q : Option ℕ) (sp : Point) (v : Volatile) (s : Standing) → TellsReport s (after_prim q a sp v).report
   unfolding after_prim
-  acts-tell a none sp v s = tt
-  acts-tell a (some q) sp v s = tt
+  acts-tell a None sp v s = tt
+  acts-tell a (Some q) sp v s = tt
 
   branches-tell : (x : Option Bool) (t n : ℕ) (sp : Point) (v : Volatile) (s : Standing) → TellsReport s (run_branch x t n sp v).report
   unfolding run_branch after_prim
-  branches-tell (some true) t n sp v s = tt
-  branches-tell (some false) t n sp v s = tt
-  branches-tell none t n sp v s = tt
+  branches-tell (Some true) t n sp v s = tt
+  branches-tell (Some false) t n sp v s = tt
+  branches-tell None t n sp v s = tt
 
   -- one step
   execs-tell : (e : Env) (w : Job) (b : ℕ) (sp : Point) (x : Step) (v : Volatile) (s : Standing) → Sim o j k v s → TellsReport s (exec e w b sp x v).report
@@ -187,15 +187,15 @@ module _ (o : Option RuleSet) (j k : ℕ) where
   acts : (a : PrimResult) (q : Option ℕ) (sp : Point) (v : Volatile) (now : ℕ) (u : Payer) (s : Standing) → Sim o j k v s
       → Sim o j k (after_prim q a sp v).vol (post_report (after_prim q a sp v).report now u s)
   unfolding after_prim post_report
-  acts a none sp v now u s h = any-rest a.rest v s h
-  acts a (some q) sp v now u s h = strikes q (with_rest a.rest v) s (any-rest a.rest v s h)
+  acts a None sp v now u s h = any-rest a.rest v s h
+  acts a (Some q) sp v now u s h = strikes q (with_rest a.rest v) s (any-rest a.rest v s h)
 
   branches : (x : Option Bool) (t n : ℕ) (sp : Point) (v : Volatile) (now : ℕ) (u : Payer) (s : Standing) → Sim o j k v s
       → Sim o j k (run_branch x t n sp v).vol (post_report (run_branch x t n sp v).report now u s)
   unfolding run_branch after_prim post_report
-  branches (some true) t n sp v now u s h = h
-  branches (some false) t n sp v now u s h = h
-  branches none t n sp v now u s h = any-rest _ v s h
+  branches (Some true) t n sp v now u s h = h
+  branches (Some false) t n sp v now u s h = h
+  branches None t n sp v now u s h = any-rest _ v s h
 
   -- one step
   execs : (e : Env) (w : Job) (b : ℕ) (sp : Point) (x : Step) (v : Volatile) (u : Payer) (s : Standing) → Sim o j k v s → u.rule ≡ w.rule → u.left ≡ b
@@ -248,8 +248,8 @@ module _ (o : Option RuleSet) (j k : ℕ) where
       → ((sp : Point) (v : Volatile) (m : Ledger) → Set e w b v m → Ends m (K sp v))
       → Ends l (continue_run y d n K)
   unfolding continue_run post_item
-  continue-run e w b y d none K l h tells ih = record { sim = h.sim; kept = record { now = refl; budget = refl; due = refl; last = report-last d.report _ _ _ }; told = (tells, tt); silent = refl }
-  continue-run e w b y d (some sp) K l h tells ih =
+  continue-run e w b y d None K l h tells ih = record { sim = h.sim; kept = record { now = refl; budget = refl; due = refl; last = report-last d.report _ _ _ }; told = (tells, tt); silent = refl }
+  continue-run e w b y d (Some sp) K l h tells ih =
       let x = ih sp d.vol (post_item (paid y d.report d.effect) l) h in
       record { sim = x.sim; kept = record { now = x.kept.now; budget = x.kept.budget; due = x.kept.due; last = x.kept.last ∙ report-last d.report _ _ _ }; told = (tells, x.told); silent = x.silent }
 
@@ -258,8 +258,8 @@ module _ (o : Option RuleSet) (j k : ℕ) where
       → ((sp' : Point) (v' : Volatile) (m : Ledger) → Set e w b v' m → Ends m (run_steps b e w sp' v')) → (x : Option Step)
       → Ends l (with_step x v (λ s. let d = exec e w b sp s v in continue_run s d d.next (λ sp' v'. run_steps b e w sp' v')))
   unfolding with_step post_item
-  with-step b e w sp v l kr h ih none = record { sim = h.sim; kept = kept_refl; told = tt; silent = refl }
-  with-step b e w sp v l kr h ih (some x) =
+  with-step b e w sp v l kr h ih None = record { sim = h.sim; kept = kept_refl; told = tt; silent = refl }
+  with-step b e w sp v l kr h ih (Some x) =
       continue-run e w b x (exec e w b sp x v) (exec e w b sp x v).next (λ sp' v'. run_steps b e w sp' v') l
       (record {
         sim = rw h.now (execs o j k e w b sp x v (pay l.payer) l.standing h.sim h.rule (ap pred h.left) kr (record { same = h.numbers.same; given = h.numbers.given }));
@@ -320,7 +320,7 @@ module _ (o : Option RuleSet) (j k : ℕ) where
   executes e w v l kr h hn hb =
       let n = next_number v.last_number in
       let u = numbered n w in
-      let s : Rest = with_last_activation (set v.rest.last_activation w.index (some e.world.now)) (bump activations_total v.rest) in
+      let s : Rest = with_last_activation (set v.rest.last_activation w.index (Some e.world.now)) (bump activations_total v.rest) in
       let x = runs (budget e.set.image) e u start (with_number (suc v.last_number) (with_rest s v)) (post_item (started w.rule) l) kr
       (record { sim = takes-number s v l.standing h; now = hn; rule = refl; left = hb; numbers = record { same = ap next_number h.last; given = and_i (leb 1 n) _ (le-leb 1 n (next-positive v.last_number)) (le-leb n _ (let z = h.last in let g = next-given v.last_number in omega arith)) } }) in
       record {

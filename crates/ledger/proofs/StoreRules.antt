@@ -4,7 +4,7 @@ use Prim.Native.Nat.{ℕ, ◌+◌}
 use native.Mathlib.Omega.{arith}
 use mathlib.Core.Bool.{Bool, true}
 use mathlib.Core.List.{List, [], ◌∷◌}
-use mathlib.Core.Option.{none}
+use Rattle.std.specs.Prelude.{None}
 use lib.Dec.{ltb, eqb}
 use lib.ListN.{length}
 use Rattle.model.specs.Lists.{all}
@@ -72,7 +72,7 @@ numbers-kept s l a b d =
 start-distinct : (s : Store) → Sound s → distinct_by age_of (start_ledger s).standing.postings ≡ true
 unfolding start_ledger
 start-distinct s g =
-    distinct-map (λ (c : Pending). record { entry = entry_of c; age = c.seq; number = c.number; origin = none }) age_of (λ (c : Pending). c.seq) 0 (λ c. omega arith) s.vol.pending
+    distinct-map (λ (c : Pending). record { entry = entry_of c; age = c.seq; number = c.number; origin = None }) age_of (λ (c : Pending). c.seq) 0 (λ c. omega arith) s.vol.pending
     ∙ g.distinct
 
 -- the store rules hold after every call

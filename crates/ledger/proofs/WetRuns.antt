@@ -3,7 +3,8 @@ use mathlib.Core.Path.{◌≡◌, refl, subst}
 use Prim.Native.Nat.{ℕ, zero, suc}
 use mathlib.Core.Bool.{Bool, true, false, cond}
 use mathlib.Core.List.{List}
-use mathlib.Core.Option.{Option, none, some, none-ne-some, some-injective}
+use Rattle.std.specs.Prelude.{Option, None, Some}
+use Rattle.std.proofs.lemmas.Option.{none-some, same_Some}
 use lib.Dec.{eqb}
 use borrow.Author.Tests.{eqb-true}
 use Rattle.model.specs.Lists.{position_from, up_from}
@@ -18,16 +19,16 @@ use Rattle.ledger.specs.Trace.{OnlyOf}
 use Rattle.ledger.proofs.ListLaws.{by}
 
 -- the number that is found passes
-position-passes : (p : ℕ → Bool) (m i k : ℕ) → position_from p i (up_from i m) ≡ some k → p k ≡ true
-position-passes p zero i k e = absurd (none-ne-some k e)
+position-passes : (p : ℕ → Bool) (m i k : ℕ) → position_from p i (up_from i m) ≡ Some k → p k ≡ true
+position-passes p zero i k e = absurd (none-some k e)
 position-passes p (suc m) i k e = go (p i) refl e (position-passes p m (suc i) k)
   where
-    go : (b : Bool) → p i ≡ b → cond b (some i) (position_from p (suc i) (up_from (suc i) m)) ≡ some k → (position_from p (suc i) (up_from (suc i) m) ≡ some k → p k ≡ true) → p k ≡ true
-    go true h e more = subst (λ n. p n ≡ true) (some-injective i k e) h
+    go : (b : Bool) → p i ≡ b → cond b (Some i) (position_from p (suc i) (up_from (suc i) m)) ≡ Some k → (position_from p (suc i) (up_from (suc i) m) ≡ Some k → p k ≡ true) → p k ≡ true
+    go true h e more = subst (λ n. p n ≡ true) (same_Some i k e) h
     go false h e more = more e
 
 -- the rule that is found by a name has that name
-name-of-rule : (img : List ℕ) (r i : ℕ) → rule_named img r ≡ some i → name_of img i ≡ r
+name-of-rule : (img : List ℕ) (r i : ℕ) → rule_named img r ≡ Some i → name_of img i ≡ r
 unfolding rule_named
 name-of-rule img r i e = eqb-true (name_of img i) r (position-passes (λ k. eqb (name_of img k) r) (size_of img rules) 0 i e)
 
@@ -44,8 +45,8 @@ module _ (e : Env) (r : ℕ) where
 
   named-only : (o : Option ℕ) → rule_named e.set.image r ≡ o → (v : Volatile) → OnlyOf r (run_rule e o false v).outcomes
   unfolding activate job_of
-  named-only none h v = tt
-  named-only (some i) h v =
+  named-only None h v = tt
+  named-only (Some i) h v =
       by (is_enabled v.rest i)
       (λ t. rw t (one-outcome (job_of e (name_of e.set.image i) i 0 false) (decide e i Manual v.rest) v (name-of-rule e.set.image r i h) refl))
       (λ f. rw f tt)

@@ -1,6 +1,6 @@
 -- Demand 3: one claim about a list of calls. It is proved as `demand3` of proofs/Demand3.antt.
 use Rattle.std.specs.Prelude.{◌≡◌, ℕ, ◌+◌, ◌-◌, ◌*◌, ◌/◌, ◌^◌, ◌≤◌, Bool, true, false, ◌&&◌, List, [], ◌∷◌, ◌++◌, map, leb, ltb, eqb, length}
-use Rattle.std.proofs.Math.Option.{Option, some}
+use Rattle.std.specs.Prelude.{Option, Some}
 use Rattle.words.specs.Saturating.{max32}
 use Rattle.model.specs.Lists.{all, flatten}
 use Rattle.model.specs.declared.Step.{Step}
@@ -106,7 +106,7 @@ pub record Demand3 (s : Store) (cs : List Call) : Type 0 where
   -- step and each with its outcome, over the set that the calls before it have loaded; without a set, and in every other call, nothing
   pub conforms : (xs ys : List Call) (c : Call) → cs ≡ xs ++ (c ∷ ys) → Conforms c (set_after s.loaded (notices s xs)) (call c (final_store s xs))
   -- whose lists are the flat forms of its rules' actions, waits and all
-  pub flat : (xs ys : List Call) (set : RuleSet) → cs ≡ xs ++ ys → set_after s.loaded (notices s xs) ≡ some set → FlatForm set
+  pub flat : (xs ys : List Call) (set : RuleSet) → cs ≡ xs ++ ys → set_after s.loaded (notices s xs) ≡ Some set → FlatForm set
   -- each dry run of the list changes only counters and the last time
   pub dry : (xs ys : List Call) (r : ℕ) (snap : List ℕ) (os es : ℕ) → cs ≡ xs ++ (run r true snap os es ∷ ys)
       → SameButCounters (final_store s xs) (call (run r true snap os es) (final_store s xs)).store

@@ -1,6 +1,6 @@
 -- How many effects a wet activation gave, with its continuations and theirs in turn: by the ledger's count, and by the outcomes.
 use Rattle.std.specs.Prelude.{◌≡◌, ℕ, ◌+◌, Bool, true, false, ◌&&◌, List, [], ◌∷◌, ◌++◌, map, eqb, length}
-use Rattle.std.proofs.Math.Option.{Option, none, some}
+use Rattle.std.specs.Prelude.{Option, None, Some}
 use Rattle.model.specs.Lists.{all}
 use Rattle.model.specs.Outcome.{Outcome, Item, started, resumed, aborted, paid}
 use Rattle.model.specs.State.{Store}
@@ -12,8 +12,8 @@ unfoldable pub same_activation : Activation → Activation → Bool
 same_activation a b = eqb a.number b.number && eqb a.budget b.budget
 
 abbrev pub from : Activation → Option Activation → Bool
-from a none = false
-from a (some b) = same_activation a b
+from a None = false
+from a (Some b) = same_activation a b
 
 -- n where the test holds, else nothing
 abbrev pub only_if : Bool → ℕ → ℕ
@@ -36,7 +36,7 @@ begun (ticked t) l = []
 begun (ran t) l = []
 begun (traced (started r)) l = l.payer.origin ∷ []
 begun (traced (resumed c)) l = l.payer.origin ∷ []
-begun (traced (aborted r)) l = none ∷ []
+begun (traced (aborted r)) l = None ∷ []
 begun (traced (paid x s g)) l = []
 
 -- whose the outcomes are, in order

@@ -2,7 +2,7 @@
 -- order, the executed steps. "After the start it sees no store."
 use Rattle.std.specs.Prelude.{ℕ, suc, pred, Bool, true, false, cond, not, ◌&&◌, ◌||◌, leb, ltb, eqb, length}
 use mathlib.Core.List.{List, [], ◌∷◌, ◌++◌, map, tail}
-use Rattle.std.proofs.Math.Option.{Option, none, some}
+use Rattle.std.specs.Prelude.{Option, None, Some}
 use Rattle.model.specs.Lists.{keep, sort}
 use Rattle.words.specs.Saturating.{saturating_add, max64}
 use Rattle.model.specs.Image as image
@@ -124,18 +124,18 @@ pay u = record { rule = u.rule; left = pred u.left; number = u.number; origin = 
 
 -- "and gives at most one effect": it is counted for its origin
 abbrev pub count_effect : Option Effect → Option Activation → List Activation → List Activation
-count_effect none origin before = before
-count_effect (some x) none before = before
-count_effect (some x) (some a) before = a ∷ before
+count_effect None origin before = before
+count_effect (Some x) None before = before
+count_effect (Some x) (Some a) before = a ∷ before
 
 -- a resumption goes on with the budget and the origin of the first entry that is still to resume; of the record only the rule is asked
 abbrev pub resumed_payer : ℕ → List Posting → Payer
-resumed_payer r [] = record { rule = r; left = 0; number = 0; origin = none }
+resumed_payer r [] = record { rule = r; left = 0; number = 0; origin = None }
 resumed_payer r (h ∷ hs) = record { rule = r; left = h.entry.budget; number = h.number; origin = h.origin }
 
 -- nothing runs
 abbrev pub nobody : Payer
-nobody = record { rule = 0; left = 0; number = 0; origin = none }
+nobody = record { rule = 0; left = 0; number = 0; origin = None }
 
 -- POSTING --------------------------------------------------------------------------------------------------------------------
 unfoldable pub post_item : Item → Ledger → Ledger
@@ -145,7 +145,7 @@ post_item (started r) l =
       budget = l.budget;
       standing = record { postings = l.standing.postings; next = l.standing.next; last_number = suc l.standing.last_number };
       due = l.due;
-      payer = record { rule = r; left = l.budget; number = next_number l.standing.last_number; origin = some (record { number = l.count; budget = l.budget }) };
+      payer = record { rule = r; left = l.budget; number = next_number l.standing.last_number; origin = Some (record { number = l.count; budget = l.budget }) };
       count = suc l.count;
       effects = l.effects;
     }
@@ -195,8 +195,8 @@ unfoldable pub entry_of : Pending → Entry
 entry_of c = record { rule = c.rule; point = c.point; due = c.due; budget = c.budget }
 
 abbrev pub budget_of : Option RuleSet → ℕ
-budget_of none = 0
-budget_of (some set) = image.budget set.image
+budget_of None = 0
+budget_of (Some set) = image.budget set.image
 
 -- "Start: the pending records, in order"
 unfoldable pub start_ledger : Store → Ledger
@@ -205,7 +205,7 @@ start_ledger s =
       now = s.now;
       budget = budget_of s.loaded;
       standing = record {
-        postings = map (λ (c : Pending). record { entry = entry_of c; age = c.seq; number = c.number; origin = none }) s.vol.pending;
+        postings = map (λ (c : Pending). record { entry = entry_of c; age = c.seq; number = c.number; origin = None }) s.vol.pending;
         next = s.vol.next;
         last_number = s.vol.last_number;
       };

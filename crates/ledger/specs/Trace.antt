@@ -2,7 +2,7 @@
 -- what that step says and leads where that step leads; a run stops only at the list's end, at budget 0, or behind a wait; and each run has one
 -- outcome, which tells the run's rule, trigger, effects and reason.
 use Rattle.std.specs.Prelude.{◌≡◌, ◌⊎◌, ℕ, suc, ◌+◌, Bool, true, false, cond, List, [], ◌∷◌, ◌++◌}
-use Rattle.std.proofs.Math.Option.{Option, none, some}
+use Rattle.std.specs.Prelude.{Option, None, Some}
 use Rattle.model.specs.Lists.{or_else, to_list, present}
 use Rattle.model.specs.Image.{budget}
 use Rattle.model.specs.Rows.{actions}
@@ -71,9 +71,9 @@ reason_if dropped = cond dropped effect_budget 0
 abbrev pub Reports : RuleSet → Step → Point → Report → Option Effect → ℕ → Type 0
 Reports set (Primitive i) sp s g q = (s ≡ report_of set.image (action_of (record_of set.image actions i))) × MayFail q
 Reports set (Wait ms) sp s g q = ⊥
-Reports set (After ms) sp s g q = (d : Bool) × (s ≡ defers d ms (body_start sp)) × (g ≡ none) × (q ≡ reason_if d)
-Reports set (Branch c t n) sp s g q = (s ≡ plain) × (g ≡ none) × MayFail q
-Reports set Fail sp s g q = (s ≡ plain) × (g ≡ none) × (q ≡ condition_unevaluable)
+Reports set (After ms) sp s g q = (d : Bool) × (s ≡ defers d ms (body_start sp)) × (g ≡ None) × (q ≡ reason_if d)
+Reports set (Branch c t n) sp s g q = (s ≡ plain) × (g ≡ None) × MayFail q
+Reports set Fail sp s g q = (s ≡ plain) × (g ≡ None) × (q ≡ condition_unevaluable)
 
 -- into the then-region, into the else-region, or past both
 abbrev pub Branches : ℕ → ℕ → Point → Point → Type 0
@@ -90,11 +90,11 @@ Leads Fail sp to = to ≡ advance sp 0
 -- a run of rule i of the set, with a budget, from a point on: its paid steps, and its reason, the first that is noted. Reason 2 is noted by a
 -- wait or an after that is dropped, and by a step that is left when the budget is used up; by nothing else.
 pub data RunOf (set : RuleSet) (i : ℕ) : ℕ → Point → List Item → ℕ → Type 0 where
-  ended : {b : ℕ} {sp : Point} → step_at set i sp ≡ none → RunOf set i b sp [] 0
-  exhausted : {sp : Point} {x : Step} → step_at set i sp ≡ some x → RunOf set i 0 sp [] effect_budget
-  waits : {b ms : ℕ} {sp : Point} {d : Bool} → step_at set i sp ≡ some (Wait ms)
-      → RunOf set i (suc b) sp (paid (Wait ms) (defers d ms (advance sp 0)) none ∷ []) (reason_if d)
-  continues : {b r : ℕ} {sp to : Point} {x : Step} {s : Report} {g : Option Effect} {ms : List Item} (q : ℕ) → step_at set i sp ≡ some x → Reports set x sp s g q → Leads x sp to
+  ended : {b : ℕ} {sp : Point} → step_at set i sp ≡ None → RunOf set i b sp [] 0
+  exhausted : {sp : Point} {x : Step} → step_at set i sp ≡ Some x → RunOf set i 0 sp [] effect_budget
+  waits : {b ms : ℕ} {sp : Point} {d : Bool} → step_at set i sp ≡ Some (Wait ms)
+      → RunOf set i (suc b) sp (paid (Wait ms) (defers d ms (advance sp 0)) None ∷ []) (reason_if d)
+  continues : {b r : ℕ} {sp to : Point} {x : Step} {s : Report} {g : Option Effect} {ms : List Item} (q : ℕ) → step_at set i sp ≡ Some x → Reports set x sp s g q → Leads x sp to
       → RunOf set i b to ms r → RunOf set i (suc b) sp (paid x s g ∷ ms) (first_reason q r)
 
 -- what a wet run's outcome tells: the rule, the trigger, the reason, the number, and the effects of these paid steps
@@ -128,8 +128,8 @@ pub record NoOutput (d : Done) : Type 0 where
 
 -- without a set nothing runs
 abbrev pub Ticks : Option RuleSet → Done → Type 0
-Ticks none d = NoOutput d
-Ticks (some set) d = TraceOf set d.trace (outcomes_of d)
+Ticks None d = NoOutput d
+Ticks (Some set) d = TraceOf set d.trace (outcomes_of d)
 
 -- no outcome, or one: of this rule, with trigger 0
 abbrev pub OnlyOf : ℕ → List Outcome → Type 0
@@ -143,8 +143,8 @@ pub record WetRunOf (set : RuleSet) (r : ℕ) (d : Done) : Type 0 where
   pub only : OnlyOf r (outcomes_of d)
 
 abbrev pub RunsWet : ℕ → Option RuleSet → Done → Type 0
-RunsWet r none d = NoOutput d
-RunsWet r (some set) d = WetRunOf set r d
+RunsWet r None d = NoOutput d
+RunsWet r (Some set) d = WetRunOf set r d
 
 -- only ticks and runs have a trace and outcomes. A dry run's are not demand 3's.
 abbrev pub Conforms : Call → Option RuleSet → Done → Type 0

@@ -2,7 +2,8 @@
 use mathlib.Core.Path.{◌≡◌, refl, sym, ap, ◌∙◌}
 use mathlib.Core.Bool.{Bool, true, false, ◌&&◌, ◌||◌, not, cond, and-true, and_assoc, false≢true}
 use mathlib.Core.List.{List, [], ◌∷◌, ◌++◌, append_assoc, append-nil}
-use mathlib.Core.Option.{none, some, none-ne-some, some-injective}
+use Rattle.std.specs.Prelude.{None, Some}
+use Rattle.std.proofs.lemmas.Option.{none-some, same_Some}
 use Prim.Native.Nat.{ℕ, zero, suc, ◌+◌, ◌-◌, ◌*◌, ◌≤◌}
 use native.Mathlib.Nat.{add-zero, zero-add, add_assoc, one-mul, add-mul, mul-one}
 use native.Mathlib.Omega.{arith}
@@ -197,7 +198,7 @@ as-parts-laws s {c} p =
 
 -- READING AND WRITING -----------------------------------------------------------------------------------------------------------------
 module _ {A : Type 0} (c : Codec A) (laws : CodecLaws c) (rules : A → Bool) where
-  pub decode-put : (a : A) → c.good a ≡ true → rules a ≡ true → decode c rules (c.put a) ≡ some a
+  pub decode-put : (a : A) → c.good a ≡ true → rules a ≡ true → decode c rules (c.put a) ≡ Some a
   unfolding decode
   decode-put a g h =
       let l = laws.long a g in
@@ -222,10 +223,10 @@ module _ {A : Type 0} (c : Codec A) (laws : CodecLaws c) (rules : A → Bool) wh
       let z = drop_of_length-le w {i = sizes c.parts} (omega (arith, k)) in
       record { put_back = sym (append-nil (c.put (c.get w))) ∙ (rw z at v); good = g; met = h }
 
-  pub put-decode : (w : List ℕ) (a : A) → decode c rules w ≡ some a → Holds w a
+  pub put-decode : (w : List ℕ) (a : A) → decode c rules w ≡ Some a → Holds w a
   unfolding decode
   put-decode w a e = go (accepted c rules w) refl e
     where
-      go : (b : Bool) → accepted c rules w ≡ b → cond b (some (c.get w)) none ≡ some a → Holds w a
-      go true t e = rw (some-injective _ _ e) at (holds w t)
-      go false t e = absurd (none-ne-some _ e)
+      go : (b : Bool) → accepted c rules w ≡ b → cond b (Some (c.get w)) None ≡ Some a → Holds w a
+      go true t e = rw (same_Some _ _ e) at (holds w t)
+      go false t e = absurd (none-some _ e)

@@ -3,7 +3,7 @@ use mathlib.Core.Path.{◌≡◌, refl, sym, ap, ◌∙◌}
 use mathlib.Core.Logic.{◌⊎◌, inl, inr}
 use mathlib.Core.Bool.{Bool, true, false, not, cond, false≢true}
 use mathlib.Core.List.{List}
-use mathlib.Core.Option.{some}
+use Rattle.std.specs.Prelude.{Some}
 use Prim.Native.Nat.{ℕ, zero, suc, ◌+◌, ◌-◌, ◌≤◌, ◌<◌, zero-le}
 use native.Mathlib.Nat.{eq-or-lt_of_le}
 use native.Mathlib.Omega.{arith}
@@ -29,14 +29,14 @@ last-first img = refl
 
 -- the number that is found, where none before it passes
 module _ (p : ℕ → Bool) where
-  finds-case : (m i k : ℕ) (b : Bool) → p i ≡ b → p k ≡ true → (i < k → p i ≡ false) → (i < k → position_from p (suc i) (up_from (suc i) m) ≡ some k) → (i ≡ k) ⊎ (i < k)
-      → cond b (some i) (position_from p (suc i) (up_from (suc i) m)) ≡ some k
-  finds-case m i k true h t before rest (inl e) = ap some e
+  finds-case : (m i k : ℕ) (b : Bool) → p i ≡ b → p k ≡ true → (i < k → p i ≡ false) → (i < k → position_from p (suc i) (up_from (suc i) m) ≡ Some k) → (i ≡ k) ⊎ (i < k)
+      → cond b (Some i) (position_from p (suc i) (up_from (suc i) m)) ≡ Some k
+  finds-case m i k true h t before rest (inl e) = ap Some e
   finds-case m i k true h t before rest (inr l) = absurd (false≢true (sym (before l) ∙ h))
   finds-case m i k false h t before rest (inl e) = absurd (false≢true (sym h ∙ rw (← e) at t))
   finds-case m i k false h t before rest (inr l) = rest l
 
-  pub finds : (m i k : ℕ) → i ≤ k → k < i + m → p k ≡ true → ((j : ℕ) → j < k → p j ≡ false) → position_from p i (up_from i m) ≡ some k
+  pub finds : (m i k : ℕ) → i ≤ k → k < i + m → p k ≡ true → ((j : ℕ) → j < k → p j ≡ false) → position_from p i (up_from i m) ≡ Some k
   finds zero i k a b t before = absurd (omega arith)
   finds (suc m) i k a b t before =
       finds-case m i k (p i) refl t (before i) (λ l. finds m (suc i) k l (omega arith) t before) (eq-or-lt_of_le a)
@@ -50,7 +50,7 @@ module _ (img : List ℕ) (ok : names_differ img ≡ true) where
       let differ : not (eqb (name_of img a) (name_of img b)) ≡ true = every-at _ a b row hb in
       false≢true (sym (ap not (eq-eqb (name_of img a) (name_of img b) e)) ∙ differ)
 
-  pub rule-of-name : (i : ℕ) → i < size_of img rules → rule_named img (name_of img i) ≡ some i
+  pub rule-of-name : (i : ℕ) → i < size_of img rules → rule_named img (name_of img i) ≡ Some i
   unfolding rule_named
   rule-of-name i hi =
       finds (λ k. eqb (name_of img k) (name_of img i)) (size_of img rules) 0 i zero-le (omega arith)

@@ -2,7 +2,7 @@
 use mathlib.Core.Path.{◌≡◌, refl, sym, ap, ◌∙◌}
 use mathlib.Core.Bool.{Bool, true, false, ◌&&◌, ◌||◌, not, or-true, and_assoc, false≢true}
 use mathlib.Core.List.{List, [], ◌∷◌, ◌++◌, append_assoc}
-use mathlib.Core.Option.{Option, none, some}
+use Rattle.std.specs.Prelude.{Option, None, Some}
 use Prim.Native.Nat.{ℕ, zero, suc, ◌+◌, ◌*◌, ◌/◌, ◌%◌, ◌≤◌, ◌<◌}
 use native.Mathlib.Nat.{add_comm, zero-add, suc-add, zero-mul, suc-mul, mod-lt, mod-eq_of_lt, div-eq_of_lt-le, div-lt_iff_lt-mul, div-add-mod', add-mul-mod_self_left}
 use native.Mathlib.Omega.{arith}
@@ -175,16 +175,16 @@ pub ⊗-blank : {A B : Type 0} {r : Row A} {s : Row B} → Blank r → Blank s �
 -- A MARK AND A ROW ------------------------------------------------------------------------------------------------------------------
 module _ {A : Type 0} {r : Row A} (p : RowLaws r) (b : Blank r) where
   maybe-long : (o : Option A) → length ((maybe r).put o) ≡ length (maybe r).cells
-  maybe-long none = ap suc (length-replicate _ _)
-  maybe-long (some a) = ap suc (p.long a)
+  maybe-long None = ap suc (length-replicate _ _)
+  maybe-long (Some a) = ap suc (p.long a)
 
   maybe-reads : (o : Option A) (rest : List ℕ) → (maybe r).good o ≡ true
       → ((maybe r).get ((maybe r).put o ++ rest) ≡ o) × (row_fits (maybe r).cells ((maybe r).put o ++ rest) ≡ true)
   unfolding row_fits
-  maybe-reads none rest g =
+  maybe-reads None rest g =
       let z = zeros-written (length r.cells) rest in
       (refl, rw (z, b.blank _ z))
-  maybe-reads (some a) rest g = let (v, f) = p.reads a rest g in (ap some v, f)
+  maybe-reads (Some a) rest g = let (v, f) = p.reads a rest g in (ap Some v, f)
 
   maybe-writes : (w : List ℕ) → row_fits (maybe r).cells w ≡ true
       → ((maybe r).put ((maybe r).get w) ++ drop (length (maybe r).cells) w ≡ w) × ((maybe r).good ((maybe r).get w) ≡ true)

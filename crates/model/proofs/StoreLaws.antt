@@ -3,7 +3,8 @@
 use mathlib.Core.Path.{◌≡◌, refl, sym, ap, ◌∙◌}
 use mathlib.Core.Bool.{Bool, true, false, ◌&&◌, not, cond, false≢true}
 use mathlib.Core.List.{List, [], ◌∷◌, ◌++◌, map}
-use mathlib.Core.Option.{Option, none, some, none-ne-some, some-injective}
+use Rattle.std.specs.Prelude.{Option, None, Some}
+use Rattle.std.proofs.lemmas.Option.{none-some, same_Some}
 use Prim.Native.Nat.{ℕ, zero, suc, ◌+◌, ◌-◌, ◌^◌}
 use native.Mathlib.Omega.{arith}
 use lib.Dec.{leb, ltb, eqb}
@@ -85,9 +86,9 @@ number_same : (a : ℕ) → eqb a a ≡ true
 number_same a = eq-eqb a a refl
 
 -- BITS, OPTIONS, VARIABLES ----------------------------------------------------------------------------------------------------------
-none_only : {A : Type 0} (a : Option A) → not (present a) ≡ true → a ≡ none
-none_only none e = refl
-none_only (some a) e = absurd (false≢true e)
+none_only : {A : Type 0} (a : Option A) → not (present a) ≡ true → a ≡ None
+none_only None e = refl
+none_only (Some a) e = absurd (false≢true e)
 
 bit-back : (b : ℕ) → leb b 1 ≡ true → bit_of (is_one b) ≡ b
 bit-back zero e = refl
@@ -202,8 +203,8 @@ module _ (m : Changing) (g : changing_part.good m ≡ true) where
       let bits : filled 64 0 (map bit_of (map is_one (take n m.bits))) ≡ m.bits =
       ap (filled 64 0) (bits_back (take n m.bits) (good-take n m.bits good-bits.1))
       ∙ fill-take 0 (λ b. eqb b 0) (λ b e. eqb-true b 0 e) refl 64 n m.bits good-bits.0 b in
-      let activations = fill-take none (λ a. not (present a)) none_only refl 64 n m.activations long-activations a in
-      let positions = fill-take none (λ a. not (present a)) none_only refl 64 n m.positions long-positions c in
+      let activations = fill-take None (λ a. not (present a)) none_only refl 64 n m.activations long-activations a in
+      let positions = fill-take None (λ a. not (present a)) none_only refl 64 n m.positions long-positions c in
       let variables = rows_back m.variables rest_of.1 in
       λ j.
       record {
@@ -232,8 +233,8 @@ parts-back p g w =
 
 -- WHAT THE PARTS OF A STORE SAY -------------------------------------------------------------------------------------------------------
 set_back : (o : Option RuleSet) → FlatFormOf o → set_in (loaded_of o) ≡ o
-set_back none f = refl
-set_back (some set) f = ap some (sym f)
+set_back None f = refl
+set_back (Some set) f = ap Some (sym f)
 
 form-refl : (l : Loaded) → flat_form l l ≡ true
 form-refl l = join (list_same eqb number_same l.image) (join (list_same same_pair pair_same l.lists) (list_same same_row row_same l.steps))
@@ -265,8 +266,8 @@ module _ (n : ℕ) (v : Volatile) (o : one_for_each n v.rest ≡ true) where
   volatile-back =
       let (a, (b, c)) = lengths in
       let bits = ap (map is_one) (take-fill 0 (λ b. eqb b 0) (λ b e. eqb-true b 0 e) refl 64 n (map bit_of v.rest.enabled) (map-length bit_of v.rest.enabled ∙ a)) ∙ bools-back v.rest.enabled in
-      let activations = take-fill none (λ a. not (present a)) none_only refl 64 n v.rest.last_activation b in
-      let positions = take-fill none (λ a. not (present a)) none_only refl 64 n v.rest.cycle_pos c in
+      let activations = take-fill None (λ a. not (present a)) none_only refl 64 n v.rest.last_activation b in
+      let positions = take-fill None (λ a. not (present a)) none_only refl 64 n v.rest.cycle_pos c in
       let variables = variables-back v.rest.vars in
       λ j.
       record {
@@ -289,8 +290,8 @@ module _ (n : ℕ) (v : Volatile) (o : one_for_each n v.rest ≡ true) where
   unused-zero =
       let (a, (b, c)) = lengths in
       join (drop-fill 0 (λ b. eqb b 0) (λ b e. eqb-true b 0 e) refl 64 n (map bit_of v.rest.enabled) (map-length bit_of v.rest.enabled ∙ a))
-      (join (drop-fill none (λ a. not (present a)) none_only refl 64 n v.rest.last_activation b)
-      (drop-fill none (λ a. not (present a)) none_only refl 64 n v.rest.cycle_pos c))
+      (join (drop-fill None (λ a. not (present a)) none_only refl 64 n v.rest.last_activation b)
+      (drop-fill None (λ a. not (present a)) none_only refl 64 n v.rest.cycle_pos c))
 
 one-for-each : (s : Store) → rules_hold s ≡ true → one_for_each (rule_count s.loaded) s.vol.rest ≡ true
 unfolding rules_hold
@@ -323,13 +324,13 @@ words-hold s k =
     join f (join (texts-short s.vol.rest.vars k.texts) u)
 
 -- READING AND WRITING -----------------------------------------------------------------------------------------------------------------
-pub read-write : (s : Store) → Keeps s → read (write s) ≡ some s
+pub read-write : (s : Store) → Keeps s → read (write s) ≡ Some s
 unfolding read write parts_fit
 read-write s k =
     let b = store-back s k in
     let r : rules_hold (store_in (parts_of s)) ≡ true = ap rules_hold b ∙ k.rules in
     let d = decode-put layout layout-laws parts_fit (parts_of s) k.room (join (words-hold s k) r) in
-    rw d (ap some b)
+    rw d (ap Some b)
 
 -- a store that reads
 pub record Reads (w : List ℕ) (s : Store) : Type 0 where
@@ -340,7 +341,7 @@ flat-form : (l : Loaded) → FlatFormOf (set_in l)
 unfolding set_of
 flat-form l = go (is_one l.loaded)
   where
-    go : (b : Bool) → FlatFormOf (cond b (some (set_of l.image (flatten_rules l.image))) none)
+    go : (b : Bool) → FlatFormOf (cond b (Some (set_of l.image (flatten_rules l.image))) None)
     go true = refl
     go false = tt
 
@@ -363,10 +364,10 @@ parts-read w p h =
           };
     }
 
-pub write_read : (w : List ℕ) (s : Store) → read w ≡ some s → Reads w s
+pub write_read : (w : List ℕ) (s : Store) → read w ≡ Some s → Reads w s
 unfolding read
 write_read w s e = go (decode layout parts_fit w) refl e
   where
-    go : (o : Option Parts) → decode layout parts_fit w ≡ o → (o >>= (λ p. some (store_in p))) ≡ some s → Reads w s
-    go none d e = absurd (none-ne-some _ e)
-    go (some p) d e = rw (some-injective _ _ e) at (parts-read w p (put-decode layout layout-laws parts_fit w p d))
+    go : (o : Option Parts) → decode layout parts_fit w ≡ o → (o >>= (λ p. Some (store_in p))) ≡ Some s → Reads w s
+    go None d e = absurd (none-some _ e)
+    go (Some p) d e = rw (same_Some _ _ e) at (parts-read w p (put-decode layout layout-laws parts_fit w p d))

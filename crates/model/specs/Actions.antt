@@ -1,6 +1,6 @@
 -- The primitive actions: `run_prim` and below, exec.rs. The effects are those of document 01, "Outcomes and effects".
 use Rattle.std.specs.Prelude.{ℕ, suc, ◌+◌, ◌%◌, Bool, true, false, cond, not, ◌&&◌, leb, ltb, eqb, ℤ, pos, negsuc, length, set}
-use Rattle.std.proofs.Math.Option.{Option, none, some}
+use Rattle.std.specs.Prelude.{Option, None, Some}
 use Rattle.words.specs.Saturating.{saturating_add, max64}
 use Rattle.words.specs.Pairs.{joined}
 use Rattle.words.specs.Signed.{signed64, bits64, saturating_add_i64}
@@ -36,13 +36,13 @@ condition_unevaluable = 1
 -- `Ok(Some(effect))`, `Ok(None)`, `Err(Unevaluable)`
 abbrev pub emits : Rest → ℕ → ℕ → ℕ → ℕ → ℕ → PrimResult
 emits s kind a b c d =
-    record { rest = s; effect = some (record { kind = kind; a = a; b = b; c = c; d = d }); disables = none; reason = 0 }
+    record { rest = s; effect = Some (record { kind = kind; a = a; b = b; c = c; d = d }); disables = None; reason = 0 }
 
 abbrev pub no_effect : Rest → PrimResult
-no_effect s = record { rest = s; effect = none; disables = none; reason = 0 }
+no_effect s = record { rest = s; effect = None; disables = None; reason = 0 }
 
 unfoldable pub fails : Rest → PrimResult
-fails s = record { rest = bump actions_failed s; effect = none; disables = none; reason = condition_unevaluable }
+fails s = record { rest = bump actions_failed s; effect = None; disables = None; reason = condition_unevaluable }
 
 -- hold_hcl of a light: its own, or the rule's where 2 says that it has none
 abbrev pub hold_or : ℕ → ℕ → ℕ
@@ -50,8 +50,8 @@ hold_or hold rule = cond (eqb hold 2) rule hold
 
 -- the level of a value in parts per million, where it can be evaluated and has one
 abbrev pub level_at : Option ℤ → Option ℕ
-level_at none = none
-level_at (some x) = level_of x
+level_at None = None
+level_at (Some x) = level_of x
 
 module _ (e : Env) (j : Job) (s : Rest) where
   -- the stored answers of `light_verb` and `scene_number`
@@ -69,7 +69,7 @@ module _ (e : Env) (j : Job) (s : Rest) where
   unfoldable pub cycle_effect : ℕ → ℕ → PrimResult
   cycle_effect first count =
       let at = or_else 0 (cycle_pos_at s j.index) % count in
-      emits (cond j.dry s (with_cycle_pos (set s.cycle_pos j.index (some (suc at % count))) s))
+      emits (cond j.dry s (with_cycle_pos (set s.cycle_pos j.index (Some (suc at % count))) s))
       1 (word_at e.set.image pool (first + at) 0) 0 0 j.hold
 
   unfoldable pub prim_cycle : ℕ → ℕ → PrimResult
@@ -77,14 +77,14 @@ module _ (e : Env) (j : Job) (s : Rest) where
 
   -- `selected` from 0 to the group limit
   abbrev pub selects : ℕ → ℕ → Option ℤ → PrimResult
-  selects adapter group none = fails s
-  selects adapter group (some (negsuc n)) = fails s
-  selects adapter group (some (pos n)) = cond (leb n (group_limit e.set.image)) (emits s 7 adapter group n 0) (fails s)
+  selects adapter group None = fails s
+  selects adapter group (Some (negsuc n)) = fails s
+  selects adapter group (Some (pos n)) = cond (leb n (group_limit e.set.image)) (emits s 7 adapter group n 0) (fails s)
 
   -- a light at a level, or a value that has none
   abbrev pub dims : ℕ → ℕ → Option ℕ → PrimResult
-  dims target hold none = fails s
-  dims target hold (some level) = emits s 12 target level (hold_or hold j.hold) 0
+  dims target hold None = fails s
+  dims target hold (Some level) = emits s 12 target level (hold_or hold j.hold) 0
 
   -- 16 timers, and 16 variables
   unfoldable pub arm_timer : ℕ → ℕ → Rest → PrimResult
@@ -105,17 +105,17 @@ module _ (e : Env) (j : Job) (s : Rest) where
       (var_set name (Int (joined low high)))
 
   abbrev pub var_add : ℕ → Option ℤ → Option VarValue → PrimResult
-  var_add name none held = fails s
-  var_add name (some step) none = var_set name (Int (bits64 step))
-  var_add name (some step) (some (Int n)) = var_set name (Int (bits64 (saturating_add_i64 (signed64 n) step)))
-  var_add name (some step) (some (Text t)) = fails s
+  var_add name None held = fails s
+  var_add name (Some step) None = var_set name (Int (bits64 step))
+  var_add name (Some step) (Some (Int n)) = var_set name (Int (bits64 (saturating_add_i64 (signed64 n) step)))
+  var_add name (Some step) (Some (Text t)) = fails s
 
   -- the bit of a rule of the set; who disables also strikes the rule's continuations
   abbrev pub set_rule_bit : ℕ → Bool → Option ℕ → PrimResult
-  set_rule_bit rule on none = fails s
-  set_rule_bit rule on (some i) =
+  set_rule_bit rule on None = fails s
+  set_rule_bit rule on (Some i) =
       cond j.dry (no_effect s)
-      (record { rest = with_enabled (set s.enabled i on) s; effect = none; disables = cond on none (some rule); reason = 0 })
+      (record { rest = with_enabled (set s.enabled i on) s; effect = None; disables = cond on None (Some rule); reason = 0 })
 
   unfoldable pub run_prim : Action → PrimResult
   run_prim (Light target hold answer verb) = prim_light target hold answer verb

@@ -1,6 +1,6 @@
 -- One activation: activate.rs, and `resume` of wheel.rs.
 use Rattle.std.specs.Prelude.{ℕ, suc, ◌-◌, Bool, true, false, cond, ◌&&◌, List, [], ◌∷◌, ◌++◌, ltb, eqb, length, set}
-use Rattle.std.proofs.Math.Option.{Option, none, some}
+use Rattle.std.specs.Prelude.{Option, None, Some}
 use Rattle.model.specs.Lists.{or_else}
 use Rattle.model.specs.Image.{budget}
 use Rattle.model.specs.Rules.{name_of, hold_hcl_of, cooldown_of, conditions_of_rule, rule_named}
@@ -52,8 +52,8 @@ with_number n v = record { rest = v.rest; pending = v.pending; next = v.next; la
 
 -- `in_cooldown`
 abbrev pub within : ℕ → ℕ → Option ℕ → Bool
-within now ms none = false
-within now ms (some at) = ltb (now - at) ms
+within now ms None = false
+within now ms (Some at) = ltb (now - at) ms
 
 unfoldable pub in_cooldown : Env → ℕ → Rest → Bool
 in_cooldown e i s = within e.world.now (cooldown_of e.set.image i) (last_activation_at s i)
@@ -63,9 +63,9 @@ pub data Decision : Type 0 where
   begins suppressed unevaluable : Rest → Decision
 
 abbrev pub verdict : Option Bool → Bool → Rest → Decision
-verdict (some true) dry s = begins s
-verdict (some false) dry s = suppressed (bump conditions_rejected s)
-verdict none dry s = unevaluable (cond dry s (bump partial_outcomes s))
+verdict (Some true) dry s = begins s
+verdict (Some false) dry s = suppressed (bump conditions_rejected s)
+verdict None dry s = unevaluable (cond dry s (bump partial_outcomes s))
 
 -- the Rust also asks for the depth of a chain, which is always 0 (document 02, request 9; crate `reasons`)
 unfoldable pub decide : Env → ℕ → Mode → Rest → Decision
@@ -86,7 +86,7 @@ finished j item r =
 -- `execute`: the last activation is written before the steps run, and only of a wet run; it takes the next number
 unfoldable pub execute_wet : Env → Job → Volatile → Handled
 execute_wet e j v =
-    let s = with_last_activation (set v.rest.last_activation j.index (some e.world.now)) (bump activations_total v.rest) in
+    let s = with_last_activation (set v.rest.last_activation j.index (Some e.world.now)) (bump activations_total v.rest) in
     let w = numbered (next_number v.last_number) j in
     finished w (started j.rule) (run_steps (budget e.set.image) e w start (with_number (suc v.last_number) (with_rest s v)))
 

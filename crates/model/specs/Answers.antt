@@ -1,6 +1,6 @@
 -- Outcomes and effects as words in the lent stores: document 01, "Outcomes and effects".
 use Rattle.std.specs.Prelude.{ℕ, ◌+◌, ◌-◌, cond, List, [], ◌∷◌, ◌++◌, length, replicate}
-use Rattle.std.proofs.Math.Option.{none, some}
+use Rattle.std.specs.Prelude.{None, Some}
 use Rattle.words.specs.Pairs.{low_of, high_of}
 use Rattle.model.specs.Calls.{Answer, done, refused, enabled, handled, due, counted, Outcome, Effect, effects_of}
 
@@ -55,6 +55,6 @@ values_of done = []
 values_of (refused n) = []
 values_of (enabled b) = cond b 1 0 ∷ []
 values_of (handled os) = length os ∷ effects_of os ∷ []
-values_of (due none) = 0 ∷ 0 ∷ 0 ∷ []
-values_of (due (some t)) = 1 ∷ low_of t ∷ high_of t ∷ []
+values_of (due None) = 0 ∷ 0 ∷ 0 ∷ []
+values_of (due (Some t)) = 1 ∷ low_of t ∷ high_of t ∷ []
 values_of (counted cs) = cs

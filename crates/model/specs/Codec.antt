@@ -1,6 +1,6 @@
 -- What words say, and the words that say it. A codec is a layout with the two directions; codecs are put together as the words are.
 use Rattle.std.specs.Prelude.{◌≡◌, Bool, true, ◌&&◌, cond, List, [], ◌∷◌, ◌++◌, ℕ, zero, suc, ◌-◌, ◌*◌, ◌^◌, leb, ltb, eqb, length, get_or, drop, replicate}
-use Rattle.std.proofs.Math.Option.{Option, none, some}
+use Rattle.std.specs.Prelude.{Option, None, Some}
 use Rattle.words.specs.Pairs.{joined, low_of, high_of}
 use Rattle.model.specs.Layout.{Cell, Part, fixed, counted, up_to, free, mark, sizes, parts_fit}
 
@@ -39,16 +39,16 @@ abbrev pub ◌⊗◌ : {A B : Type 0} → Row A → Row B → Row (A × B)
 infixr 40 ◌⊗◌
 -- a mark, and a row that is 0 where the mark is 0
 abbrev pub marked : {A : Type 0} → ℕ → A → Option A
-marked zero x = none
-marked (suc n) x = some x
+marked zero x = None
+marked (suc n) x = Some x
 
 abbrev pub put_maybe : {A : Type 0} → Row A → Option A → List ℕ
-put_maybe r none = 0 ∷ replicate (length r.cells) 0
-put_maybe r (some x) = 1 ∷ r.put x
+put_maybe r None = 0 ∷ replicate (length r.cells) 0
+put_maybe r (Some x) = 1 ∷ r.put x
 
 abbrev pub good_maybe : {A : Type 0} → Row A → Option A → Bool
-good_maybe r none = true
-good_maybe r (some x) = r.good x
+good_maybe r None = true
+good_maybe r (Some x) = r.good x
 
 abbrev pub maybe : {A : Type 0} → Row A → Row (Option A)
 maybe r =
@@ -139,4 +139,4 @@ abbrev pub accepted : {A : Type 0} → Codec A → (A → Bool) → List ℕ →
 accepted c rules w = eqb (length w) (sizes c.parts) && (parts_fit c.parts w && rules (c.get w))
 
 unfoldable pub decode : {A : Type 0} → Codec A → (A → Bool) → List ℕ → Option A
-decode c rules w = cond (accepted c rules w) (some (c.get w)) none
+decode c rules w = cond (accepted c rules w) (Some (c.get w)) None

@@ -1,6 +1,6 @@
 -- A line of a crontab as AtTime triggers: document 02, request 2. Its fields and patterns, what is refused, and the triggers.
 use Rattle.std.specs.Prelude.{ℕ, zero, suc, ◌+◌, ◌/◌, ◌%◌, ◌^◌, Bool, true, false, cond, ◌&&◌, ◌||◌, List, [], ◌∷◌, map, leb, ltb, eqb, length, get_or, take, drop}
-use Rattle.std.proofs.Math.Option.{Option, none, some}
+use Rattle.std.specs.Prelude.{Option, None, Some}
 use Rattle.model.specs.Lists.{all, any, every, flatten, keep, total, up_from}
 use Rattle.model.specs.Field.{unless}
 use Rattle.model.specs.Digits.{is_digit, value_from}
@@ -61,15 +61,15 @@ highest = 59 ∷ 23 ∷ 31 ∷ 12 ∷ 6 ∷ []
 -- PATTERNS: "numbers, ranges with a hyphen, comma lists and the asterisk" --------------------------------------------------------------
 -- "a number is decimal digits, leading zeros allowed"
 unfoldable pub number_of : List ℕ → Option ℕ
-number_of [] = none
-number_of (b ∷ bs) = cond (all is_digit (b ∷ bs)) (some (value_from 0 (b ∷ bs))) none
+number_of [] = None
+number_of (b ∷ bs) = cond (all is_digit (b ∷ bs)) (Some (value_from 0 (b ∷ bs))) None
 
 module _ (lo hi : ℕ) where
   -- the numbers from a to b, within the field's; "a range whose first number is above its second is not of the form"
   unfoldable pub range_of : Option ℕ → Option ℕ → Element
-  range_of none b = Malformed
-  range_of (some a) none = Malformed
-  range_of (some a) (some b) = cond (leb lo a && (leb a b && leb b hi)) (Range a b) Malformed
+  range_of None b = Malformed
+  range_of (Some a) None = Malformed
+  range_of (Some a) (Some b) = cond (leb lo a && (leb a b && leb b hi)) (Range a b) Malformed
 
   -- a number, or two of them with a hyphen between
   unfoldable pub element_of : List ℕ → Element

@@ -1,6 +1,6 @@
 -- Conditions and values: eval.rs. `none` is Rust's `Err(Unevaluable)`, and `x ← e` its `let x = e?`.
 use Rattle.std.specs.Prelude.{ℕ, ◌+◌, ◌-◌, ◌*◌, ◌/◌, ◌%◌, Bool, true, false, cond, not, ◌&&◌, ◌||◌, List, [], ◌∷◌, leb, ltb, eqb, ℤ, pos}
-use Rattle.std.proofs.Math.Option.{Option, none, some}
+use Rattle.std.specs.Prelude.{Option, None, Some}
 use Rattle.std.specs.Int.Signed.{lt_z}
 use Rattle.words.specs.Pairs.{joined}
 use Rattle.words.specs.Signed.{signed64, signed32, saturating_add_i64, solar_minute}
@@ -24,14 +24,14 @@ from_bool false = pos 0
 
 -- a word that may be missing
 abbrev pub number : Option ℕ → Option ℤ
-number none = none
-number (some n) = some (pos n)
+number None = None
+number (Some n) = Some (pos n)
 
 -- an integer variable
 abbrev pub as_int : Option VarValue → Option ℤ
-as_int none = none
-as_int (some (Int n)) = some (signed64 n)
-as_int (some (Text t)) = none
+as_int None = None
+as_int (Some (Int n)) = Some (signed64 n)
+as_int (Some (Text t)) = None
 
 -- `solar_minute` of sunrise 0 or sunset 1
 unfoldable pub solar_of : SunTimes → ℕ → ℕ → ℕ
@@ -49,118 +49,118 @@ module _ (e : Env) (s : Rest) where
   sun_is_up = do
     wall ← e.world.wall
     sun ← e.world.sun
-    some (leb sun.sunrise wall.minute && ltb wall.minute sun.sunset)
+    Some (leb sun.sunrise wall.minute && ltb wall.minute sun.sunset)
 
   unfoldable pub eval_reading : reading.Reading → Option ℤ
   eval_reading (reading.LampLevel a i) = do l ← lamp e.world a i; number l.level
   eval_reading (reading.LampCct a i) = do l ← lamp e.world a i; number l.cct
-  eval_reading (reading.LampIsOn a i) = do l ← lamp e.world a i; some (from_bool l.on)
+  eval_reading (reading.LampIsOn a i) = do l ← lamp e.world a i; Some (from_bool l.on)
   eval_reading (reading.LampLastLevel a i) = do l ← lamp e.world a i; number l.last
-  eval_reading (reading.GroupAnyOn a i) = do g ← group e.world a i; some (from_bool g.any_on)
-  eval_reading (reading.GroupAllOff a i) = do g ← group e.world a i; some (from_bool g.all_off)
-  eval_reading (reading.GroupMemberCount a i) = do g ← group e.world a i; some (pos g.members)
+  eval_reading (reading.GroupAnyOn a i) = do g ← group e.world a i; Some (from_bool g.any_on)
+  eval_reading (reading.GroupAllOff a i) = do g ← group e.world a i; Some (from_bool g.all_off)
+  eval_reading (reading.GroupMemberCount a i) = do g ← group e.world a i; Some (pos g.members)
   eval_reading (reading.InputOccupied a i k) = do n ← input e.world a i k; number n.occupied
   eval_reading (reading.InputLight a i k) = do n ← input e.world a i k; number n.light
   eval_reading (reading.InputPosition a i k) = do n ← input e.world a i k; number n.position
   eval_reading (reading.InputLastEventAge a i k) = do n ← input e.world a i k; number n.age
-  eval_reading reading.TimeNow = do w ← e.world.wall; some (pos w.minute)
-  eval_reading reading.TimeHour = do w ← e.world.wall; some (pos (w.minute / 60))
-  eval_reading reading.TimeMinute = do w ← e.world.wall; some (pos (w.minute % 60))
-  eval_reading reading.TimeWeekday = do w ← e.world.wall; some (pos w.weekday)
-  eval_reading reading.SunRise = do sun ← e.world.sun; some (pos sun.sunrise)
-  eval_reading reading.SunSet = do sun ← e.world.sun; some (pos sun.sunset)
-  eval_reading reading.SunIsUp = do up ← sun_is_up; some (from_bool up)
+  eval_reading reading.TimeNow = do w ← e.world.wall; Some (pos w.minute)
+  eval_reading reading.TimeHour = do w ← e.world.wall; Some (pos (w.minute / 60))
+  eval_reading reading.TimeMinute = do w ← e.world.wall; Some (pos (w.minute % 60))
+  eval_reading reading.TimeWeekday = do w ← e.world.wall; Some (pos w.weekday)
+  eval_reading reading.SunRise = do sun ← e.world.sun; Some (pos sun.sunrise)
+  eval_reading reading.SunSet = do sun ← e.world.sun; Some (pos sun.sunset)
+  eval_reading reading.SunIsUp = do up ← sun_is_up; Some (from_bool up)
   eval_reading (reading.Var name) = as_int (var_named s name)
   -- no event stands behind these calls
-  eval_reading reading.EventValue = none
-  eval_reading reading.EventDevice = none
-  eval_reading reading.EventInstance = none
-  eval_reading reading.EventOption = none
+  eval_reading reading.EventValue = None
+  eval_reading reading.EventDevice = None
+  eval_reading reading.EventInstance = None
+  eval_reading reading.EventOption = None
 
   unfoldable pub eval_value : Value → Option ℤ
-  eval_value (Literal low high) = some (signed64 (joined low high))
+  eval_value (Literal low high) = Some (signed64 (joined low high))
   eval_value (Reading r) = eval_reading r
   eval_value (Offset r delta) = do
     x ← eval_reading r
-    some (saturating_add_i64 x (signed32 delta))
-  eval_value NoValue = none
+    Some (saturating_add_i64 x (signed32 delta))
+  eval_value NoValue = None
 
   -- value i of the image
   abbrev pub value_at : ℕ → Option ℤ
   value_at i = eval_value (value_of (record_of e.set.image values i))
 
   unfoldable pub resolve_time_bound : TimeBound → Option ℕ
-  resolve_time_bound (Clock hour minute) = some (hour * 60 + minute)
-  resolve_time_bound (Solar event offset) = do sun ← e.world.sun; some (solar_of sun event offset)
-  resolve_time_bound NoBound = none
+  resolve_time_bound (Clock hour minute) = Some (hour * 60 + minute)
+  resolve_time_bound (Solar event offset) = do sun ← e.world.sun; Some (solar_of sun event offset)
+  resolve_time_bound NoBound = None
 
   abbrev pub bound_at : ℕ → Option ℕ
   bound_at i = resolve_time_bound (bound_of (record_of e.set.image bounds i))
 
   -- a lamp without a level is at none, and the value is not read
   abbrev pub level_is : ℕ → Option ℕ → ℕ → Option Bool
-  level_is cmp none v = some false
-  level_is cmp (some level) v = do x ← value_at v; some (compare_i64 cmp (pos level) x)
+  level_is cmp None v = Some false
+  level_is cmp (Some level) v = do x ← value_at v; Some (compare_i64 cmp (pos level) x)
 
   -- a variable against a value (tag 0) or a text (tag 1); any other pairing differs
   abbrev pub compare_var : Option VarValue → ℕ → Bool → ℕ → Option Bool
-  compare_var none cmp isText x = some (eqb cmp 1)
-  compare_var (some (Text t)) cmp true x = some (compare_text cmp t x)
-  compare_var (some (Text t)) cmp false x = some (eqb cmp 1)
-  compare_var (some (Int n)) cmp true x = some (eqb cmp 1)
-  compare_var (some (Int n)) cmp false x = do b ← value_at x; some (compare_i64 cmp (signed64 n) b)
+  compare_var None cmp isText x = Some (eqb cmp 1)
+  compare_var (Some (Text t)) cmp true x = Some (compare_text cmp t x)
+  compare_var (Some (Text t)) cmp false x = Some (eqb cmp 1)
+  compare_var (Some (Int n)) cmp true x = Some (eqb cmp 1)
+  compare_var (Some (Int n)) cmp false x = do b ← value_at x; Some (compare_i64 cmp (signed64 n) b)
 
   abbrev pub hcl_is : Option HclTargetState → ℕ → Bool
-  hcl_is none state = false
-  hcl_is (some h) state = cond (eqb state 0) h.enabled h.overridden
+  hcl_is None state = false
+  hcl_is (Some h) state = cond (eqb state 0) h.enabled h.overridden
 
   abbrev pub device_online : Option DeviceState → Bool
-  device_online none = false
-  device_online (some d) = d.online
+  device_online None = false
+  device_online (Some d) = d.online
 
   -- of a rule that is not loaded, and of one that never fired
   abbrev pub rule_enabled : Option ℕ → Bool
-  rule_enabled none = false
-  rule_enabled (some i) = is_enabled s i
+  rule_enabled None = false
+  rule_enabled (Some i) = is_enabled s i
 
   abbrev pub older_than : ℕ → Option ℕ → Bool
-  older_than ms none = true
-  older_than ms (some at) = ltb ms (e.world.now - at)
+  older_than ms None = true
+  older_than ms (Some at) = ltb ms (e.world.now - at)
 
   unfoldable pub last_fired_older : Option ℕ → ℕ → Bool
-  last_fired_older none ms = true
-  last_fired_older (some i) ms = older_than ms (last_activation_at s i)
+  last_fired_older None ms = true
+  last_fired_older (Some i) ms = older_than ms (last_activation_at s i)
 
   unfoldable pub eval_condition : Condition → Option Bool
   eval_condition (TimeInRange start end) = do
     wall ← e.world.wall
     from ← bound_at start
     to ← bound_at end
-    some (minute_in_range wall.minute from to)
-  eval_condition (DayIn days) = do wall ← e.world.wall; some (has_day days wall.weekday)
-  eval_condition (SunIs up) = do is ← sun_is_up; some (equal_b is (is_one up))
-  eval_condition (LampIs a i on) = do l ← lamp e.world a i; some (equal_b l.on (is_one on))
+    Some (minute_in_range wall.minute from to)
+  eval_condition (DayIn days) = do wall ← e.world.wall; Some (has_day days wall.weekday)
+  eval_condition (SunIs up) = do is ← sun_is_up; Some (equal_b is (is_one up))
+  eval_condition (LampIs a i on) = do l ← lamp e.world a i; Some (equal_b l.on (is_one on))
   eval_condition (LampLevel a i cmp v) = do l ← lamp e.world a i; level_is cmp l.level v
   eval_condition (LampCct a i cmp v) = do
     left ← eval_reading (reading.LampCct a i)
     right ← value_at v
-    some (compare_i64 cmp left right)
-  eval_condition (GroupState a i state) = do g ← group e.world a i; some (cond (eqb state 0) g.any_on g.all_off)
+    Some (compare_i64 cmp left right)
+  eval_condition (GroupState a i state) = do g ← group e.world a i; Some (cond (eqb state 0) g.any_on g.all_off)
   eval_condition (InputOccupancy a i k occupied) = do
     left ← eval_reading (reading.InputOccupied a i k)
-    some (equal_b (compare_i64 1 left (pos 0)) (is_one occupied))
+    Some (equal_b (compare_i64 1 left (pos 0)) (is_one occupied))
   eval_condition (InputLight a i k above v) = do
     left ← eval_reading (reading.InputLight a i k)
     bound ← value_at v
-    some (cond (is_one above) (lt_z bound left) (lt_z left bound))
-  eval_condition (HclState target state) = some (hcl_is (hcl_target e.world target) state)
-  eval_condition (DeviceOnline a i) = some (device_online (device e.world a i))
-  eval_condition (RuleEnabled rule) = some (rule_enabled (rule_named e.set.image rule))
-  eval_condition (LastFiredOlderThan rule ms) = some (last_fired_older (rule_named e.set.image rule) ms)
-  eval_condition (TimerRunning timer) = some (present (timer_named s timer))
-  eval_condition ControllerActive = some e.world.active
+    Some (cond (is_one above) (lt_z bound left) (lt_z left bound))
+  eval_condition (HclState target state) = Some (hcl_is (hcl_target e.world target) state)
+  eval_condition (DeviceOnline a i) = Some (device_online (device e.world a i))
+  eval_condition (RuleEnabled rule) = Some (rule_enabled (rule_named e.set.image rule))
+  eval_condition (LastFiredOlderThan rule ms) = Some (last_fired_older (rule_named e.set.image rule) ms)
+  eval_condition (TimerRunning timer) = Some (present (timer_named s timer))
+  eval_condition ControllerActive = Some e.world.active
   eval_condition (VarCompare name cmp tag x) = compare_var (var_named s name) cmp (is_one tag) x
-  eval_condition NoCondition = none
+  eval_condition NoCondition = None
 
   -- condition i of the image
   abbrev pub condition_at : ℕ → Option Bool
@@ -168,7 +168,7 @@ module _ (e : Env) (s : Rest) where
 
 -- `conditions_hold`: the first that does not hold decides
 unfoldable pub conditions_hold : Env → Rest → List Condition → Option Bool
-conditions_hold e s [] = some true
+conditions_hold e s [] = Some true
 conditions_hold e s (c ∷ cs) = do
   holds ← eval_condition e s c
-  elim holds [ true ↦ conditions_hold e s cs | false ↦ some false ]
+  elim holds [ true ↦ conditions_hold e s cs | false ↦ Some false ]

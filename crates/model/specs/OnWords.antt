@@ -1,7 +1,7 @@
 -- The eight calls on words: given the store's words and the other arguments, the answer, the store's words after the call, and the words
 -- of the lent outcome and effect stores: document 01, "Who can cause a refusal".
 use Rattle.std.specs.Prelude.{ℕ, cond, List, eqb, length}
-use Rattle.std.proofs.Math.Option.{Option, none, some}
+use Rattle.std.specs.Prelude.{Option, None, Some}
 use Rattle.model.specs.Field.{unless}
 use Rattle.model.specs.State.{Store}
 use Rattle.model.specs.Store.{read, write}
@@ -53,8 +53,8 @@ store_after (due t) s w = write s
 store_after (counted cs) s w = write s
 
 abbrev pub on_store : Call → Option Store → List ℕ → Result
-on_store c none w = result c (refused (store_refusal w)) w
-on_store c (some s) w = let d = call c s in result c d.answer (store_after d.answer d.store w)
+on_store c None w = result c (refused (store_refusal w)) w
+on_store c (Some s) w = let d = call c s in result c d.answer (store_after d.answer d.store w)
 
 -- "new checks 1 alone"
 unfoldable pub new_on : ℕ → List ℕ → Result

@@ -1,6 +1,6 @@
 -- Outcomes, effects, and the trace: document 01, "Outcomes and effects" and demand 3.
 use Rattle.std.specs.Prelude.{ℕ, Bool, List}
-use Rattle.std.proofs.Math.Option.{Option}
+use Rattle.std.specs.Prelude.{Option}
 pub use Rattle.model.specs.declared.Effect.{Effect}
 use Rattle.model.specs.Steps.{Step, Point}
 use Rattle.model.specs.declared.Pending.{Pending}

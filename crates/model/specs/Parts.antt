@@ -1,6 +1,6 @@
 -- The parts of a store, in order: document 01, "Store". Places, layout and size are computed from this; docs/STORE.md lists the places.
 use Rattle.std.specs.Prelude.{refl, List, ℕ}
-use Rattle.std.proofs.Math.Option.{Option, none, some}
+use Rattle.std.specs.Prelude.{Option, None, Some}
 use Rattle.model.specs.Codec.{Row, word, wide, ◌⊗◌, maybe, pad, Same, as_row, Codec, one, all, most, unused, ◌then◌, as_parts}
 use Rattle.model.specs.Steps.{Jump, NoJump, JumpFrom}
 use Rattle.model.specs.State.{NamedTimer, EverySlot, Pending}
@@ -46,15 +46,15 @@ slot_row = as_row slot_is (any ⊗ (any ⊗ (any ⊗ wide)))
 
 -- mark, where it is taken, where it leads
 abbrev pub jump_of : Option (ℕ × ℕ) → Jump
-jump_of none = NoJump
-jump_of (some j) = JumpFrom j.0 j.1
+jump_of None = NoJump
+jump_of (Some j) = JumpFrom j.0 j.1
 
 abbrev pub of_jump : Jump → Option (ℕ × ℕ)
-of_jump NoJump = none
-of_jump (JumpFrom at to) = some (at, to)
+of_jump NoJump = None
+of_jump (JumpFrom at to) = Some (at, to)
 
 abbrev pub jump_is : Same (Option (ℕ × ℕ)) Jump
-jump_is = record { to = jump_of; from = of_jump; there = elim [ NoJump ↦ refl | JumpFrom at to ↦ refl ]; back = elim [ none ↦ refl | some j ↦ refl ] }
+jump_is = record { to = jump_of; from = of_jump; there = elim [ NoJump ↦ refl | JumpFrom at to ↦ refl ]; back = elim [ None ↦ refl | Some j ↦ refl ] }
 
 abbrev pub jump_row : Row Jump
 jump_row = as_row jump_is (maybe (any ⊗ any))

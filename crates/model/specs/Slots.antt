@@ -1,6 +1,6 @@
 -- The Every slots of a set: `rebuild_every` of wheel.rs.
 use Rattle.std.specs.Prelude.{ℕ, suc, Bool, ◌&&◌, List, [], ◌∷◌, map, eqb}
-use Rattle.std.proofs.Math.Option.{Option, none, some}
+use Rattle.std.specs.Prelude.{Option, None, Some}
 use Rattle.words.specs.Saturating.{saturating_add, max64}
 use Rattle.model.specs.Lists.{find, flatten}
 use Rattle.model.specs.Rules.{name_of, name_order, triggers_of, Trigger, TimerFires, Every, AtTime, AtSolar, Other}
@@ -11,8 +11,8 @@ abbrev pub same_slot : ℕ → ℕ → ℕ → EverySlot → Bool
 same_slot rule place period x = eqb x.rule rule && (eqb x.place place && eqb x.period period)
 
 abbrev pub due_or : ℕ → Option EverySlot → ℕ
-due_or d none = d
-due_or d (some x) = x.due
+due_or d None = d
+due_or d (Some x) = x.due
 
 unfoldable pub slots_from : List EverySlot → ℕ → ℕ → ℕ → List Trigger → List EverySlot
 slots_from old now rule place [] = []

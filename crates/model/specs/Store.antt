@@ -1,7 +1,7 @@
 -- The rules of a store, and its words: document 01, "Store".
 use Rattle.std.specs.Prelude.{ℕ, zero, suc, ◌+◌, ◌-◌, ◌^◌, ◌≡◌, Bool, true, false, cond, not, ◌&&◌, ◌||◌, List, [], ◌∷◌, ◌++◌, map, leb, ltb, eqb, length, get_or, take, drop, replicate}
-use Rattle.std.proofs.Math.Option.{Option, none, some}
-use Rattle.std.proofs.Math.ListN.{get_elem?}
+use Rattle.std.specs.Prelude.{Option, None, Some}
+use Rattle.std.specs.Prelude.{slice_get}
 use Rattle.model.specs.Lists.{◌>>=◌, all, flatten, or_else, present}
 use Rattle.model.specs.Image.{budget, size_of}
 use Rattle.model.specs.Rows.{rules}
@@ -51,7 +51,7 @@ point_fits xs p = leb p.place (length xs) && same_jump p.jump (jump_from 0 xs p.
 -- "it names one of that rule's lists": its own, or the body of an after in it
 abbrev pub is_list : List FlatStep → ℕ → Bool
 is_list xs zero = true
-is_list xs (suc p) = or_else false (do x ← get_elem? xs p; some (is_after x.step))
+is_list xs (suc p) = or_else false (do x ← slice_get xs p; Some (is_after x.step))
 
 -- THE RULES OF A STORE --------------------------------------------------------------------------------------------------------------
 abbrev pub distinct : List ℕ → Bool
@@ -59,15 +59,15 @@ distinct [] = true
 distinct (n ∷ ns) = all (λ m. not (eqb n m)) ns && distinct ns
 
 abbrev pub in_rule : RuleSet → Pending → Option ℕ → Bool
-in_rule set c none = false
-in_rule set c (some i) =
+in_rule set c None = false
+in_rule set c (Some i) =
     let xs = get_or set.flat i [] in
     is_list xs c.point.list && point_fits (list_in xs c.point.list) c.point
 
 -- its rule is loaded, its list, place and jump are right, and its budget is below B; its trigger is in range by the layout
 unfoldable pub pending_fits : Option RuleSet → Pending → Bool
-pending_fits none c = false
-pending_fits (some set) c = in_rule set c (rule_named set.image c.rule) && ltb c.budget (budget set.image)
+pending_fits None c = false
+pending_fits (Some set) c = in_rule set c (rule_named set.image c.rule) && ltb c.budget (budget set.image)
 
 -- slots without their due times
 abbrev pub same_slots : List EverySlot → List EverySlot → Bool
@@ -78,16 +78,16 @@ same_slots (x ∷ xs) (y ∷ ys) =
     eqb x.rule y.rule && (eqb x.place y.place && (eqb x.period y.period && same_slots xs ys))
 
 abbrev pub passes_load : Option RuleSet → Bool
-passes_load none = true
-passes_load (some set) = eqb (image_refusal set.image) 0
+passes_load None = true
+passes_load (Some set) = eqb (image_refusal set.image) 0
 
 abbrev pub rule_count : Option RuleSet → ℕ
-rule_count none = 0
-rule_count (some set) = size_of set.image rules
+rule_count None = 0
+rule_count (Some set) = size_of set.image rules
 
 abbrev pub slots_of : Option RuleSet → List EverySlot
-slots_of none = []
-slots_of (some set) = rebuild_every set.image [] 0
+slots_of None = []
+slots_of (Some set) = rebuild_every set.image [] 0
 
 -- bits, last activations and cycle positions belong to loaded rules, one for each
 abbrev pub one_for_each : ℕ → Rest → Bool
@@ -128,8 +128,8 @@ abbrev pub no_list : ℕ × ℕ
 no_list = (0, 0)
 
 abbrev pub loaded_of : Option RuleSet → Loaded
-loaded_of none = record { loaded = 0; image = []; lists = replicate 64 no_list; steps = [] }
-loaded_of (some set) =
+loaded_of None = record { loaded = 0; image = []; lists = replicate 64 no_list; steps = [] }
+loaded_of (Some set) =
     let fs = flatten_rules set.image in
     record { loaded = 1; image = set.image; lists = filled 64 no_list (list_rows 0 fs); steps = flatten (map part_of fs) }
 
@@ -140,8 +140,8 @@ abbrev pub changing_of : Volatile → Changing
 changing_of v =
     record {
       bits = filled 64 0 (map bit_of v.rest.enabled);
-      activations = filled 64 none v.rest.last_activation;
-      positions = filled 64 none v.rest.cycle_pos;
+      activations = filled 64 None v.rest.last_activation;
+      positions = filled 64 None v.rest.cycle_pos;
       variables = map variable_row_of v.rest.vars;
       timers = v.rest.timers;
       slots = v.rest.every;
@@ -157,7 +157,7 @@ parts_of s = record { last = s.now; set = loaded_of s.loaded; changing = changin
 
 -- and back: the flat steps are those of the image
 abbrev pub set_in : Loaded → Option RuleSet
-set_in l = cond (is_one l.loaded) (some (set_of l.image (flatten_rules l.image))) none
+set_in l = cond (is_one l.loaded) (Some (set_of l.image (flatten_rules l.image))) None
 
 abbrev pub variable_of : ℕ × (ℕ × ℕ) → Variable
 variable_of r = record { name = r.0; value = cond (is_one r.1.0) (Text r.1.1) (Int r.1.1) }
@@ -223,15 +223,15 @@ parts_fit p = words_hold p && rules_hold (store_in p)
 
 -- what the words of a store say; none where a rule is broken
 unfoldable pub read : List ℕ → Option Store
-read w = do p ← decode layout parts_fit w; some (store_in p)
+read w = do p ← decode layout parts_fit w; Some (store_in p)
 
 unfoldable pub write : Store → List ℕ
 write s = layout.put (parts_of s)
 
 -- a store that keeps the rules: its numbers have room in their words, its flat steps are those of its image, and the rules hold
 abbrev pub FlatFormOf : Option RuleSet → Type 0
-FlatFormOf none = Unit {0}
-FlatFormOf (some set) = set ≡ set_of set.image (flatten_rules set.image)
+FlatFormOf None = Unit {0}
+FlatFormOf (Some set) = set ≡ set_of set.image (flatten_rules set.image)
 
 abbrev pub text_fits : Variable → Bool
 text_fits v = elim v.value [ Int n ↦ true | Text t ↦ ltb t (2 ^ 32) ]

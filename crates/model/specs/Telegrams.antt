@@ -1,6 +1,6 @@
 -- Fewer telegrams on the bus: of the levels that a list of effects sets for one lamp in one stretch, only the last counts.
 use Rattle.std.specs.Prelude.{◌≡◌, ℕ, zero, suc, ◌+◌, ◌*◌, ◌<◌, ◌/◌, ◌%◌, Bool, true, false, cond, not, ◌&&◌, ◌||◌, List, [], ◌∷◌, map, leb, ltb, eqb, length, get_or, replicate}
-use Rattle.std.proofs.Math.Option.{Option, none, some}
+use Rattle.std.specs.Prelude.{Option, None, Some}
 use Rattle.model.specs.Answers.{words_of_effects, lent}
 use Rattle.model.specs.Lists.{keep, up_from, every}
 use Rattle.model.specs.declared.Effect.{Effect}
@@ -56,17 +56,17 @@ stretch (suc n) (x ∷ xs) = stretch (cond (cuts x) n (suc n)) xs
 
 -- the level and the hold that a stretch sets last for lamp t
 abbrev pub later : {A : Type 0} → Option A → Option A → Option A
-later first none = first
-later first (some v) = some v
+later first None = first
+later first (Some v) = Some v
 
 abbrev pub Setting : Type 0
 Setting = ℕ × ℕ
 
 unfoldable pub setting : ℕ → Effect → Option Setting
-setting t x = cond (sets t x) (some (x.b, x.c)) none
+setting t x = cond (sets t x) (Some (x.b, x.c)) None
 
 unfoldable pub last_set : ℕ → List Effect → Option Setting
-last_set t [] = none
+last_set t [] = None
 last_set t (x ∷ xs) = later (setting t x) (last_set t xs)
 
 -- in every stretch every lamp is set last to the same, or not at all in both

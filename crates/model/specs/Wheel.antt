@@ -1,6 +1,6 @@
 -- The tick and the next deadline: wheel.rs.
 use Rattle.std.specs.Prelude.{ℕ, suc, ◌+◌, ◌-◌, ◌*◌, ◌%◌, min, Bool, true, false, cond, not, ◌&&◌, ◌||◌, List, [], ◌∷◌, ◌++◌, map, leb, ltb, eqb}
-use Rattle.std.proofs.Math.Option.{Option, none, some}
+use Rattle.std.specs.Prelude.{Option, None, Some}
 use Rattle.words.specs.Saturating.{saturating_add, max64}
 use Rattle.model.specs.Arith.{has_day}
 use Rattle.model.specs.Lists.{◌>>=◌, any, flatten, keep, sort, to_list, up_from}
@@ -140,27 +140,27 @@ without_sun w = record { kind = w.kind; unsynced = true }
 unfoldable pub solar_due : Env → ℕ → ℕ → ℕ → ℕ → Option Bool
 solar_due e base window event offset = do
   sun ← e.world.sun
-  some (minute_due base window 127 (solar_of sun event offset))
+  Some (minute_due base window 127 (solar_of sun event offset))
 
 unfoldable pub due_wall_kind : Env → ℕ → ℕ → List Trigger → WallKind
-due_wall_kind e base window [] = record { kind = none; unsynced = false }
+due_wall_kind e base window [] = record { kind = None; unsynced = false }
 due_wall_kind e base window (TimerFires t ∷ ts) = due_wall_kind e base window ts
 due_wall_kind e base window (Every ms ∷ ts) = due_wall_kind e base window ts
 due_wall_kind e base window (AtTime h m days ∷ ts) =
     elim (minute_due base window days (h * 60 + m)) [
-      | true ↦ record { kind = some by_time; unsynced = false }
+      | true ↦ record { kind = Some by_time; unsynced = false }
       | false ↦ due_wall_kind e base window ts
     ]
 due_wall_kind e base window (AtSolar event offset ∷ ts) =
     elim (solar_due e base window event offset) [
-      | none ↦ without_sun (due_wall_kind e base window ts)
-      | some is ↦ elim is [ true ↦ record { kind = some by_solar; unsynced = false } | false ↦ due_wall_kind e base window ts ]
+      | None ↦ without_sun (due_wall_kind e base window ts)
+      | Some is ↦ elim is [ true ↦ record { kind = Some by_solar; unsynced = false } | false ↦ due_wall_kind e base window ts ]
     ]
 due_wall_kind e base window (Other ∷ ts) = due_wall_kind e base window ts
 
 abbrev pub start_wall : Option ℕ → Env → ℕ → Volatile → Handled
-start_wall none e i v = no_outcome v
-start_wall (some kind) e i v = activate e i kind Auto v
+start_wall None e i v = no_outcome v
+start_wall (Some kind) e i v = activate e i kind Auto v
 
 -- a rule's turn: whether it is enabled, and whether a sun was missed so far; then the others'
 abbrev pub wall_turn : Bool → Bool → Env → ℕ → ℕ → ℕ → Volatile → (Bool → Volatile → Handled) → Handled
@@ -206,16 +206,16 @@ is_set_back prev now = in_window now 120 prev
 
 -- such a tick "starts no wall rule"
 abbrev pub catch_up : Env → ℕ → Option ℕ → Volatile → Handled
-catch_up e now none v = no_outcome v
-catch_up e now (some prev) v = cond (is_set_back prev now) (no_outcome v) (make_up e now prev v)
+catch_up e now None v = no_outcome v
+catch_up e now (Some prev) v = cond (is_set_back prev now) (no_outcome v) (make_up e now prev v)
 
 -- without a wall clock the minute before is forgotten
 abbrev pub without_clock : Env → Rest → Rest
-without_clock e s = with_prev_week_min none (cond (has_wall_triggers e.set.image s) (bump ticks_time_unsynced s) s)
+without_clock e s = with_prev_week_min None (cond (has_wall_triggers e.set.image s) (bump ticks_time_unsynced s) s)
 
 abbrev pub fire_wall_at : Option WallTime → Env → Volatile → Handled
-fire_wall_at none e v = no_outcome (with_rest (without_clock e v.rest) v)
-fire_wall_at (some w) e v = catch_up e (week_minute w) v.rest.prev_week_min (with_rest (with_prev_week_min (some (week_minute w)) v.rest) v)
+fire_wall_at None e v = no_outcome (with_rest (without_clock e v.rest) v)
+fire_wall_at (Some w) e v = catch_up e (week_minute w) v.rest.prev_week_min (with_rest (with_prev_week_min (Some (week_minute w)) v.rest) v)
 
 unfoldable pub fire_wall_schedules : Env → Volatile → Handled
 fire_wall_schedules e v = fire_wall_at e.world.wall e v
@@ -232,16 +232,16 @@ service_tick e v = and_then (and_then (and_then (fire_continuations e v) (fire_t
 
 -- THE NEXT DEADLINE ------------------------------------------------------------------------------------------------------------------
 abbrev pub least_of : ℕ → Option ℕ → Option ℕ
-least_of x none = some x
-least_of x (some y) = some (min x y)
+least_of x None = Some x
+least_of x (Some y) = Some (min x y)
 
 abbrev pub least : List ℕ → Option ℕ
-least [] = none
+least [] = None
 least (x ∷ xs) = least_of x (least xs)
 
 abbrev pub wall_poll : Store → Option RuleSet → List ℕ
-wall_poll s none = []
-wall_poll s (some set) = cond (has_wall_triggers set.image s.vol.rest) (saturating_add max64 s.now 1000 ∷ []) []
+wall_poll s None = []
+wall_poll s (Some set) = cond (has_wall_triggers set.image s.vol.rest) (saturating_add max64 s.now 1000 ∷ []) []
 
 unfoldable pub next_deadline : Store → Option ℕ
 next_deadline s =

@@ -1,6 +1,6 @@
 -- What a snapshot says: document 01, "Snapshot", and world.rs.
 use Rattle.std.specs.Prelude.{ℕ, Bool, ◌&&◌, cond, List, map, eqb}
-use Rattle.std.proofs.Math.Option.{Option, none, some}
+use Rattle.std.specs.Prelude.{Option, None, Some}
 use Rattle.words.specs.Pairs.{joined}
 use Rattle.model.specs.Lists.{find, up_from}
 use Rattle.model.specs.Snapshot.{head_word, count_of, cell_at}
@@ -63,7 +63,7 @@ abbrev pub is_one : ℕ → Bool
 is_one w = eqb w 1
 
 abbrev pub marked : {A : Type 0} → ℕ → A → Option A
-marked m a = cond (is_one m) (some a) none
+marked m a = cond (is_one m) (Some a) None
 
 -- a row, given its words
 abbrev pub lamp_of : (ℕ → ℕ) → LampState

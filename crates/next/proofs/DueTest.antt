@@ -2,7 +2,7 @@
 use mathlib.Core.Path.{◌≡◌, refl, sym, ap, ◌∙◌}
 use mathlib.Core.Bool.{Bool, true, false, ◌&&◌, ◌||◌}
 use mathlib.Core.List.{List, [], ◌∷◌}
-use mathlib.Core.Option.{Option, none, some}
+use Rattle.std.specs.Prelude.{Option, None, Some}
 use Prim.Native.Nat.{ℕ, zero, suc, ◌+◌, ◌-◌, ◌*◌, ◌%◌, ◌≤◌, ◌<◌}
 use native.Mathlib.Omega.{arith}
 use lib.Dec.{leb, eqb}
@@ -19,10 +19,10 @@ use Rattle.next.specs.NextStart.{on_days, stands_at, due_in}
 
 -- what one trigger gives in front of others
 abbrev time_kind : Bool → ℕ → WallKind → WallKind
-time_kind due kind rest = elim due [ true ↦ record { kind = some kind; unsynced = false } | false ↦ rest ]
+time_kind due kind rest = elim due [ true ↦ record { kind = Some kind; unsynced = false } | false ↦ rest ]
 
 abbrev solar_kind : Option Bool → WallKind → WallKind
-solar_kind o rest = elim o [ none ↦ without_sun rest | some due ↦ time_kind due by_solar rest ]
+solar_kind o rest = elim o [ None ↦ without_sun rest | Some due ↦ time_kind due by_solar rest ]
 
 time-gives : (b : Bool) (kind : ℕ) (rest : WallKind) → present (time_kind b kind rest).kind ≡ b || present rest.kind
 time-gives true kind rest = refl
@@ -75,18 +75,18 @@ module _ (base : ℕ) (few : base < 20159) where
     abbrev gives : List Trigger → Bool
     gives ts = present (due_wall_kind e base 1 ts).kind
 
-    sun-due : {s : SunTimes} (event offset : ℕ) → sun ≡ some s → solar_due e base 1 event offset ≡ some (on_days here 127 (solar_of s event offset))
+    sun-due : {s : SunTimes} (event offset : ℕ) → sun ≡ Some s → solar_due e base 1 event offset ≡ Some (on_days here 127 (solar_of s event offset))
     unfolding solar_due
-    sun-due {s = s} event offset h = rw h (ap some (days-due 127 (solar_of s event offset)))
+    sun-due {s = s} event offset h = rw h (ap Some (days-due 127 (solar_of s event offset)))
 
-    sun-missing : (event offset : ℕ) → sun ≡ none → solar_due e base 1 event offset ≡ none
+    sun-missing : (event offset : ℕ) → sun ≡ None → solar_due e base 1 event offset ≡ None
     unfolding solar_due
     sun-missing event offset h = rw h
 
     sun-gives : (o : Option SunTimes) (event offset : ℕ) (ts : List Trigger) → sun ≡ o → gives (AtSolar event offset ∷ ts) ≡ stands_at o here (AtSolar event offset) || gives ts
     unfolding due_wall_kind stands_at
-    sun-gives none event offset ts h = ap (λ (o : Option Bool). present (solar_kind o (due_wall_kind e base 1 ts)).kind) (sun-missing event offset h)
-    sun-gives (some s) event offset ts h =
+    sun-gives None event offset ts h = ap (λ (o : Option Bool). present (solar_kind o (due_wall_kind e base 1 ts)).kind) (sun-missing event offset h)
+    sun-gives (Some s) event offset ts h =
         ap (λ (o : Option Bool). present (solar_kind o (due_wall_kind e base 1 ts)).kind) (sun-due event offset h)
         ∙ time-gives (on_days here 127 (solar_of s event offset)) by_solar (due_wall_kind e base 1 ts)
 

@@ -2,7 +2,7 @@
 use mathlib.Core.Path.{◌≡◌, refl}
 use mathlib.Core.Bool.{Bool, true, false}
 use mathlib.Core.List.{List, [], ◌∷◌, ◌++◌}
-use mathlib.Core.Option.{Option, none, some}
+use Rattle.std.specs.Prelude.{Option, None, Some}
 use Prim.Native.Nat.{ℕ}
 use Rattle.words.specs.Signed.{solar_minute}
 use Rattle.model.specs.Arith.{has_day}
@@ -18,17 +18,17 @@ abbrev minutes : Option SunTimes → ℕ → Trigger → ℕ
 minutes sun t x = first_from (λ m. due_in sun t x m) 1 10080
 
 -- the present minute is not ahead
-present-minute : (minutes none 360 (AtTime 6 0 1) ≡ 10080) × (minutes none 360 (AtTime 6 0 127) ≡ 1440) × (minutes none 359 (AtTime 6 0 1) ≡ 1) × (minutes none 10079 (AtTime 0 0 1) ≡ 1)
+present-minute : (minutes None 360 (AtTime 6 0 1) ≡ 10080) × (minutes None 360 (AtTime 6 0 127) ≡ 1440) × (minutes None 359 (AtTime 6 0 1) ≡ 1) × (minutes None 10079 (AtTime 0 0 1) ≡ 1)
 unfolding first_from due_in stands_at on_days has_day
 present-minute = (refl, refl, refl, refl)
 
 -- 10,081 is never: no day, no sun, periods and timers
-no-minute : (minutes none 360 (AtTime 6 0 0) ≡ 10081) × (minutes none 0 (AtSolar 0 0) ≡ 10081) × (minutes none 0 (Every 1000) ≡ 10081) × (minutes none 0 (TimerFires 1) ≡ 10081) × (minutes none 0 Other ≡ 10081)
+no-minute : (minutes None 360 (AtTime 6 0 0) ≡ 10081) × (minutes None 0 (AtSolar 0 0) ≡ 10081) × (minutes None 0 (Every 1000) ≡ 10081) × (minutes None 0 (TimerFires 1) ≡ 10081) × (minutes None 0 Other ≡ 10081)
 unfolding first_from due_in stands_at on_days has_day
 no-minute = (refl, refl, refl, refl, refl)
 
 -- the sun's own minute, on every day
-of-sun : minutes (some (record { sunrise = 300; sunset = 1200 })) 301 (AtSolar 0 0) ≡ 1439
+of-sun : minutes (Some (record { sunrise = 300; sunset = 1200 })) 301 (AtSolar 0 0) ≡ 1439
 unfolding first_from due_in stands_at on_days has_day solar_of solar_minute
 of-sun = refl
 
@@ -42,7 +42,7 @@ house a on-a at_a b on-b at_b =
     ++ (64 ∷ 4 ∷ 16 ∷ 64 ∷ 16 ∷ 0 ∷ 32 ∷ 32 ∷ 48 ∷ 48 ∷ 48 ∷ 48 ∷ 48 ∷ [])
 
 abbrev next : List ℕ → List Bool → NextStart
-next img enabled = next_from img enabled none 300
+next img enabled = next_from img enabled None 300
 
 -- the lowest name of one minute, not the first; the earlier one of two; the bit, not the image's word
 answers :

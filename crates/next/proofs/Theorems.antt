@@ -2,7 +2,7 @@
 use mathlib.Core.Path.{◌≡◌, refl, sym, ap, subst, ◌∙◌}
 use mathlib.Core.Bool.{Bool, true, false, false≢true}
 use mathlib.Core.List.{List}
-use mathlib.Core.Option.{Option, none, some}
+use Rattle.std.specs.Prelude.{Option, None, Some}
 use Prim.Native.Nat.{ℕ, ◌≤◌, ◌<◌}
 use native.Mathlib.Omega.{arith}
 use lib.Dec.{leb}
@@ -118,22 +118,22 @@ module _ (img : List ℕ) (enabled : List Bool) (sun : Option SunTimes) (t : ℕ
 -- OF A STORE ----------------------------------------------------------------------------------------------------------------------------
 module _ (s : Store) (w : World) where
   -- without a clock it is unknown, whatever the set
-  pub without-clock : w.wall ≡ none → next_start s w ≡ ClockUnknown
+  pub without-clock : w.wall ≡ None → next_start s w ≡ ClockUnknown
   unfolding next_start
   without-clock e = rw e
 
   -- with one it is what stands ahead of its minute
-  module _ {clock : WallTime} (e : w.wall ≡ some clock) where
+  module _ {clock : WallTime} (e : w.wall ≡ Some clock) where
     at-clock : next_start s w ≡ next_of_set s.loaded s.vol.rest.enabled w.sun (week_minute clock)
     unfolding next_start
     at-clock = rw e
 
     -- without a set there is none
-    pub without-set : s.loaded ≡ none → next_start s w ≡ NoStart
+    pub without-set : s.loaded ≡ None → next_start s w ≡ NoStart
     unfolding next_of_set
     without-set l = at-clock ∙ ap (λ (o : Option RuleSet). next_of_set o s.vol.rest.enabled w.sun (week_minute clock)) l
 
-    module _ {set : RuleSet} (l : s.loaded ≡ some set) where
+    module _ {set : RuleSet} (l : s.loaded ≡ Some set) where
       with-set : next_start s w ≡ next_from set.image s.vol.rest.enabled w.sun (week_minute clock)
       unfolding next_of_set
       with-set = at-clock ∙ ap (λ (o : Option RuleSet). next_of_set o s.vol.rest.enabled w.sun (week_minute clock)) l
@@ -150,8 +150,8 @@ module _ (s : Store) (w : World) where
     -- and never unknown
     of-set-known : (o : Option RuleSet) → next_of_set o s.vol.rest.enabled w.sun (week_minute clock) ≡ ClockUnknown → ⊥
     unfolding next_of_set
-    of-set-known none q = not-unknown false 0 0 q
-    of-set-known (some set) q = never-unknown set.image s.vol.rest.enabled w.sun (week_minute clock) q
+    of-set-known None q = not-unknown false 0 0 q
+    of-set-known (Some set) q = never-unknown set.image s.vol.rest.enabled w.sun (week_minute clock) q
 
     pub known-clock : next_start s w ≡ ClockUnknown → ⊥
     known-clock q = of-set-known s.loaded (sym at-clock ∙ q)

@@ -2,7 +2,7 @@
 use mathlib.Core.Path.{◌≡◌, refl, ◌∙◌}
 use mathlib.Core.Bool.{false}
 use mathlib.Core.List.{List, [], ◌∷◌, map}
-use mathlib.Core.Option.{Option, none, some}
+use Rattle.std.specs.Prelude.{Option, None, Some}
 use Prim.Native.Nat.{ℕ, zero, suc, ◌+◌, ◌*◌, ◌%◌, min}
 use lib.Dec.{eqb}
 use lib.ListN.{get_or}
@@ -42,11 +42,11 @@ module _ (sun : Option SunTimes) (t : ℕ) where
   unfolding due_in stands_at
   at-time h minute days e = e
 
-  pub at-sun : (event offset : ℕ) {s : SunTimes} {r : ℕ} → sun ≡ some s → r ≡ first_from (λ m. on_days ((t + m) % 10080) 127 (solar_of s event offset)) 1 10080 → Takes (AtSolar event offset) r
+  pub at-sun : (event offset : ℕ) {s : SunTimes} {r : ℕ} → sun ≡ Some s → r ≡ first_from (λ m. on_days ((t + m) % 10080) 127 (solar_of s event offset)) 1 10080 → Takes (AtSolar event offset) r
   unfolding due_in stands_at
   at-sun event offset h e = rw h e
 
-  pub no-sun : (event offset : ℕ) → sun ≡ none → Takes (AtSolar event offset) 10081
+  pub no-sun : (event offset : ℕ) → sun ≡ None → Takes (AtSolar event offset) 10081
   unfolding due_in stands_at
   no-sun event offset h = never (λ m. due_in sun t (AtSolar event offset) m) 1 10080 (λ k. rw h)
 

@@ -1,6 +1,6 @@
 -- The method: how many minutes on a start is, and the least of them.
 use Rattle.std.specs.Prelude.{ℕ, ◌+◌, ◌*◌, ◌%◌, min, Bool, cond, ◌&&◌, List, [], ◌∷◌, eqb, ltb}
-use Rattle.std.proofs.Math.Option.{Option}
+use Rattle.std.specs.Prelude.{Option}
 use Rattle.model.specs.Arith.{has_day}
 use Rattle.model.specs.Rules.{name_of, rule_indices}
 use Rattle.model.specs.World.{SunTimes}

@@ -1,6 +1,6 @@
 -- What starts next by the wall clock: document 02, request 7. Over triggers and minutes of the week.
 use Rattle.std.specs.Prelude.{ℕ, zero, suc, ◌+◌, ◌*◌, ◌%◌, min, Bool, true, false, ◌&&◌, List, [], ◌∷◌, map, eqb, leb, get_or}
-use Rattle.std.proofs.Math.Option.{Option, none, some}
+use Rattle.std.specs.Prelude.{Option, None, Some}
 use Rattle.model.specs.Arith.{has_day}
 use Rattle.model.specs.Eval.{solar_of}
 use Rattle.model.specs.Lists.{any, keep}
@@ -22,8 +22,8 @@ unfoldable pub stands_at : Option SunTimes → ℕ → Trigger → Bool
 stands_at sun w (TimerFires t) = false
 stands_at sun w (Every ms) = false
 stands_at sun w (AtTime h m days) = on_days w days (h * 60 + m)
-stands_at none w (AtSolar event offset) = false
-stands_at (some s) w (AtSolar event offset) = on_days w 127 (solar_of s event offset)
+stands_at None w (AtSolar event offset) = false
+stands_at (Some s) w (AtSolar event offset) = on_days w 127 (solar_of s event offset)
 stands_at sun w Other = false
 
 -- a trigger is due in m minutes from minute t of the week
@@ -65,15 +65,15 @@ next_from img enabled sun t =
 
 -- a store without a set has no start
 unfoldable pub next_of_set : Option RuleSet → List Bool → Option SunTimes → ℕ → NextStart
-next_of_set none enabled sun t = NoStart
-next_of_set (some set) enabled sun t = next_from set.image enabled sun t
+next_of_set None enabled sun t = NoStart
+next_of_set (Some set) enabled sun t = next_from set.image enabled sun t
 
 -- "A snapshot without a wall clock says "clock unknown", and a store without a set says "none" if the clock is known."
 unfoldable pub next_start : Store → World → NextStart
 next_start s w =
     elim w.wall [
-      | none ↦ ClockUnknown
-      | some clock ↦ next_of_set s.loaded s.vol.rest.enabled w.sun (week_minute clock)
+      | None ↦ ClockUnknown
+      | Some clock ↦ next_of_set s.loaded s.vol.rest.enabled w.sun (week_minute clock)
     ]
 
 -- the values of the answer: a mark, the minutes and the rule's name, which are 0 where there is no start

@@ -6,7 +6,7 @@ use native.Mathlib.Nat.{mul-le-mul}
 use native.Mathlib.Numerals.{add-one}
 use native.Mathlib.Omega.{arith}
 use borrow.Author.Tests.{eq-eqb, ne_eqb}
-use mathlib.Core.Option.{none, some}
+use Rattle.std.specs.Prelude.{None, Some}
 use lib.ListN.{length, take, drop, get_or, length-drop}
 use lib.Seq.{take-append-add, take-append-le, length-take-le}
 use Rattle.words.specs.Pairs.{joined}
@@ -90,18 +90,18 @@ module _ (b after : List ℕ) (o r : Stream) (call number : ℕ) (lines : List �
 
 -- the next deadline
 module _ (b after : List ℕ) (o r : Stream) (answer : List ℕ) where
-  pub gathers-no-deadline : get_or answer 0 0 ≡ 0 → Gathers b o (deadline_line none) after r → Gathers b o (deadline_of answer) after r
+  pub gathers-no-deadline : get_or answer 0 0 ≡ 0 → Gathers b o (deadline_line None) after r → Gathers b o (deadline_of answer) after r
   unfolding deadline_of
   gathers-no-deadline h g = rw (eq-eqb (get_or answer 0 0) 0 h) g
 
   pub gathers-deadline : (time : ℕ) → (get_or answer 0 0 ≡ 0 → ⊥) → time ≡ joined (get_or answer 1 0) (get_or answer 2 0)
-      → Gathers b o (deadline_line (some time)) after r → Gathers b o (deadline_of answer) after r
+      → Gathers b o (deadline_line (Some time)) after r → Gathers b o (deadline_of answer) after r
   unfolding deadline_of
   gathers-deadline time h e g = rw (ne_eqb (get_or answer 0 0) 0 h, ← e) g
 
 -- the next start, by its mark
 module _ (b after : List ℕ) (o r : Stream) (answer : List ℕ) (mark : ℕ) (e : mark ≡ get_or answer 0 0) where
-  pub gathers-no-start : mark ≡ 0 → Gathers b o (bytes_of " none") after r → Gathers b o (start_text answer) after r
+  pub gathers-no-start : mark ≡ 0 → Gathers b o (bytes_of " None") after r → Gathers b o (start_text answer) after r
   unfolding start_text
   gathers-no-start h g = rw (← e, eq-eqb mark 0 h) g
 

@@ -68,7 +68,7 @@ pub line-ended : (m : Room) (line : List ℕ) (s : Session) (w out list list' : 
     → Stands line s w out p
     → Stands line (record { line = k; cut = c; settings = t; output = o }) w' out' (line_ends m p)
 unfolding line_ends
-line-ended m line s w out list list' l k n count end from c t w' out' o p room parses counts lends ends begins number does none settings h =
+line-ended m line s w out list list' l k n count end from c t w' out' o p room parses counts lends ends begins number does None settings h =
     let q = said m p.text in
     let x = parses p.text h.text in
     let j = saturating_add max64 p.number 1 in
@@ -83,7 +83,7 @@ line-ended m line s w out list list' l k n count end from c t w' out' o p room p
     let g = does.lines in
     record {
       number = i;
-      text = none;
+      text = None;
       settings = settings ∙ ap (λ z. settings_after z s.settings) x.line ∙ ap (settings_after q.line) h.settings;
       store = does.store ∙ ap (λ z. z.store) same;
       gone = h.gone ++ g.gone;

@@ -1,6 +1,6 @@
 -- What is printed for a call, from what its caller sees: document 01, "Outcomes and effects", and the answers of the other calls.
 use Rattle.std.specs.Prelude.{ℕ, zero, suc, ◌+◌, ◌*◌, List, [], ◌∷◌, ◌++◌, eqb, get_or}
-use Rattle.std.proofs.Math.Option.{none, some}
+use Rattle.std.specs.Prelude.{None, Some}
 use Rattle.words.specs.Pairs.{joined}
 use Rattle.model.specs.World.{now_of}
 use Rattle.model.specs.Calls.{Call, new, load, unload, enable, tick, run, deadline, counters}
@@ -60,7 +60,7 @@ handled_lines call time answer os es = handled_line call time (get_or answer 0 0
 
 -- a mark, and a time as two words
 unfoldable pub deadline_of : List ℕ → List ℕ
-deadline_of answer = pick (eqb (get_or answer 0 0) 0) (deadline_line none) (deadline_line (some (joined (get_or answer 1 0) (get_or answer 2 0))))
+deadline_of answer = pick (eqb (get_or answer 0 0) 0) (deadline_line None) (deadline_line (Some (joined (get_or answer 1 0) (get_or answer 2 0))))
 
 -- nothing for an accepted new, load or unload
 abbrev pub answer_lines : Call → Called → List ℕ
@@ -97,7 +97,7 @@ trigger_lines answer ws =
 -- "start none", "start unknown", or in how many minutes and which rule, by the answer's mark
 unfoldable pub start_text : List ℕ → List ℕ
 start_text answer =
-    pick (eqb (get_or answer 0 0) 0) (bytes_of " none")
+    pick (eqb (get_or answer 0 0) 0) (bytes_of " None")
     (pick (eqb (get_or answer 0 0) 1) (numbers (words_at answer 1 2)) (bytes_of " unknown"))
 
 unfoldable pub start_lines : List ℕ → List ℕ → List ℕ

@@ -3,7 +3,7 @@ use mathlib.Core.Path.{◌≡◌, refl, ◌∙◌, ap}
 use Prim.Native.Nat.{ℕ, zero, suc}
 use mathlib.Core.Bool.{Bool, true, false, ◌&&◌}
 use mathlib.Core.List.{List, [], ◌∷◌}
-use mathlib.Core.Option.{Option, none, some}
+use Rattle.std.specs.Prelude.{Option, None, Some}
 use Rattle.model.specs.Lists.{all}
 use Rattle.model.specs.Image.{budget}
 use Rattle.model.specs.Rules.{name_order, rule_named, conditions_of_rule}
@@ -51,10 +51,10 @@ module _ (e : Env) where
   executed false j v = let n = numbered (next_number v.last_number) j in told n _ _ (run-known e n (budget e.set.image) start _)
 
   judged : (o : Option Bool) (b : Bool) (j : Job) (s : Rest) (v : Volatile) → Tells (decided (verdict o b s) e j v)
-  judged (some true) b j s v = executed j.dry j (with_rest s v)
-  judged (some false) b j s v = refl
-  judged none true j s v = told j [] 1 refl
-  judged none false j s v = told j [] 1 refl
+  judged (Some true) b j s v = executed j.dry j (with_rest s v)
+  judged (Some false) b j s v = refl
+  judged None true j s v = told j [] 1 refl
+  judged None false j s v = told j [] 1 refl
 
   activated : (i kind : ℕ) (m : Mode) (v : Volatile) → Tells (activate e i kind m v)
   unfolding activate decide
@@ -96,9 +96,9 @@ module _ (e : Env) where
       (all-resumed (due_now e.world.now v.pending) (not_due e.world.now v))
 
   ran : (o : Option ℕ) (b : Bool) (v : Volatile) → Tells (run_rule e o b v)
-  ran none b v = refl
-  ran (some i) true v = activated i 0 Dry v
-  ran (some i) false v = by (is_enabled v.rest i) (λ t. rw t (activated i 0 Manual v)) (λ f. rw f refl)
+  ran None b v = refl
+  ran (Some i) true v = activated i 0 Dry v
+  ran (Some i) false v = by (is_enabled v.rest i) (λ t. rw t (activated i 0 Manual v)) (λ f. rw f refl)
 
 -- CALLS ---------------------------------------------------------------------------------------------------------------------------------------
 abbrev Says : Done → Type 0
@@ -114,14 +114,14 @@ given-says (suc n) s k h = refl
 
 tick-says : (o : Option RuleSet) (snap : List ℕ) (os es : ℕ) (s : Store) → Says (tick_with o snap os es s)
 unfolding tick_with committed
-tick-says none snap os es s = commits (overflow os es (no_outcome s.vol)) _ _ s refl
-tick-says (some set) snap os es s =
+tick-says None snap os es s = commits (overflow os es (no_outcome s.vol)) _ _ s refl
+tick-says (Some set) snap os es s =
     let e : Env = record { world = world_of snap; set = set } in commits (overflow os es (service_tick e s.vol)) _ _ s (ticked e s.vol)
 
 run-says : (o : Option RuleSet) (rule : ℕ) (b : Bool) (snap : List ℕ) (os es : ℕ) (s : Store) → Says (run_with o rule b snap os es s)
 unfolding run_with committed
-run-says none rule b snap os es s = commits (overflow os es (no_outcome s.vol)) _ _ s refl
-run-says (some set) rule b snap os es s =
+run-says None rule b snap os es s = commits (overflow os es (no_outcome s.vol)) _ _ s refl
+run-says (Some set) rule b snap os es s =
     let e : Env = record { world = world_of snap; set = set } in
     let o = rule_named set.image rule in
     commits (overflow os es (run_rule e o b s.vol)) _ _ s (ran e o b s.vol)
@@ -131,8 +131,8 @@ load-says zero t img fs s = refl
 load-says (suc n) t img fs s = refl
 
 enable-says : (o : Option ℕ) (rule : ℕ) (on : Bool) (s : Store) → Says (enabling o rule on s)
-enable-says none rule on s = refl
-enable-says (some i) rule on s = refl
+enable-says None rule on s = refl
+enable-says (Some i) rule on s = refl
 
 says : (c : Call) (s : Store) → Says (call c s)
 unfolding call call_load call_unload call_enable
@@ -152,7 +152,7 @@ known-reasons s [] = refl
 known-reasons s (c ∷ cs) = and_i (all_known (call c s).answer) _ (says c s) (known-reasons (call c s).store cs)
 
 -- and on words that say a store
-pub known-reasons-on-words : (w : List ℕ) (s : Store) (cs : List Call) → all in_words cs ≡ true → read w ≡ some s → all all_known (answers_on w cs) ≡ true
+pub known-reasons-on-words : (w : List ℕ) (s : Store) (cs : List Call) → all in_words cs ≡ true → read w ≡ Some s → all all_known (answers_on w cs) ≡ true
 known-reasons-on-words w s cs i r = ap (all all_known) (on-readable w s cs i r).answers ∙ known-reasons s cs
 
 -- THE DEPTH OF A CHAIN ----------------------------------------------------------------------------------------------------------------------

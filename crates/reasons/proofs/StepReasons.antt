@@ -3,7 +3,7 @@ use mathlib.Core.Path.{◌≡◌, refl}
 use Prim.Native.Nat.{ℕ, zero, suc}
 use mathlib.Core.Bool.{Bool, true, false, cond, not, ◌&&◌}
 use mathlib.Core.List.{List}
-use mathlib.Core.Option.{Option, none, some}
+use Rattle.std.specs.Prelude.{Option, None, Some}
 use lib.Dec.{leb, ltb, eqb}
 use lib.IntN.{ℤ, pos, negsuc}
 use lib.ListN.{length}
@@ -45,13 +45,13 @@ module _ (e : Env) (j : Job) where
 
   module _ (s : Rest) where
     choose : (o : Option ℤ) (a g : ℕ) → Known (selects e j s a g o).reason
-    choose none a g = failing s
-    choose (some (negsuc n)) a g = failing s
-    choose (some (pos n)) a g = either (leb n (group_limit e.set.image)) _ _ refl (failing s)
+    choose None a g = failing s
+    choose (Some (negsuc n)) a g = failing s
+    choose (Some (pos n)) a g = either (leb n (group_limit e.set.image)) _ _ refl (failing s)
 
     dim : (o : Option ℕ) (t d : ℕ) → Known (dims e j s t d o).reason
-    dim none t d = failing s
-    dim (some level) t d = refl
+    dim None t d = failing s
+    dim (Some level) t d = refl
 
     arm : (name ms : ℕ) (s' : Rest) → Known (arm_timer e j s name ms s').reason
     unfolding arm_timer
@@ -62,14 +62,14 @@ module _ (e : Env) (j : Job) where
     assign name value = either j.dry _ _ refl (either (not (present (var_named s name)) && leb 16 (length s.vars)) _ _ (failing s) refl)
 
     add : (step : Option ℤ) (held : Option VarValue) (name : ℕ) → Known (var_add e j s name step held).reason
-    add none held name = failing s
-    add (some x) none name = assign name _
-    add (some x) (some (Int n)) name = assign name _
-    add (some x) (some (Text t)) name = failing s
+    add None held name = failing s
+    add (Some x) None name = assign name _
+    add (Some x) (Some (Int n)) name = assign name _
+    add (Some x) (Some (Text t)) name = failing s
 
     bit : (i : Option ℕ) (rule : ℕ) (on : Bool) → Known (set_rule_bit e j s rule on i).reason
-    bit none rule on = failing s
-    bit (some i) rule on = either j.dry _ _ refl refl
+    bit None rule on = failing s
+    bit (Some i) rule on = either j.dry _ _ refl refl
 
     action : (x : Action) → Known (run_prim e j s x).reason
     unfolding run_prim prim_light prim_recall prim_apply prim_cycle cycle_effect prim_var_set
@@ -102,8 +102,8 @@ module _ (e : Env) (j : Job) where
   -- STEPS -----------------------------------------------------------------------------------------------------------------------------
   after : (o : Option ℕ) (a : PrimResult) (to : Point) (v : Volatile) → Known a.reason → Known (after_prim o a to v).reason
   unfolding after_prim
-  after none a to v p = p
-  after (some q) a to v p = p
+  after None a to v p = p
+  after (Some q) a to v p = p
 
   later : (b ms : ℕ) (sp : Point) (v : Volatile) → Known (schedule e j b ms sp v).reason
   unfolding schedule dropped accepted
@@ -111,9 +111,9 @@ module _ (e : Env) (j : Job) where
 
   branched : (o : Option Bool) (t n : ℕ) (sp : Point) (v : Volatile) → Known (run_branch o t n sp v).reason
   unfolding run_branch
-  branched (some true) t n sp v = refl
-  branched (some false) t n sp v = refl
-  branched none t n sp v = after none _ _ v (failing v.rest)
+  branched (Some true) t n sp v = refl
+  branched (Some false) t n sp v = refl
+  branched None t n sp v = after None _ _ v (failing v.rest)
 
   step : (b : ℕ) (sp : Point) (x : Step) (v : Volatile) → Known (exec e j b sp x v).reason
   unfolding exec
@@ -121,18 +121,18 @@ module _ (e : Env) (j : Job) where
   step b sp (Wait ms) v = later b ms _ v
   step b sp (After ms) v = later b ms _ v
   step b sp (Branch c t n) v = branched (condition_at e v.rest c) t n sp v
-  step b sp Fail v = after none _ _ v (failing v.rest)
+  step b sp Fail v = after None _ _ v (failing v.rest)
 
   -- RUNS ------------------------------------------------------------------------------------------------------------------------------
   unpaid-known : (o : Option Step) → Known (unpaid o)
-  unpaid-known none = refl
-  unpaid-known (some x) = refl
+  unpaid-known None = refl
+  unpaid-known (Some x) = refl
 
   goes_on : (x : Step) (d : StepResult) (o : Option Point) (k : Point → Volatile → RunOutput) → Known d.reason
       → ((sp : Point) (v : Volatile) → Known (k sp v).reason) → Known (continue_run x d o k).reason
   unfolding continue_run
-  goes_on x d none k p q = p
-  goes_on x d (some sp) k p q = first-known d.reason (k sp d.vol).reason p (q sp d.vol)
+  goes_on x d None k p q = p
+  goes_on x d (Some sp) k p q = first-known d.reason (k sp d.vol).reason p (q sp d.vol)
 
   pub run-known : (b : ℕ) (sp : Point) (v : Volatile) → Known (run_steps b e j sp v).reason
   unfolding run_steps with_step
@@ -141,15 +141,15 @@ module _ (e : Env) (j : Job) where
     where
       from : (o : Option Step) → ((sp' : Point) (v' : Volatile) → Known (run_steps b e j sp' v').reason)
           → Known (with_step o v (λ x. let d = exec e j b sp x v in continue_run x d d.next (λ sp' v'. run_steps b e j sp' v'))).reason
-      from none ih = refl
-      from (some x) ih = goes_on x (exec e j b sp x v) (exec e j b sp x v).next (λ sp' v'. run_steps b e j sp' v') (step b sp x v) ih
+      from None ih = refl
+      from (Some x) ih = goes_on x (exec e j b sp x v) (exec e j b sp x v).next (λ sp' v'. run_steps b e j sp' v') (step b sp x v) ih
 
   -- DRY RUNS --------------------------------------------------------------------------------------------------------------------------
   dry-branched : (o : Option Bool) (t n : ℕ) (sp : Point) (qs : List Point) (s : Rest) → Known (dry_branch o t n sp qs s).reason
   unfolding dry_branch
-  dry-branched (some true) t n sp qs s = refl
-  dry-branched (some false) t n sp qs s = refl
-  dry-branched none t n sp qs s = failing s
+  dry-branched (Some true) t n sp qs s = refl
+  dry-branched (Some false) t n sp qs s = refl
+  dry-branched None t n sp qs s = failing s
 
   dry-step : (x : Step) (sp : Point) (qs : List Point) (s : Rest) → Known (dry_step e j x sp qs s).reason
   unfolding dry_step
@@ -160,14 +160,14 @@ module _ (e : Env) (j : Job) where
   dry-step Fail sp qs s = failing s
 
   unpaid-dry : (o : Option NextStep) → Known (unpaid_dry o)
-  unpaid-dry none = refl
-  unpaid-dry (some x) = refl
+  unpaid-dry None = refl
+  unpaid-dry (Some x) = refl
 
   turn : (o : Option NextStep) (s : Rest) (k : Point → List Point → Rest → DryOutput)
       → ((sp : Point) (qs : List Point) (t : Rest) → Known (k sp qs t).reason) → Known (dry_turn e j o s k).reason
   unfolding dry_turn
-  turn none s k q = refl
-  turn (some a) s k q =
+  turn None s k q = refl
+  turn (Some a) s k q =
       let d = dry_step e j a.step a.point a.bodies s in
       first-known d.reason (k d.next d.bodies d.rest).reason (dry-step a.step a.point a.bodies s) (q d.next d.bodies d.rest)
 

@@ -4,7 +4,7 @@ use Prim.Native.Nat.{ℕ, suc, ◌-◌, min, ◌≤◌}
 use native.Mathlib.Omega.{arith}
 use mathlib.Core.Bool.{Bool, true, false}
 use mathlib.Core.List.{[]}
-use mathlib.Core.Option.{some}
+use Rattle.std.specs.Prelude.{Some}
 use lib.ListN.{length, get_or, set, length-map}
 use Rattle.model.specs.Lists.{or_else}
 use Rattle.model.specs.Image.{budget}
@@ -41,7 +41,7 @@ module _ (e : Env) (ok : SetOk e.set) where
   wet-single : (j : Job) (v : Volatile) → Single (wet_of j.index) (execute_wet e j v)
   unfolding execute_wet numbered outcome list_in
   wet-single j v =
-      let s = with_last_activation (set v.rest.last_activation j.index (some e.world.now)) (bump activations_total v.rest) in
+      let s = with_last_activation (set v.rest.last_activation j.index (Some e.world.now)) (bump activations_total v.rest) in
       let a = run-few (budget e.set.image) e (numbered (next_number v.last_number) j) start (with_number (suc v.last_number) (with_rest s v)) tt in
       let b = length-map (get_or e.set.flat j.index []) (λ (x : FlatStep). x.step) in
       record { outcomes = omega arith; effects = omega arith }

@@ -4,7 +4,7 @@ use Prim.Native.Nat.{ℕ, zero, suc}
 use native.Mathlib.Nat.{le_trans}
 use mathlib.Core.Bool.{Bool, true}
 use mathlib.Core.List.{List, [], ◌∷◌}
-use mathlib.Core.Option.{Option, none, some}
+use Rattle.std.specs.Prelude.{Option, None, Some}
 use Rattle.model.specs.Lists.{all}
 use Rattle.model.specs.Snapshot.{snapshot_refusal}
 use Rattle.model.specs.World.{now_of, world_of}
@@ -31,15 +31,15 @@ module _ (o f : ℕ) where
   lent-enough img os es h l = record { outcomes = le_trans h.outcomes l.outcomes; effects = le_trans h.effects l.effects }
 
   careful-enough : (c : Call) (l : Option RuleSet) → LoadedWithin o f l → Careful o f c → EnoughFor l c
-  careful-enough c none h k = tt
-  careful-enough (new t) (some set) h k = tt
-  careful-enough (load t img) (some set) h k = tt
-  careful-enough (unload t) (some set) h k = tt
-  careful-enough (enable rule on) (some set) h k = tt
-  careful-enough (tick snap os es) (some set) h k = lent-enough set.image os es h k
-  careful-enough (run rule dry snap os es) (some set) h k = lent-enough set.image os es h k
-  careful-enough deadline (some set) h k = tt
-  careful-enough counters (some set) h k = tt
+  careful-enough c None h k = tt
+  careful-enough (new t) (Some set) h k = tt
+  careful-enough (load t img) (Some set) h k = tt
+  careful-enough (unload t) (Some set) h k = tt
+  careful-enough (enable rule on) (Some set) h k = tt
+  careful-enough (tick snap os es) (Some set) h k = lent-enough set.image os es h k
+  careful-enough (run rule dry snap os es) (Some set) h k = lent-enough set.image os es h k
+  careful-enough deadline (Some set) h k = tt
+  careful-enough counters (Some set) h k = tt
 
   -- WHAT IS LOADED AFTER A CALL -------------------------------------------------------------------------------------------------------
   loading-within : (n t : ℕ) (img : List ℕ) (s : Store) → image_refusal_with img (flatten_rules img) ≡ n → LoadedWithin o f s.loaded → (image_refusal img ≡ 0 → Room o f img)
@@ -49,8 +49,8 @@ module _ (o f : ℕ) where
   loading-within (suc n) t img s e h k = h
 
   enabling-within : (x : Option ℕ) (rule : ℕ) (on : Bool) (s : Store) → LoadedWithin o f s.loaded → LoadedWithin o f (enabling x rule on s).store.loaded
-  enabling-within none rule on s h = h
-  enabling-within (some i) rule on s h = h
+  enabling-within None rule on s h = h
+  enabling-within (Some i) rule on s h = h
 
   committing-within : (n now : ℕ) (x : Handled) (s : Store) → LoadedWithin o f s.loaded → LoadedWithin o f (committing n now x s).store.loaded
   committing-within zero now x s h = h
@@ -58,15 +58,15 @@ module _ (o f : ℕ) where
 
   tick-within : (l : Option RuleSet) (snap : List ℕ) (os es : ℕ) (s : Store) → LoadedWithin o f s.loaded → LoadedWithin o f (tick_with l snap os es s).store.loaded
   unfolding tick_with committed
-  tick-within none snap os es s h = committing-within (overflow os es (no_outcome s.vol)) (now_of snap) (no_outcome s.vol) s h
-  tick-within (some set) snap os es s h =
+  tick-within None snap os es s h = committing-within (overflow os es (no_outcome s.vol)) (now_of snap) (no_outcome s.vol) s h
+  tick-within (Some set) snap os es s h =
       let x = service_tick (record { world = world_of snap; set = set }) s.vol in
       committing-within (overflow os es x) (now_of snap) x s h
 
   run-within : (l : Option RuleSet) (rule : ℕ) (dry : Bool) (snap : List ℕ) (os es : ℕ) (s : Store) → LoadedWithin o f s.loaded → LoadedWithin o f (run_with l rule dry snap os es s).store.loaded
   unfolding run_with committed
-  run-within none rule dry snap os es s h = committing-within (overflow os es (no_outcome s.vol)) (now_of snap) (no_outcome s.vol) s h
-  run-within (some set) rule dry snap os es s h =
+  run-within None rule dry snap os es s h = committing-within (overflow os es (no_outcome s.vol)) (now_of snap) (no_outcome s.vol) s h
+  run-within (Some set) rule dry snap os es s h =
       let x = run_rule (record { world = world_of snap; set = set }) (rule_named set.image rule) dry s.vol in
       committing-within (overflow os es x) (now_of snap) x s h
 
@@ -95,6 +95,6 @@ module _ (o f : ℕ) where
       )
 
   -- on the words of a store
-  pub always-on-words : (cs : List Call) (w : List ℕ) (s : Store) → read w ≡ some s → LoadedWithin o f s.loaded → all in_words cs ≡ true → Every (Careful o f) cs → Every Not30 (answers_on w cs)
+  pub always-on-words : (cs : List Call) (w : List ℕ) (s : Store) → read w ≡ Some s → LoadedWithin o f s.loaded → all in_words cs ≡ true → Every (Careful o f) cs → Every Not30 (answers_on w cs)
   always-on-words cs w s e h i careful =
       subst (Every Not30) (sym (on-readable w s cs i e).answers) (always cs s (write_read w s e).keeps h i careful)

@@ -4,8 +4,10 @@ use Prim.Native.Nat.{ℕ, zero, suc, ◌+◌, ◌-◌, min, ◌≤◌}
 use native.Mathlib.Omega.{arith}
 use mathlib.Core.Bool.{Bool, true, false, false≢true}
 use mathlib.Core.List.{List, [], ◌∷◌, ◌++◌}
-use mathlib.Core.Option.{Option, none, some, none-ne-some}
-use lib.ListN.{length, get_or, get_elem?, drop, length-append}
+use Rattle.std.specs.Prelude.{Option, None, Some}
+use Rattle.std.proofs.lemmas.Option.{none-some}
+use lib.ListN.{length, get_or, drop, length-append}
+use Rattle.std.specs.Prelude.{slice_get}
 use Rattle.model.specs.Lists.{to_list}
 use Rattle.model.specs.declared.Step.{Step}
 use Rattle.model.specs.declared.Step.TheVariants.{Primitive, Wait, Branch, After, Fail}
@@ -29,7 +31,7 @@ use Rattle.room.proofs.Runs.{Onward, Ahead, arrive-ahead, further, effect-one}
 -- of a rule's own list with the bodies of its afters, or of one body
 abbrev left_in : List FlatStep → ℕ → ℕ → ℕ
 left_in xs zero p = every_copy (drop p xs)
-left_in xs (suc q) p = length (body_in (get_elem? xs q)) - p
+left_in xs (suc q) p = length (body_in (slice_get xs q)) - p
 
 copy-less : (xs : List FlatStep) (p : ℕ) → every_copy (drop (suc p) xs) ≤ every_copy (drop p xs)
 copy-less [] zero = omega arith
@@ -56,15 +58,15 @@ left_less xs zero p q h =
 left_less xs (suc n) p q h = omega arith
 
 -- at a step of the own list: this step, its body, and what is behind it
-copy_at : (xs : List FlatStep) (p : ℕ) (x : Step) → get_elem? (steps_of xs) p ≡ some x → every_copy (drop p xs) ≡ suc (length (body_in (get_elem? xs p)) + every_copy (drop (suc p) xs))
-copy_at [] p x e = absurd (none-ne-some x e)
+copy_at : (xs : List FlatStep) (p : ℕ) (x : Step) → slice_get (steps_of xs) p ≡ Some x → every_copy (drop p xs) ≡ suc (length (body_in (slice_get xs p)) + every_copy (drop (suc p) xs))
+copy_at [] p x e = absurd (none-some x e)
 copy_at (y ∷ ys) zero x e = omega arith
 copy_at (y ∷ ys) (suc p) x e = copy_at ys p x e
 
-left_at : (xs : List FlatStep) (n p : ℕ) (x : Step) → get_elem? (list_in xs n) p ≡ some x → suc (left_in xs n (suc p)) ≤ left_in xs n p
+left_at : (xs : List FlatStep) (n p : ℕ) (x : Step) → slice_get (list_in xs n) p ≡ Some x → suc (left_in xs n (suc p)) ≤ left_in xs n p
 unfolding list_in
 left_at xs zero p x e = let a = copy_at xs p x e in omega arith
-left_at xs (suc n) p x e = let lt = at-inside (body_in (get_elem? xs n)) p x e in omega arith
+left_at xs (suc n) p x e = let lt = at-inside (body_in (slice_get xs n)) p x e in omega arith
 
 module _ (e : Env) (ok : SetOk e.set) (j : Job) where
   abbrev steps : List FlatStep
@@ -88,20 +90,20 @@ module _ (e : Env) (ok : SetOk e.set) (j : Job) where
 
   -- THE NEXT STEP -------------------------------------------------------------------------------------------------------------------
   record Found (m : ℕ) (a : NextStep) : Type 0 where
-    here : step_at e.set j.index a.point ≡ some a.step
+    here : step_at e.set j.index a.point ≡ Some a.step
     going : Going a.point a.bodies
     less : ahead a.point a.bodies ≤ m
 
   found-less : (m : ℕ) (o : Option Step) (sp : Point) (qs : List Point) (more : Option NextStep) (a : NextStep) → step_at e.set j.index sp ≡ o → Going sp qs → ahead sp qs ≤ m
-      → ((b : NextStep) → more ≡ some b → Found m b) → found o sp qs more ≡ some a → Found m a
-  found-less m none sp qs more a z g le ih h = ih a h
-  found-less m (some x) sp qs more a z g le ih h =
+      → ((b : NextStep) → more ≡ Some b → Found m b) → found o sp qs more ≡ Some a → Found m a
+  found-less m None sp qs more a z g le ih h = ih a h
+  found-less m (Some x) sp qs more a z g le ih h =
       let p : record { step = x; point = sp; bodies = qs } ≡ a = cc in
       subst (Found m) p (record { here = z; going = g; less = le })
 
-  next-less : (m : ℕ) (sp : Point) (qs : List Point) (a : NextStep) → Going sp qs → ahead sp qs ≤ m → next_step e j sp qs ≡ some a → Found m a
+  next-less : (m : ℕ) (sp : Point) (qs : List Point) (a : NextStep) → Going sp qs → ahead sp qs ≤ m → next_step e j sp qs ≡ Some a → Found m a
   unfolding next_step
-  next-less m sp [] a g le h = found-less m (step_at e.set j.index sp) sp [] none a refl g le (λ b z. absurd (none-ne-some b z)) h
+  next-less m sp [] a g le h = found-less m (step_at e.set j.index sp) sp [] None a refl g le (λ b z. absurd (none-some b z)) h
   next-less m sp (q ∷ qs) a g le h =
       found-less m (step_at e.set j.index sp) sp (q ∷ qs) (next_step e j q qs) a refl g le (λ b z. next-less m q qs b g.1 (omega arith) z) h
 
@@ -110,7 +112,7 @@ module _ (e : Env) (ok : SetOk e.set) (j : Job) where
     going : Going to qs
     less : suc (ahead to qs) ≤ m
 
-  onto : (sp to : Point) (qs : List Point) (x : Step) → step_at e.set j.index sp ≡ some x → Going sp qs → Ahead sp.list (suc sp.place) to → Stepped (ahead sp qs) to qs
+  onto : (sp to : Point) (qs : List Point) (x : Step) → step_at e.set j.index sp ≡ Some x → Going sp qs → Ahead sp.list (suc sp.place) to → Stepped (ahead sp qs) to qs
   unfolding step_at
   onto sp to qs x here g h =
       let a = left_at steps sp.list sp.place x here in
@@ -121,35 +123,35 @@ module _ (e : Env) (ok : SetOk e.set) (j : Job) where
   onward : (sp : Point) (n : ℕ) → Onward sp.jump → Ahead sp.list (suc sp.place) (arrive sp.list (suc sp.place + n) sp.jump)
   onward sp n h = further _ _ _ _ (omega arith) (arrive-ahead sp.list (suc sp.place + n) sp.jump h)
 
-  branch_less : (o : Option Bool) (c t f : ℕ) (sp : Point) (qs : List Point) (s : Rest) → step_at e.set j.index sp ≡ some (Branch c t f) → Going sp qs
+  branch_less : (o : Option Bool) (c t f : ℕ) (sp : Point) (qs : List Point) (s : Rest) → step_at e.set j.index sp ≡ Some (Branch c t f) → Going sp qs
       → Stepped (ahead sp qs) (dry_branch o t f sp qs s).next (dry_branch o t f sp qs s).bodies
   unfolding dry_branch
-  branch_less (some true) c t f sp qs s here g =
+  branch_less (Some true) c t f sp qs s here g =
       let p = suc sp.place in onto sp _ qs (Branch c t f) here g (arrive-ahead sp.list p (JumpFrom (p + t) (p + t + f)) (omega arith))
-  branch_less (some false) c t f sp qs s here g = onto sp _ qs (Branch c t f) here g (onward sp t g.0)
-  branch_less none c t f sp qs s here g = onto sp _ qs (Branch c t f) here g (onward sp (t + f) g.0)
+  branch_less (Some false) c t f sp qs s here g = onto sp _ qs (Branch c t f) here g (onward sp t g.0)
+  branch_less None c t f sp qs s here g = onto sp _ qs (Branch c t f) here g (onward sp (t + f) g.0)
 
   -- an after stands in the rule's own list
-  own-list : (n : ℕ) (sp : Point) (ms : ℕ) → sp.list ≡ n → step_at e.set j.index sp ≡ some (After ms) → n ≡ 0
+  own-list : (n : ℕ) (sp : Point) (ms : ℕ) → sp.list ≡ n → step_at e.set j.index sp ≡ Some (After ms) → n ≡ 0
   unfolding step_at
   own-list zero sp ms el here = refl
   own-list (suc n) sp ms el here =
-      absurd (false≢true (in_body e.set ok j.index n sp.place (After ms) (subst (λ l. get_elem? (list_of e.set j.index l) sp.place ≡ some (After ms)) el here)))
+      absurd (false≢true (in_body e.set ok j.index n sp.place (After ms) (subst (λ l. slice_get (list_of e.set j.index l) sp.place ≡ Some (After ms)) el here)))
 
-  after_less : (ms : ℕ) (sp : Point) (qs : List Point) → step_at e.set j.index sp ≡ some (After ms) → Going sp qs
+  after_less : (ms : ℕ) (sp : Point) (qs : List Point) → step_at e.set j.index sp ≡ Some (After ms) → Going sp qs
       → Stepped (ahead sp qs) (arrive sp.list (suc sp.place + 0) sp.jump) (qs ++ (body_start sp ∷ []))
   unfolding step_at list_in
   after_less ms sp qs here g =
       let own : sp.list ≡ 0 = own-list sp.list sp ms refl (unfold step_at in here) in
       let h = onward sp 0 g.0 in
       let a = left-ahead (suc sp.place) sp _ h in
-      let b = copy_at steps sp.place (After ms) (subst (λ l. get_elem? (list_of e.set j.index l) sp.place ≡ some (After ms)) own here) in
+      let b = copy_at steps sp.place (After ms) (subst (λ l. slice_get (list_of e.set j.index l) sp.place ≡ Some (After ms)) own here) in
       let c = ap (λ n. left_in steps n sp.place) own in
       let d = ap (λ n. left_in steps n (suc sp.place)) own in
       let f = sum-append left qs (body_start sp ∷ []) in
       record { going = (h.jump, every_append (λ (q : Point). Onward q.jump) qs _ g.1 (tt, tt)); less = omega arith }
 
-  step_less : (x : Step) (sp : Point) (qs : List Point) (s : Rest) → step_at e.set j.index sp ≡ some x → Going sp qs
+  step_less : (x : Step) (sp : Point) (qs : List Point) (s : Rest) → step_at e.set j.index sp ≡ Some x → Going sp qs
       → Stepped (ahead sp qs) (dry_step e j x sp qs s).next (dry_step e j x sp qs s).bodies
   unfolding dry_step
   step_less (Primitive i) sp qs s here g = onto sp _ qs (Primitive i) here g (onward sp 0 g.0)
@@ -159,12 +161,12 @@ module _ (e : Env) (ok : SetOk e.set) (j : Job) where
   step_less Fail sp qs s here g = onto sp _ qs Fail here g (onward sp 0 g.0)
 
   -- A RUN ---------------------------------------------------------------------------------------------------------------------------
-  turn-few : (b m : ℕ) (o : Option NextStep) (s : Rest) → ((a : NextStep) → o ≡ some a → Found m a)
+  turn-few : (b m : ℕ) (o : Option NextStep) (s : Rest) → ((a : NextStep) → o ≡ Some a → Found m a)
       → ((sp : Point) (qs : List Point) (s' : Rest) → Going sp qs → length (run_steps_dry b e j sp qs s').effects ≤ min b (ahead sp qs))
       → length (dry_turn e j o s (λ sp' qs' s'. run_steps_dry b e j sp' qs' s')).effects ≤ min (suc b) m
   unfolding dry_turn
-  turn-few b m none s here ih = omega arith
-  turn-few b m (some a) s here ih =
+  turn-few b m None s here ih = omega arith
+  turn-few b m (Some a) s here ih =
       let f = here a refl in
       let d = dry_step e j a.step a.point a.bodies s in
       let st = step_less a.step a.point a.bodies s f.here f.going in

@@ -5,9 +5,10 @@ use native.Mathlib.Omega.{arith}
 use native.Mathlib.Nat.{le_trans, mul-le-mul_left}
 use mathlib.Core.Bool.{Bool, true, false, not}
 use mathlib.Core.List.{List, [], ◌∷◌, map}
-use mathlib.Core.Option.{Option, none, some}
+use Rattle.std.specs.Prelude.{Option, None, Some}
 use lib.Dec.{leb, ltb, eqb}
-use lib.ListN.{length, get_or, get_elem?, length-map}
+use lib.ListN.{length, get_or, length-map}
+use Rattle.std.specs.Prelude.{slice_get}
 use borrow.Author.Tests.{le-leb, leb-true, leb-false, ltb-true, ltb-false}
 use Rattle.words.specs.Saturating.{max64}
 use Rattle.model.specs.Lists.{all, every, total, up_from}
@@ -50,7 +51,7 @@ effects-sum [] = refl
 effects-sum (o ∷ os) = let a = effects-sum os in omega arith
 
 -- THE STEPS OF A RULE ---------------------------------------------------------------------------------------------------------------
-body-few : (m p : ℕ) (xs : List FlatStep) → all (body_within m) xs ≡ true → length (body_in (get_elem? xs p)) ≤ m
+body-few : (m p : ℕ) (xs : List FlatStep) → all (body_within m) xs ≡ true → length (body_in (slice_get xs p)) ≤ m
 body-few m p [] h = omega arith
 body-few m zero (x ∷ xs) h = leb-true _ _ (and_l (body_within m x) _ h)
 body-few m (suc p) (x ∷ xs) h = body-few m p xs (and_r (body_within m x) _ h)
@@ -119,7 +120,7 @@ dry-covered b l n t h k le =
     (λ f. let s = leb-false l 7 f in omega arith)
 
 -- TICK AND RUN ----------------------------------------------------------------------------------------------------------------------
-module _ (e : Env) (ok : SetOk e.set) (world : WorldOk e.world) (flat : FlatFormOf (some e.set)) where
+module _ (e : Env) (ok : SetOk e.set) (world : WorldOk e.world) (flat : FlatFormOf (Some e.set)) where
   abbrev img : List ℕ
   img = e.set.image
 
@@ -186,20 +187,20 @@ module _ (e : Env) (ok : SetOk e.set) (world : WorldOk e.world) (flat : FlatForm
       record { outcomes = omega arith; effects = omega arith }
 
   pub run-within : (o : Option ℕ) (dry : Bool) (v : Volatile) → Within img (run_rule e o dry v)
-  run-within none dry v = record { outcomes = omega arith; effects = omega arith }
-  run-within (some i) true v = dry-within i _ (dry-run-single e ok i v)
-  run-within (some i) false v =
+  run-within None dry v = record { outcomes = omega arith; effects = omega arith }
+  run-within (Some i) true v = dry-within i _ (dry-run-single e ok i v)
+  run-within (Some i) false v =
       by (is_enabled v.rest i) (λ t. rw t (wet-within i _ (manual-single e ok i v))) (λ f. rw f (record { outcomes = omega arith; effects = omega arith }))
 
 -- of every store that keeps the rules, and every accepted snapshot
-module _ (s : Store) (keeps : Keeps s) (set : RuleSet) (loaded : s.loaded ≡ some set) (snap : List ℕ) (words : all is_word snap ≡ true) (fine : snapshot_refusal snap ≡ 0) where
+module _ (s : Store) (keeps : Keeps s) (set : RuleSet) (loaded : s.loaded ≡ Some set) (snap : List ℕ) (words : all is_word snap ≡ true) (fine : snapshot_refusal snap ≡ 0) where
   abbrev pub env : Env
   env = record { world = world_of snap; set = set }
 
   set-ok : SetOk set
   set-ok = subst (IfSome SetOk) loaded (of-keeps s keeps).set
 
-  flat-form : FlatFormOf (some set)
+  flat-form : FlatFormOf (Some set)
   flat-form = subst FlatFormOf loaded keeps.flat
 
   volatile-ok : VolatileOk set s.vol
@@ -251,16 +252,16 @@ given-30 (suc n) s K h k e = h (cc)
 module _ (s : Store) (keeps : Keeps s) (snap : List ℕ) (words : all is_word snap ≡ true) where
   tick-30 : (o : Option RuleSet) (os es : ℕ) → s.loaded ≡ o → EnoughFor o (tick snap os es) → snapshot_refusal snap ≡ 0 → (tick_with o snap os es s).answer ≡ refused 30 → ⊥
   unfolding tick_with committed
-  tick-30 none os es q l fine = committing-30 _ (now_of snap) (no_outcome s.vol) s (room-held os es (no_outcome s.vol) (omega arith) (omega arith))
-  tick-30 (some set) os es q l fine =
+  tick-30 None os es q l fine = committing-30 _ (now_of snap) (no_outcome s.vol) s (room-held os es (no_outcome s.vol) (omega arith) (omega arith))
+  tick-30 (Some set) os es q l fine =
       committing-30 _ (now_of snap) (service_tick (record { world = world_of snap; set = set }) s.vol) s
       (lent-held set.image os es _ (tick-room s keeps set q snap words fine) l)
 
   run-30 : (o : Option RuleSet) (rule : ℕ) (dry : Bool) (os es : ℕ) → s.loaded ≡ o → EnoughFor o (run rule dry snap os es) → snapshot_refusal snap ≡ 0
       → (run_with o rule dry snap os es s).answer ≡ refused 30 → ⊥
   unfolding run_with committed
-  run-30 none rule dry os es q l fine = committing-30 _ (now_of snap) (no_outcome s.vol) s (room-held os es (no_outcome s.vol) (omega arith) (omega arith))
-  run-30 (some set) rule dry os es q l fine =
+  run-30 None rule dry os es q l fine = committing-30 _ (now_of snap) (no_outcome s.vol) s (room-held os es (no_outcome s.vol) (omega arith) (omega arith))
+  run-30 (Some set) rule dry os es q l fine =
       committing-30 _ (now_of snap) (run_rule (record { world = world_of snap; set = set }) (rule_named set.image rule) dry s.vol) s
       (lent-held set.image os es _ (run_room s keeps set q snap words fine rule dry) l)
 
@@ -288,8 +289,8 @@ unfolding call_unload
 unload-30 t s e = let z : ◌≡◌ {A = ℕ} 0 1 = cc in omega arith
 
 enabling-30 : (o : Option ℕ) (rule : ℕ) (on : Bool) (s : Store) → (enabling o rule on s).answer ≡ refused 30 → ⊥
-enabling-30 none rule on s e = let z : ◌≡◌ {A = ℕ} 0 1 = cc in omega arith
-enabling-30 (some i) rule on s e = let z : ◌≡◌ {A = ℕ} 0 1 = cc in omega arith
+enabling-30 None rule on s e = let z : ◌≡◌ {A = ℕ} 0 1 = cc in omega arith
+enabling-30 (Some i) rule on s e = let z : ◌≡◌ {A = ℕ} 0 1 = cc in omega arith
 
 enable-30 : (rule : ℕ) (on : Bool) (s : Store) → (call_enable rule on s).answer ≡ refused 30 → ⊥
 unfolding call_enable
@@ -314,8 +315,8 @@ store-30 w = other (eqb (length w) 16384) 1 2 30 (λ e. omega arith) (λ e. omeg
 
 on-store-30 : (c : Call) (w : List ℕ) (o : Option Store) → read w ≡ o → in_words c ≡ true → EnoughIn o c → (on_store c o w).answer ≡ refused 30 → ⊥
 unfolding result
-on-store-30 c w none q i l e = store-30 w (cc)
-on-store-30 c w (some s) q i l e = enough c s (write_read w s q).keeps i l e
+on-store-30 c w None q i l e = store-30 w (cc)
+on-store-30 c w (Some s) q i l e = enough c s (write_read w s q).keeps i l e
 
 new-30 : (t : ℕ) (w : List ℕ) → (new_on t w).answer ≡ refused 30 → ⊥
 unfolding new_on result

@@ -4,7 +4,7 @@ use Prim.Native.Nat.{ℕ, zero, suc, ◌+◌, ◌-◌, min, ◌≤◌}
 use native.Mathlib.Omega.{arith}
 use mathlib.Core.Bool.{Bool, true, false}
 use mathlib.Core.List.{List, [], ◌∷◌}
-use mathlib.Core.Option.{Option, none, some}
+use Rattle.std.specs.Prelude.{Option, None, Some}
 use lib.Dec.{ltb, eqb}
 use lib.ListN.{length, length-append}
 use borrow.Author.Tests.{eqb-true}
@@ -69,8 +69,8 @@ pub left-ahead : (set : RuleSet) (i p : ℕ) (sp to : Point) → Ahead sp.list p
 left-ahead set i p sp to h = let a = ap (λ n. length (list_of set i n)) h.list in let b = h.place in omega arith
 
 pub effect-one : (g : Option Effect) → length (to_list g) ≤ 1
-effect-one none = omega arith
-effect-one (some x) = omega arith
+effect-one None = omega arith
+effect-one (Some x) = omega arith
 
 -- ONE STEP --------------------------------------------------------------------------------------------------------------------------
 AheadIf : ℕ → ℕ → Option Point → Type 0
@@ -78,15 +78,15 @@ AheadIf n p o = IfSome (Ahead n p) o
 
 prim-ahead : (n p : ℕ) (q : Option ℕ) (a : PrimResult) (to : Point) (v : Volatile) → Ahead n p to → AheadIf n p (after_prim q a to v).next
 unfolding after_prim AheadIf
-prim-ahead n p none a to v h = h
-prim-ahead n p (some q) a to v h = h
+prim-ahead n p None a to v h = h
+prim-ahead n p (Some q) a to v h = h
 
 branch-ahead : (x : Option Bool) (t f : ℕ) (sp : Point) (v : Volatile) → Onward sp.jump → AheadIf sp.list (suc sp.place) (run_branch x t f sp v).next
 unfolding run_branch AheadIf
-branch-ahead (some true) t f sp v h =
+branch-ahead (Some true) t f sp v h =
     let p = suc sp.place in arrive-ahead sp.list p (JumpFrom (p + t) (p + t + f)) (omega arith)
-branch-ahead (some false) t f sp v h = further _ _ _ _ (omega arith) (arrive-ahead sp.list (suc sp.place + t) sp.jump h)
-branch-ahead none t f sp v h = unfold AheadIf in (prim-ahead _ _ none (fails v.rest) _ v (further _ _ _ _ (omega arith) (arrive-ahead sp.list (suc sp.place + (t + f)) sp.jump h)))
+branch-ahead (Some false) t f sp v h = further _ _ _ _ (omega arith) (arrive-ahead sp.list (suc sp.place + t) sp.jump h)
+branch-ahead None t f sp v h = unfold AheadIf in (prim-ahead _ _ None (fails v.rest) _ v (further _ _ _ _ (omega arith) (arrive-ahead sp.list (suc sp.place + (t + f)) sp.jump h)))
 
 exec-ahead : (e : Env) (j : Job) (b : ℕ) (sp : Point) (x : Step) (v : Volatile) → Onward sp.jump → AheadIf sp.list (suc sp.place) (exec e j b sp x v).next
 unfolding exec AheadIf
@@ -96,14 +96,14 @@ exec-ahead e j b sp (Wait ms) v h = tt
 exec-ahead e j b sp (After ms) v h = further _ _ _ _ (omega arith) (arrive-ahead sp.list (suc sp.place + 0) sp.jump h)
 exec-ahead e j b sp (Branch c t f) v h = branch-ahead (condition_at e v.rest c) t f sp v h
 exec-ahead e j b sp Fail v h =
-    unfold AheadIf in (prim-ahead _ _ none (fails v.rest) _ v (further _ _ _ _ (omega arith) (arrive-ahead sp.list (suc sp.place + 0) sp.jump h)))
+    unfold AheadIf in (prim-ahead _ _ None (fails v.rest) _ v (further _ _ _ _ (omega arith) (arrive-ahead sp.list (suc sp.place + 0) sp.jump h)))
 
 -- A RUN -----------------------------------------------------------------------------------------------------------------------------
 continue-few : (n p m : ℕ) (y : Step) (d : StepResult) (o : Option Point) (K : Point → Volatile → RunOutput) → AheadIf n p o
     → ((to : Point) (w : Volatile) → Ahead n p to → length (K to w).effects ≤ m) → length (continue_run y d o K).effects ≤ suc m
 unfolding continue_run AheadIf
-continue-few n p m y d none K h ih = let a = effect-one d.effect in omega arith
-continue-few n p m y d (some to) K h ih =
+continue-few n p m y d None K h ih = let a = effect-one d.effect in omega arith
+continue-few n p m y d (Some to) K h ih =
     let a = effect-one d.effect in
     let b = ih to d.vol h in
     let c = length-append (to_list d.effect) (K to d.vol).effects in
@@ -114,8 +114,8 @@ step-few : (b : ℕ) (e : Env) (j : Job) (sp : Point) (v : Volatile) → Onward 
     → (o : Option Step) → step_at e.set j.index sp ≡ o
     → length (with_step o v (λ x. let d = exec e j b sp x v in continue_run x d d.next (λ sp' v'. run_steps b e j sp' v'))).effects ≤ min (suc b) (left e.set j.index sp)
 unfolding with_step step_at
-step-few b e j sp v h ih none here = omega arith
-step-few b e j sp v h ih (some x) here =
+step-few b e j sp v h ih None here = omega arith
+step-few b e j sp v h ih (Some x) here =
     let lt = at-inside (list_of e.set j.index sp.list) sp.place x here in
     let m = min b (length (list_of e.set j.index sp.list) - suc sp.place) in
     let a = continue-few sp.list (suc sp.place) m x (exec e j b sp x v) (exec e j b sp x v).next (λ sp' v'. run_steps b e j sp' v') (exec-ahead e j b sp x v h)

@@ -5,7 +5,7 @@ use native.Mathlib.Omega.{arith}
 use native.Mathlib.Nat.{mul-le-mul_right}
 use mathlib.Core.Bool.{Bool, true, cond, not, false≢true}
 use mathlib.Core.List.{List, [], ◌∷◌, map}
-use mathlib.Core.Option.{some}
+use Rattle.std.specs.Prelude.{Some}
 use lib.Dec.{leb, eqb}
 use borrow.Author.Tests.{eqb-true}
 use Rattle.model.specs.Lists.{any, all, keep, to_list, sort, flatten}
@@ -116,11 +116,11 @@ module _ (g : ℕ → ℕ) where
 abbrev weight_of : (ℕ → ℕ) → List ℕ → ℕ → ℕ
 weight_of w img r = sum_of w (to_list (rule_named img r))
 
-weight-named : (w : ℕ → ℕ) (img : List ℕ) (i : ℕ) → rule_named img (name_of img i) ≡ some i → weight_of w img (name_of img i) ≡ w i
+weight-named : (w : ℕ → ℕ) (img : List ℕ) (i : ℕ) → rule_named img (name_of img i) ≡ Some i → weight_of w img (name_of img i) ≡ w i
 weight-named w img i h = rw h (omega arith)
 
 module _ (w : ℕ → ℕ) where
-  pub slot-sum : (e : Env) (s : Rest) → SlotsOk (rebuild_every e.set.image [] 0) s.every → Every (λ i. rule_named e.set.image (name_of e.set.image i) ≡ some i) (name_order e.set.image)
+  pub slot-sum : (e : Env) (s : Rest) → SlotsOk (rebuild_every e.set.image [] 0) s.every → Every (λ i. rule_named e.set.image (name_of e.set.image i) ≡ Some i) (name_order e.set.image)
       → sum_of w (every_due e s).rules ≤ sum_of (λ i. count is_every_trigger (triggers_of e.set.image i) * w i) (name_order e.set.image)
   unfolding every_due rebuild_every
   slot-sum e s h ours =

@@ -5,7 +5,7 @@ use native.Mathlib.Omega.{arith}
 use native.Mathlib.Nat.{mul-le-mul_right}
 use mathlib.Core.Bool.{Bool, true, false, ◌&&◌, ◌||◌}
 use mathlib.Core.List.{List, [], ◌∷◌}
-use mathlib.Core.Option.{Option, none, some}
+use Rattle.std.specs.Prelude.{Option, None, Some}
 use lib.Dec.{leb}
 use lib.ListN.{length}
 use Rattle.model.specs.Lists.{all, keep, sort, total}
@@ -41,7 +41,7 @@ length-sort q xs = sym (length-sum (sort q xs)) ∙ sum-sort (λ x. 1) q xs ∙ 
 
 -- WALL TRIGGERS -------------------------------------------------------------------------------------------------------------------
 -- without one nothing is due
-no-wall : (e : Env) (base window : ℕ) (ts : List Trigger) → count is_wall_trigger ts ≡ 0 → (due_wall_kind e base window ts).kind ≡ none
+no-wall : (e : Env) (base window : ℕ) (ts : List Trigger) → count is_wall_trigger ts ≡ 0 → (due_wall_kind e base window ts).kind ≡ None
 unfolding due_wall_kind
 no-wall e base window [] h = refl
 no-wall e base window (TimerFires t ∷ ts) h = no-wall e base window ts (omega arith)
@@ -112,8 +112,8 @@ module _ (e : Env) (ok : SetOk e.set) (world : WorldOk e.world) (μ : Outcome �
 
   -- WALL SCHEDULES ----------------------------------------------------------------------------------------------------------------
   start-sum : (kind : Option ℕ) (i : ℕ) (v : Volatile) → given (start_wall kind e i v) ≤ w i
-  start-sum none i v = omega arith
-  start-sum (some kind) i v = activates i kind v
+  start-sum None i v = omega arith
+  start-sum (Some kind) i v = activates i kind v
 
   wall-one : (base window i : ℕ) (v : Volatile) → given (start_wall (due_wall_kind e base window (triggers_of img i)).kind e i v) ≤ by_wall i
   wall-one base window i v = go (count is_wall_trigger (triggers_of img i)) refl
@@ -146,12 +146,12 @@ module _ (e : Env) (ok : SetOk e.set) (world : WorldOk e.world) (μ : Outcome �
       (λ f. rw f (omega arith))
 
   catch-sum : (now : ℕ) (prev : Option ℕ) (v : Volatile) → given (catch_up e now prev v) ≤ sum_of by_wall (name_order img)
-  catch-sum now none v = omega arith
-  catch-sum now (some prev) v = by (is_set_back prev now) (λ t. rw t (omega arith)) (λ f. rw f (unfold make_up in (window-sum now (window_of prev now) v)))
+  catch-sum now None v = omega arith
+  catch-sum now (Some prev) v = by (is_set_back prev now) (λ t. rw t (omega arith)) (λ f. rw f (unfold make_up in (window-sum now (window_of prev now) v)))
 
   wall-sum : (t : Option WallTime) (v : Volatile) → given (fire_wall_at t e v) ≤ sum_of by_wall (name_order img)
-  wall-sum none v = omega arith
-  wall-sum (some t) v = catch-sum (week_minute t) v.rest.prev_week_min _
+  wall-sum None v = omega arith
+  wall-sum (Some t) v = catch-sum (week_minute t) v.rest.prev_week_min _
 
   -- THE TICK ----------------------------------------------------------------------------------------------------------------------
   three : (is : List ℕ) → sum_of by_timers is + sum_of by_everys is + sum_of by_wall is ≡ sum_of (λ i. starts_of img i * w i) is

@@ -1,7 +1,7 @@
 -- The claim: what a tick or a run gives is within these numbers, and so no tick or run is refused for lack of room by a caller that lends it. How
 -- many records lent words hold is said by the calls themselves (`outcome_room`, `effect_room`).
 use Rattle.std.specs.Prelude.{◌≡◌, ℕ, ◌≤◌, List, length}
-use Rattle.std.proofs.Math.Option.{Option, none, some}
+use Rattle.std.specs.Prelude.{Option, None, Some}
 use Rattle.model.specs.Load.{image_refusal}
 use Rattle.model.specs.State.{RuleSet, Store}
 use Rattle.model.specs.Activate.{Handled}
@@ -20,20 +20,20 @@ pub record Lent (o f os es : ℕ) : Type 0 where
 
 -- enough for the loaded set
 abbrev pub EnoughFor : Option RuleSet → Call → Type 0
-EnoughFor none c = Unit {0}
-EnoughFor (some set) (new t) = Unit {0}
-EnoughFor (some set) (load t img) = Unit {0}
-EnoughFor (some set) (unload t) = Unit {0}
-EnoughFor (some set) (enable rule on) = Unit {0}
-EnoughFor (some set) (tick snap os es) = Lent (outcomes_needed set.image) (effects_needed set.image) os es
-EnoughFor (some set) (run rule dry snap os es) = Lent (outcomes_needed set.image) (effects_needed set.image) os es
-EnoughFor (some set) deadline = Unit {0}
-EnoughFor (some set) counters = Unit {0}
+EnoughFor None c = Unit {0}
+EnoughFor (Some set) (new t) = Unit {0}
+EnoughFor (Some set) (load t img) = Unit {0}
+EnoughFor (Some set) (unload t) = Unit {0}
+EnoughFor (Some set) (enable rule on) = Unit {0}
+EnoughFor (Some set) (tick snap os es) = Lent (outcomes_needed set.image) (effects_needed set.image) os es
+EnoughFor (Some set) (run rule dry snap os es) = Lent (outcomes_needed set.image) (effects_needed set.image) os es
+EnoughFor (Some set) deadline = Unit {0}
+EnoughFor (Some set) counters = Unit {0}
 
 -- of the set that a store's words hold
 abbrev pub EnoughIn : Option Store → Call → Type 0
-EnoughIn none c = Unit {0}
-EnoughIn (some s) c = EnoughFor s.loaded c
+EnoughIn None c = Unit {0}
+EnoughIn (Some s) c = EnoughFor s.loaded c
 
 -- A HISTORY: a caller keeps room for o outcomes and f effects, asks of each image that it loads whether that is enough, and lends it all ------------
 pub record Room (o f : ℕ) (img : List ℕ) : Type 0 where
@@ -52,8 +52,8 @@ Careful o f counters = Unit {0}
 
 -- the loaded set needs no more
 abbrev pub LoadedWithin : ℕ → ℕ → Option RuleSet → Type 0
-LoadedWithin o f none = Unit {0}
-LoadedWithin o f (some set) = Room o f set.image
+LoadedWithin o f None = Unit {0}
+LoadedWithin o f (Some set) = Room o f set.image
 
 -- no answer is refusal 30
 abbrev pub Not30 : Answer → Type 0

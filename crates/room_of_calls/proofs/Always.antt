@@ -1,7 +1,7 @@
 -- Room of the eight functions, from their contracts and the theorem about the specification's calls. Assumes nothing.
 use mathlib.Core.Path.{◌≡◌, refl, sym, subst}
 use mathlib.Core.List.{List, [], ◌∷◌, map}
-use mathlib.Core.Option.{some}
+use Rattle.std.specs.Prelude.{Some}
 use Prim.Native.Nat.{ℕ}
 use native.Mathlib.Omega.{arith}
 use Rattle.model.specs.State.{Store}
@@ -41,7 +41,7 @@ calls-careful : (o f : ℕ) (xs : List AnyRun) → AllCareful o f xs → Every (
 calls-careful o f [] h = tt
 calls-careful o f (x ∷ xs) h = (h.0, calls-careful o f xs h.1)
 
-pub always-of-calls : (o f : ℕ) (w : List ℕ) (s : Store) → read w ≡ some s → LoadedWithin o f s.loaded → (xs : List AnyRun) → From w xs → AllCareful o f xs → Never30 xs
+pub always-of-calls : (o f : ℕ) (w : List ℕ) (s : Store) → read w ≡ Some s → LoadedWithin o f s.loaded → (xs : List AnyRun) → From w xs → AllCareful o f xs → Never30 xs
 always-of-calls o f w s e l xs h careful =
     let cs = map call_of xs in
     let d = demand3-of-calls w s e xs h in

@@ -2,7 +2,7 @@
 use mathlib.Core.Path.{◌≡◌, refl, sym, ap, ◌∙◌}
 use mathlib.Core.Bool.{Bool, true, false, ◌||◌, not}
 use mathlib.Core.List.{List, [], ◌∷◌, ◌++◌}
-use mathlib.Core.Option.{none, some}
+use Rattle.std.specs.Prelude.{None, Some}
 use Prim.Native.Nat.{ℕ, zero, suc, ◌+◌, ◌*◌, ◌^◌, ◌≤◌, ◌<◌}
 use native.Mathlib.Nat.{add-zero, zero-mul, suc-mul, mod-eq_of_lt, le_antisymm, le_of_suc-le-suc, not-suc-le-zero}
 use native.Mathlib.Numerals.{add-one}
@@ -51,10 +51,10 @@ module _ (w : List ℕ) where
       λ i. marked (p i) (g i)
 
 -- a mark, and what it leads to
-absent : {A : Type 0} (m : ℕ) (x : A) → m ≡ 0 → none ≡ marked m x
+absent : {A : Type 0} (m : ℕ) (x : A) → m ≡ 0 → None ≡ marked m x
 absent m x z = rw z
 
-given : {A : Type 0} (m : ℕ) (x : A) → (m ≡ 0 → ⊥) → some x ≡ marked m x
+given : {A : Type 0} (m : ℕ) (x : A) → (m ≡ 0 → ⊥) → Some x ≡ marked m x
 given zero x z = absurd (z refl)
 given (suc m) x z = refl
 

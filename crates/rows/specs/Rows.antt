@@ -1,6 +1,6 @@
 -- Rows of the layout by the types that the code has for them.
 use Rattle.std.specs.Prelude.{Bool, true, false, [], ◌∷◌, ℕ, get_or, replicate}
-use Rattle.std.proofs.Math.Option.{Option, none, some}
+use Rattle.std.specs.Prelude.{Option, None, Some}
 use Rattle.model.specs.Layout.{free}
 use Rattle.model.specs.Codec.{Row, word, wide, ◌⊗◌, maybe}
 use Rattle.model.specs.Parts.{any, bit, variable_row, jump_row}
@@ -28,12 +28,12 @@ abbrev pub point_row : Row Point
 point_row = through (λ x. record { list = x.0; place = x.1.0; jump = x.1.1 }) (λ p. (p.list, (p.place, p.jump))) (any ⊗ (any ⊗ jump_row))
 
 abbrev pub of_option64 : Option ℕ → OptionU64
-of_option64 none = record { present = false; value = 0 }
-of_option64 (some n) = record { present = true; value = n }
+of_option64 None = record { present = false; value = 0 }
+of_option64 (Some n) = record { present = true; value = n }
 
 abbrev pub of_option32 : Option ℕ → OptionU32
-of_option32 none = record { present = false; value = 0 }
-of_option32 (some n) = record { present = true; value = n }
+of_option32 None = record { present = false; value = 0 }
+of_option32 (Some n) = record { present = true; value = n }
 
 abbrev pub option64_row : Row OptionU64
 option64_row = through of_option64 option64 (maybe wide)

@@ -1,7 +1,7 @@
 -- Worked examples of the language, computed. Assumes nothing.
 use mathlib.Core.Path.{◌≡◌, refl}
 use mathlib.Core.List.{List, [], ◌∷◌, ◌++◌, map}
-use mathlib.Core.Option.{none, some}
+use Rattle.std.specs.Prelude.{None, Some}
 use mathlib.Core.Bool.{true}
 use Prim.Native.Nat.{ℕ}
 use Prim.Native.String.{String}
@@ -77,8 +77,8 @@ unfolding says_of later
 four-numbers = refl
 
 others :
-    handled_line 5 0 1 ++ enabled_line 5 true ++ deadline_line none ++ deadline_line (some 18446744073709551615) ++ peek_line 13691 2 ++ refused_line 1 10
-    ≡ bytes_of "run 0 1\nenable 5 yes\ndeadline none\ndeadline 18446744073709551615\npeek 13691 2\nload refused 10\n"
+    handled_line 5 0 1 ++ enabled_line 5 true ++ deadline_line None ++ deadline_line (Some 18446744073709551615) ++ peek_line 13691 2 ++ refused_line 1 10
+    ≡ bytes_of "run 0 1\nenable 5 yes\ndeadline None\ndeadline 18446744073709551615\npeek 13691 2\nload refused 10\n"
 unfolding handled_line enabled_line deadline_line peek_line refused_line call_name rows line numbers decimal digits digit_count
 others = refl
 

@@ -1,7 +1,7 @@
 -- A call read from the words of a line. Assumes nothing.
 use mathlib.Core.Path.{◌≡◌, refl, sym, ap, ◌∙◌}
 use mathlib.Core.List.{List, [], ◌∷◌, ◌++◌, append-nil, append_assoc}
-use mathlib.Core.Option.{Option, none, some}
+use Rattle.std.specs.Prelude.{Option, None, Some}
 use Prim.Native.Nat.{ℕ, zero, suc, ◌+◌, ◌-◌, ◌≤◌, ◌<◌, zero-le}
 use native.Mathlib.Numerals.{add-one}
 use native.Mathlib.Omega.{arith}
@@ -147,10 +147,10 @@ module _ (whole rest : Listed) (before after : List ℕ) (n : ℕ) (f : Filled w
 
 -- what a step says where it is known
 module _ (s : List ℕ) (at call n room : ℕ) {r : Step} (t : ListStep s at call n room r) where
-  pub at-list-end : r ≡ End → list_from call room n (words_of (drop at s)) ≡ stopped none
+  pub at-list-end : r ≡ End → list_from call room n (words_of (drop at s)) ≡ stopped None
   at-list-end e = rw e at t
 
-  pub at-list-stop : (w : Wrong) → r ≡ Stop w → list_from call room n (words_of (drop at s)) ≡ stopped (some w)
+  pub at-list-stop : (w : Wrong) → r ≡ Stop w → list_from call room n (words_of (drop at s)) ≡ stopped (Some w)
   at-list-stop w e = rw e at t
 
   pub at-list-item : (v next : ℕ) → r ≡ Item v next → ListStep s at call n room (Item v next)
@@ -203,15 +203,15 @@ module _ (call : ℕ) (ns : List ℕ) (l : Listed) (xs ys : List ℕ) where
   list-stopped w e = record { line = go l.wrong (length l.words) e.ends; list = e.list }
     where
       go : (o : Option Wrong) (n : ℕ) → Stopped w ≡ end_with o n → Bad w ≡ line_with o (command call ns n 0)
-      go none n h = let z : ◌≡◌ {A = ℕ} 0 1 = cc in absurd (omega arith)
-      go (some v) n h = cc
+      go None n h = let z : ◌≡◌ {A = ℕ} 0 1 = cc in absurd (omega arith)
+      go (Some v) n h = cc
 
   pub list_counted : (n : ℕ) (r : Line) → ListEnds l xs ys (Count n) → r ≡ command call ns n 0 → Parses (with_list call ns l) xs ys r
   list_counted n r e f = record { line = go l.wrong (length l.words) e.ends; list = e.list }
     where
       go : (o : Option Wrong) (m : ℕ) → Count n ≡ end_with o m → r ≡ line_with o (command call ns m 0)
-      go none m h = let z : n ≡ m = cc in f ∙ ap (λ (k : ℕ). command call ns k 0) z
-      go (some v) m h = let z : ◌≡◌ {A = ℕ} 0 1 = cc in absurd (omega arith)
+      go None m h = let z : n ≡ m = cc in f ∙ ap (λ (k : ℕ). command call ns k 0) z
+      go (Some v) m h = let z : ◌≡◌ {A = ℕ} 0 1 = cc in absurd (omega arith)
 
 pub ended_by : (l : Listed) (xs ys : List ℕ) {r t : Ended} → ListEnds l xs ys r → r ≡ t → ListEnds l xs ys t
 ended_by l xs ys e h = rw h at e
@@ -257,8 +257,8 @@ module _ (room : ℕ) (line u : List ℕ) (e : u ≡ uncommented line) where
     unknown-call {r} f g = rw (← e, h) (go (call_named rows v) (sym g ∙ f))
       where
         go : (o : Option ℕ) → Unknown ≡ named_by o → called_by rows room line o ≡ plain (Bad NoSuchCall)
-        go none q = refl
-        go (some k) q = let z : ◌≡◌ {A = ℕ} 0 1 = cc in absurd (omega arith)
+        go None q = refl
+        go (Some k) q = let z : ◌≡◌ {A = ℕ} 0 1 = cc in absurd (omega arith)
 
     pub known-call : {r : Named} (call : ℕ) → r ≡ named_by (call_named rows v) → r ≡ Call call
         → parse rows room line ≡ parse_call (row_of rows call) room call (behind_name (row_of rows call) line)
@@ -266,8 +266,8 @@ module _ (room : ℕ) (line u : List ℕ) (e : u ≡ uncommented line) where
     known-call {r} call f g = rw (← e, h) (go (call_named rows v) (sym g ∙ f))
       where
         go : (o : Option ℕ) → Call call ≡ named_by o → called_by rows room line o ≡ parse_call (row_of rows call) room call (behind_name (row_of rows call) line)
-        go none q = let z : ◌≡◌ {A = ℕ} 0 1 = cc in absurd (omega arith)
-        go (some k) q = let z : k ≡ call = cc in ap (λ (n : ℕ). parse_call (row_of rows n) room n (behind_name (row_of rows n) line)) z
+        go None q = let z : ◌≡◌ {A = ℕ} 0 1 = cc in absurd (omega arith)
+        go (Some k) q = let z : k ≡ call = cc in ap (λ (n : ℕ). parse_call (row_of rows n) room n (behind_name (row_of rows n) line)) z
 
 -- the bytes behind the name, which ends at `to`
 module _ (row : Row) (line : List ℕ) (end to stop : ℕ) (l : end ≤ length line) (e : take end line ≡ uncommented line) where

@@ -2,7 +2,7 @@
 use mathlib.Core.Path.{◌≡◌, refl, sym, ap, ◌∙◌}
 use mathlib.Core.Bool.{Bool, true, false, cond, not, ◌&&◌}
 use mathlib.Core.List.{List, [], ◌∷◌, map}
-use mathlib.Core.Option.{none, some}
+use Rattle.std.specs.Prelude.{None, Some}
 use Prim.Native.Nat.{ℕ, zero, suc, ◌+◌, ◌-◌, ◌≤◌, ◌<◌}
 use native.Mathlib.Nat.{le_of_suc-le-suc, not-suc-le-zero}
 use native.Mathlib.Numerals.{add-one}
@@ -152,10 +152,10 @@ module _ (p : List ℕ → Bool) (s : List ℕ) (k at : ℕ) (e : position_from 
   pub other_name : (to : ℕ) → NameEnd s at to → p (part s at to) ≡ false → position_from p (k + 1) (split (drop (to + 1) s)) ≡ position p (split s)
   other_name to n t = rw add-one (rw (n.name, t) at e)
 
-  pub this-name : (to : ℕ) → NameEnd s at to → p (part s at to) ≡ true → position p (split s) ≡ some k
+  pub this-name : (to : ℕ) → NameEnd s at to → p (part s at to) ≡ true → position p (split s) ≡ Some k
   this-name to n t = sym (rw (n.name, t) at e)
 
-  pub not_named : length s ≤ at → position p (split s) ≡ none
+  pub not_named : length s ≤ at → position p (split s) ≡ None
   unfolding split
   not_named h = sym (rw (drop_of_length-le s h) at e)
 

@@ -2,7 +2,7 @@
 use mathlib.Core.Path.{◌≡◌, refl, sym, ap, ◌∙◌, subst}
 use mathlib.Core.Bool.{Bool, true, false, cond}
 use mathlib.Core.List.{List, [], ◌∷◌, ◌++◌, append-nil, append_assoc}
-use mathlib.Core.Option.{Option, none, some}
+use Rattle.std.specs.Prelude.{Option, None, Some}
 use Prim.Native.Nat.{ℕ, zero, suc, ◌≤◌, zero-le}
 use lib.Dec.{eqb}
 use lib.ListN.{length, get_or, take, drop, take-append-drop}
@@ -126,8 +126,8 @@ module _ (t : List Row) (line : List ℕ) (room call : ℕ) where
   way-list ns r l = go l.wrong
     where
       go : (o : Option Wrong) → Way t line (record { line = line_with o (command call ns (length l.words) 0); list = l.words; text = [] })
-      go none = call-way call ns l.words [] line r (sym (append-nil line))
-      go (some w) = bad-way w l.words
+      go None = call-way call ns l.words [] line r (sym (append-nil line))
+      go (Some w) = bad-way w l.words
 
   way_end : (ns : List ℕ) → InRange (row_of t call).params ns → (ws : List (List ℕ)) → Way t line (plain (at_end call ws (command call ns 0 0)))
   way_end ns r [] = call-way call ns [] [] line r (sym (append-nil line))
@@ -153,8 +153,8 @@ unfolding parse
 way t room line = words (words_of (uncommented line))
   where
     called : (o : Option ℕ) → Way t line (called_by t room line o)
-    called none = bad-way NoSuchCall []
-    called (some call) = way-call t line room call (behind_name (row_of t call) line) (name-end (row_of t call) line)
+    called None = bad-way NoSuchCall []
+    called (Some call) = way-call t line room call (behind_name (row_of t call) line) (name-end (row_of t call) line)
 
     words : (ws : List (List ℕ)) → Way t line (parse_words t room line ws)
     words [] = blank-way

@@ -1,6 +1,6 @@
 -- What the player prints: document 01, "Outcomes and effects", and the answers of the other calls. Each line ends.
 use Rattle.std.specs.Prelude.{ℕ, zero, suc, ◌+◌, ◌/◌, ◌%◌, Bool, List, [], ◌∷◌, ◌++◌, ltb, eqb, ℤ, pos, negsuc, get_or}
-use Rattle.std.proofs.Math.Option.{Option, none, some}
+use Rattle.std.specs.Prelude.{Option, None, Some}
 use Rattle.words.specs.Saturating.{max32, max64}
 use Rattle.words.specs.Signed.{signed32}
 use Rattle.model.specs.Text.{bytes_of}
@@ -55,8 +55,8 @@ unfoldable pub enabled_line : ℕ → Bool → List ℕ
 enabled_line rule found = line (bytes_of "enable") (numbers (rule ∷ []) ++ pick found (bytes_of " yes") (bytes_of " no"))
 
 unfoldable pub deadline_line : Option ℕ → List ℕ
-deadline_line none = line (bytes_of "deadline") (bytes_of " none")
-deadline_line (some time) = line (bytes_of "deadline") (numbers (time ∷ []))
+deadline_line None = line (bytes_of "deadline") (bytes_of " None")
+deadline_line (Some time) = line (bytes_of "deadline") (numbers (time ∷ []))
 
 unfoldable pub peek_line : ℕ → ℕ → List ℕ
 peek_line place word = line (bytes_of "peek") (numbers (place ∷ word ∷ []))

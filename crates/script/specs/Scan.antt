@@ -1,6 +1,6 @@
 -- What the parts of the parser find in a line.
 use Rattle.std.specs.Prelude.{ℕ, ◌+◌, ◌-◌, ◌≤◌, ◌<◌, ◌≡◌, false, List, [], ◌∷◌, ◌++◌, length, get_or, take, drop}
-use Rattle.std.proofs.Math.Option.{Option, none, some}
+use Rattle.std.specs.Prelude.{Option, None, Some}
 use Rattle.decimal.specs.declared.Argument.{Argument}
 use Rattle.decimal.specs.declared.Argument.TheVariants.{NoNumber, TooLarge, Number}
 use Rattle.script.specs.Words.{words_of, is_space, past_space, past_word, past_words}
@@ -53,8 +53,8 @@ NextWord s at (At from to) = WordAt s at from to
 
 -- the call of a name
 abbrev pub named_by : Option ℕ → Named
-named_by none = Unknown
-named_by (some call) = Call call
+named_by None = Unknown
+named_by (Some call) = Call call
 
 -- the list xs written over the start of ys
 abbrev pub over : List ℕ → List ℕ → List ℕ
@@ -109,8 +109,8 @@ pub record TakesItem (s : List ℕ) (at call n room v next : ℕ) : Type 0 where
   pub within : next ≤ length s
 
 abbrev pub ListStep : List ℕ → ℕ → ℕ → ℕ → ℕ → Step → Type 0
-ListStep s at call n room End = list_from call room n (words_of (drop at s)) ≡ stopped none
-ListStep s at call n room (Stop w) = list_from call room n (words_of (drop at s)) ≡ stopped (some w)
+ListStep s at call n room End = list_from call room n (words_of (drop at s)) ≡ stopped None
+ListStep s at call n room (Stop w) = list_from call room n (words_of (drop at s)) ≡ stopped (Some w)
 ListStep s at call n room (Item v next) = TakesItem s at call n room v next
 
 abbrev pub step_of : ℕ → ℕ → ℕ → Argument → Step
@@ -119,8 +119,8 @@ step_of call n next TooLarge = Stop (WordOutOfRange call n)
 step_of call n next (Number v) = Item v next
 
 abbrev pub end_with : Option Wrong → ℕ → Ended
-end_with none n = Count n
-end_with (some w) n = Stopped w
+end_with None n = Count n
+end_with (Some w) n = Stopped w
 
 -- a list at its end: how many words were read, or what is wrong; and the lent list before and after
 pub record ListEnds (l : Listed) (before after : List ℕ) (r : Ended) : Type 0 where

@@ -1,6 +1,6 @@
 -- The script language: one line is one call of a table. What a line says, or what is wrong with it.
 use Rattle.std.specs.Prelude.{ℕ, suc, Bool, true, false, ◌&&◌, List, [], ◌∷◌, ◌++◌, ltb, eqb, length, get_or, drop}
-use Rattle.std.proofs.Math.Option.{Option, none, some}
+use Rattle.std.specs.Prelude.{Option, None, Some}
 use Rattle.words.specs.Saturating.{max32}
 use Rattle.model.specs.Lists.{position}
 use Rattle.decimal.specs.declared.Argument.{Argument}
@@ -59,20 +59,20 @@ abbrev pub stopped : Option Wrong → Listed
 stopped w = record { words = []; wrong = w }
 
 abbrev pub listed : ℕ → ℕ → Argument → Listed → Listed
-listed call i NoNumber rest = stopped (some (WordNotDecimal call i))
-listed call i TooLarge rest = stopped (some (WordOutOfRange call i))
+listed call i NoNumber rest = stopped (Some (WordNotDecimal call i))
+listed call i TooLarge rest = stopped (Some (WordOutOfRange call i))
 listed call i (Number n) rest = record { words = n ∷ rest.words; wrong = rest.wrong }
 
 -- the words of a list from number i on, where there is room for `room` in all; they are numbered as in document 01, from 0
 unfoldable pub list_from : ℕ → ℕ → ℕ → List (List ℕ) → Listed
-list_from call room i [] = stopped none
+list_from call room i [] = stopped None
 list_from call room i (w ∷ ws) =
-    pick (ltb i room) (listed call i (argument_of max32 w) (list_from call room (suc i) ws)) (stopped (some (ListTooLong call room)))
+    pick (ltb i room) (listed call i (argument_of max32 w) (list_from call room (suc i) ws)) (stopped (Some (ListTooLong call room)))
 
 -- CALLS ----------------------------------------------------------------------------------------------------------------------------
 abbrev pub line_with : Option Wrong → Line → Line
-line_with none x = x
-line_with (some w) x = Bad w
+line_with None x = x
+line_with (Some w) x = Bad w
 
 abbrev pub at_end : ℕ → List (List ℕ) → Line → Line
 at_end call [] x = x
@@ -120,8 +120,8 @@ unfoldable pub behind_name : Row → List ℕ → List ℕ
 behind_name row line = past_words 1 (uncommented line) ++ comment_of row.tail line
 
 abbrev pub called_by : List Row → ℕ → List ℕ → Option ℕ → Parsed
-called_by t room line none = plain (Bad NoSuchCall)
-called_by t room line (some call) = parse_call (row_of t call) room call (behind_name (row_of t call) line)
+called_by t room line None = plain (Bad NoSuchCall)
+called_by t room line (Some call) = parse_call (row_of t call) room call (behind_name (row_of t call) line)
 
 abbrev pub parse_words : List Row → ℕ → List ℕ → List (List ℕ) → Parsed
 parse_words t room line [] = plain Blank

@@ -4,7 +4,7 @@ use mathlib.Core.Path.{◌≡◌, refl, ap, ◌∙◌}
 use Prim.Native.Nat.{ℕ, ◌<◌}
 use native.Mathlib.Omega.{arith}
 use mathlib.Core.Bool.{true, false, ◌&&◌, false≢true}
-use mathlib.Core.Option.{Option, none, some}
+use Rattle.std.specs.Prelude.{Option, None, Some}
 use mathlib.Core.List.{List, [], append-nil}
 use lib.Dec.{leb}
 use Rattle.model.specs.Snapshot.{snapshot_refusal}
@@ -20,15 +20,15 @@ module _ (e : Env) where
   -- the wall part, of each clock and each remembered minute
   at-set-back : (t : Option WallTime) (prev : Option ℕ) (v : Volatile) → v.rest.prev_week_min ≡ prev → set_back_at t prev ≡ true
       → fire_wall_at t e v ≡ record { vol = remembering t v; outcomes = []; trace = [] }
-  at-set-back none prev v p h = absurd (false≢true h)
-  at-set-back (some w) none v p h = absurd (false≢true h)
-  at-set-back (some w) (some prev) v p h = rw (p, h)
+  at-set-back None prev v p h = absurd (false≢true h)
+  at-set-back (Some w) None v p h = absurd (false≢true h)
+  at-set-back (Some w) (Some prev) v p h = rw (p, h)
 
   at_others : (t : Option WallTime) (prev : Option ℕ) (v : Volatile) → v.rest.prev_week_min ≡ prev → set_back_at t prev ≡ false
       → fire_wall_at t e v ≡ former_wall_at t prev e v
-  at_others none prev v p h = refl
-  at_others (some w) none v p h = rw p
-  at_others (some w) (some prev) v p h = rw (p, h)
+  at_others None prev v p h = refl
+  at_others (Some w) None v p h = rw p
+  at_others (Some w) (Some prev) v p h = rw (p, h)
 
   -- THE TICK ---------------------------------------------------------------------------------------------------------------------
   pub set_back_lem : (v : Volatile) → set_back e v ≡ true → let x = before_wall e v in
@@ -50,7 +50,7 @@ module _ (e : Env) where
       ap (λ y. and_then x (λ v'. y)) (rw k (at_others e.world.wall v.rest.prev_week_min x.vol k h))
 
 -- THE CALL: a tick with a set and an accepted snapshot ----------------------------------------------------------------------------------
-module _ (snap : List ℕ) (os es : ℕ) (s : Store) (set : RuleSet) (accepted : snapshot_refusal snap ≡ 0) (loaded : s.loaded ≡ some set) where
+module _ (snap : List ℕ) (os es : ℕ) (s : Store) (set : RuleSet) (accepted : snapshot_refusal snap ≡ 0) (loaded : s.loaded ≡ Some set) where
   abbrev env : Env
   env = record { world = world_of snap; set = set }
 

@@ -3,7 +3,7 @@ use mathlib.Core.Path.{◌≡◌, refl, sym, ◌∙◌}
 use Prim.Native.Nat.{ℕ, zero, suc}
 use mathlib.Core.Bool.{Bool, true, false, cond, not, ◌&&◌, false≢true}
 use mathlib.Core.List.{List, [], ◌∷◌}
-use mathlib.Core.Option.{Option, none, some}
+use Rattle.std.specs.Prelude.{Option, None, Some}
 use lib.Dec.{leb, ltb, eqb}
 use lib.ListN.{length}
 use lib.IntN.{ℤ, pos, negsuc}
@@ -70,10 +70,10 @@ module _ (e : Env) (j : Job) (s : Rest) where
   assigned name x = either s j.dry _ _ refl (either s (not (present (var_named s name)) && leb 16 (length s.vars)) _ _ (failed s refl) refl)
 
   added : (name : ℕ) (o : Option ℤ) (h : Option VarValue) → Kept s (var_add e j s name o h)
-  added name none h = failed s refl
-  added name (some x) none = assigned name _
-  added name (some x) (some (Int n)) = assigned name _
-  added name (some x) (some (Text t)) = failed s refl
+  added name None h = failed s refl
+  added name (Some x) None = assigned name _
+  added name (Some x) (Some (Int n)) = assigned name _
+  added name (Some x) (Some (Text t)) = failed s refl
 
   lit : (t h a v : ℕ) → Kept s (prim_light e j s t h a v)
   unfolding Kept prim_light
@@ -93,14 +93,14 @@ module _ (e : Env) (j : Job) (s : Rest) where
 
   selected : (a g : ℕ) (o : Option ℤ) → Kept s (selects e j s a g o)
   unfolding Kept
-  selected a g none = failed s refl
-  selected a g (some (pos n)) = either s (leb n (group_limit e.set.image)) _ _ refl (failed s refl)
-  selected a g (some (negsuc n)) = failed s refl
+  selected a g None = failed s refl
+  selected a g (Some (pos n)) = either s (leb n (group_limit e.set.image)) _ _ refl (failed s refl)
+  selected a g (Some (negsuc n)) = failed s refl
 
   dimmed : (t h : ℕ) (o : Option ℕ) → Kept s (dims e j s t h o)
   unfolding Kept
-  dimmed t h none = failed s refl
-  dimmed t h (some level) = refl
+  dimmed t h None = failed s refl
+  dimmed t h (Some level) = refl
 
   text-or-number : (n t l h : ℕ) → Kept s (prim_var_set e j s n t l h)
   unfolding prim_var_set
@@ -108,8 +108,8 @@ module _ (e : Env) (j : Job) (s : Rest) where
 
   bit-set : (r : ℕ) (on : Bool) (o : Option ℕ) → Kept s (set_rule_bit e j s r on o)
   unfolding Kept
-  bit-set r on none = failed s refl
-  bit-set r on (some i) = either s j.dry _ _ refl refl
+  bit-set r on None = failed s refl
+  bit-set r on (Some i) = either s j.dry _ _ refl refl
 
   action : (a : Action) → Kept s (run_prim e j s a)
   unfolding Kept run_prim
@@ -155,14 +155,14 @@ module _ (e : Env) (j : Job) where
 
   after-action : (o : Option ℕ) (a : PrimResult) (to : Point) (v : Volatile) → Kept v.rest a → SameIn v (after_prim o a to v).vol
   unfolding Kept after_prim
-  after-action none a to v p = p
-  after-action (some r) a to v p = struck r (with_rest a.rest v) ∙ p
+  after-action None a to v p = p
+  after-action (Some r) a to v p = struck r (with_rest a.rest v) ∙ p
 
   branched : (o : Option Bool) (t n : ℕ) (sp : Point) (v : Volatile) → SameIn v (run_branch o t n sp v).vol
   unfolding run_branch
-  branched (some true) t n sp v = refl
-  branched (some false) t n sp v = refl
-  branched none t n sp v = after-action none (fails v.rest) _ v (failed e j v.rest v.rest refl)
+  branched (Some true) t n sp v = refl
+  branched (Some false) t n sp v = refl
+  branched None t n sp v = after-action None (fails v.rest) _ v (failed e j v.rest v.rest refl)
 
   step : (b : ℕ) (sp : Point) (x : Step) (v : Volatile) → SameIn v (exec e j b sp x v).vol
   unfolding exec
@@ -170,13 +170,13 @@ module _ (e : Env) (j : Job) where
   step b sp (Wait ms) v = scheduled b ms _ v
   step b sp (After ms) v = scheduled b ms _ v
   step b sp (Branch c t n) v = branched (condition_at e v.rest c) t n sp v
-  step b sp Fail v = after-action none (fails v.rest) _ v (failed e j v.rest v.rest refl)
+  step b sp Fail v = after-action None (fails v.rest) _ v (failed e j v.rest v.rest refl)
 
   continued : (x : Step) (d : StepResult) (o : Option Point) (k : Point → Volatile → RunOutput) (v : Volatile) → SameIn v d.vol
       → ((sp : Point) (v' : Volatile) → SameIn v' (k sp v').vol) → SameIn v (continue_run x d o k).vol
   unfolding continue_run
-  continued x d none k v p h = p
-  continued x d (some sp) k v p h = h sp d.vol ∙ p
+  continued x d None k v p h = p
+  continued x d (Some sp) k v p h = h sp d.vol ∙ p
 
   runs : (b : ℕ) (sp : Point) (v : Volatile) → SameIn v (run_steps b e j sp v).vol
   unfolding run_steps with_step
@@ -185,8 +185,8 @@ module _ (e : Env) (j : Job) where
     where
       go : (o : Option Step) → ((sp' : Point) (v' : Volatile) → SameIn v' (run_steps b e j sp' v').vol)
           → SameIn v (with_step o v (λ x. let d = exec e j b sp x v in continue_run x d d.next (λ sp' v'. run_steps b e j sp' v'))).vol
-      go none h = refl
-      go (some x) h = continued x (exec e j b sp x v) (exec e j b sp x v).next (λ sp' v'. run_steps b e j sp' v') v (step b sp x v) h
+      go None h = refl
+      go (Some x) h = continued x (exec e j b sp x v) (exec e j b sp x v).next (λ sp' v'. run_steps b e j sp' v') v (step b sp x v) h
 
 finishes : (effects : List Effect) (reason : ℕ) (v : Volatile) → SameIn v (finish_wet effects reason v)
 unfolding finish_wet
@@ -214,9 +214,9 @@ module _ (e : Env) where
     where
       go : (b : Bool) (o : Option Bool) → Left s (cond b (suppressed (bump suppressed_cooldown s)) (verdict o false s))
       go true o = bumped suppressed_cooldown 1 s
-      go false (some true) = refl
-      go false (some false) = bumped conditions_rejected 1 s
-      go false none = bumped partial_outcomes 1 s
+      go false (Some true) = refl
+      go false (Some false) = bumped conditions_rejected 1 s
+      go false None = bumped partial_outcomes 1 s
 
   wet : (b : Bool) (j : Job) (v : Volatile) → b ≡ false → SameIn v (execute e j b v).vol
   wet true j v f = absurd (false≢true (sym f))

@@ -2,7 +2,7 @@
 -- are no more than the unshared; and the unshared form stores what document 01 counts.
 use mathlib.Core.Path.{◌≡◌, refl, sym, ap, ap₂}
 use mathlib.Core.List.{List, [], ◌∷◌, ◌++◌}
-use mathlib.Core.Option.{Option, none, some}
+use Rattle.std.specs.Prelude.{Option, None, Some}
 use Prim.Native.Nat.{ℕ, zero, suc, ◌+◌, ◌-◌, ◌/◌, ◌≤◌}
 use native.Mathlib.Omega.{arith}
 use lib.Dec.{leb}
@@ -200,8 +200,8 @@ module _ (acts blks : List ℕ) where
       (alike-action f g i (flattenings_from acts blks f k (suc i)) (unshared.flattenings_from acts blks g k (suc i)) behind s (flow_of (record_in acts i)), behind)
 
   alike-block : (b : Option Record) (fs gs : List Flattening) → AllAlike fs gs → Alike (flatten_block acts blks b fs) (flatten_block acts blks b gs)
-  alike-block none fs gs h c n m k = same-one step.Fail
-  alike-block (some r) fs gs h c n m k = alike-part r.b r.a fs gs h c n m k
+  alike-block None fs gs h c n m k = same-one step.Fail
+  alike-block (Some r) fs gs h c n m k = alike-part r.b r.a fs gs h c n m k
 
   alike-call : (d b : ℕ) → Alike (flatten_call acts blks d b) (unshared.flatten_call acts blks d b)
   unfolding flatten_call unshared.flatten_call

@@ -5,7 +5,7 @@ use mathlib.Core.Bool.{Bool, true, false, cond, not, ◌&&◌}
 use lib.ListN.{length}
 use Rattle.words.specs.Saturating.{saturating_add, max64}
 use mathlib.Core.List.{List, [], ◌∷◌}
-use mathlib.Core.Option.{Option, none, some}
+use Rattle.std.specs.Prelude.{Option, None, Some}
 use lib.Dec.{leb, ltb, eqb}
 use lib.IntN.{ℤ, pos, negsuc}
 use Rattle.model.specs.Lists.{◌>>=◌, present}
@@ -74,42 +74,42 @@ module _ (m : Option ℕ) (e : Env) (s : Rest) where
   bound-same NoBound = refl
 
   level-same : (cmp : ℕ) (o : Option ℕ) (v : ℕ) → level_is e (with_prev_week_min m s) cmp o v ≡ level_is e s cmp o v
-  level-same cmp none v = refl
-  level-same cmp (some level) v = rw (value_at-same v)
+  level-same cmp None v = refl
+  level-same cmp (Some level) v = rw (value_at-same v)
 
   lamp-level-same : (cmp v : ℕ) (o : Option LampState)
       → (o >>= (λ l. level_is e (with_prev_week_min m s) cmp l.level v)) ≡ (o >>= (λ l. level_is e s cmp l.level v))
-  lamp-level-same cmp v none = refl
-  lamp-level-same cmp v (some l) = level-same cmp l.level v
+  lamp-level-same cmp v None = refl
+  lamp-level-same cmp v (Some l) = level-same cmp l.level v
 
   compare_same : (o : Option VarValue) (cmp : ℕ) (isText : Bool) (x : ℕ) → compare_var e (with_prev_week_min m s) o cmp isText x ≡ compare_var e s o cmp isText x
-  compare_same none cmp isText x = refl
-  compare_same (some (Text t)) cmp true x = refl
-  compare_same (some (Text t)) cmp false x = refl
-  compare_same (some (Int n)) cmp true x = refl
-  compare_same (some (Int n)) cmp false x = rw (value_at-same x)
+  compare_same None cmp isText x = refl
+  compare_same (Some (Text t)) cmp true x = refl
+  compare_same (Some (Text t)) cmp false x = refl
+  compare_same (Some (Int n)) cmp true x = refl
+  compare_same (Some (Int n)) cmp false x = rw (value_at-same x)
 
   hcl-same : (o : Option HclTargetState) (state : ℕ) → hcl_is e (with_prev_week_min m s) o state ≡ hcl_is e s o state
-  hcl-same none state = refl
-  hcl-same (some h) state = refl
+  hcl-same None state = refl
+  hcl-same (Some h) state = refl
 
   online-same : (o : Option DeviceState) → device_online e (with_prev_week_min m s) o ≡ device_online e s o
-  online-same none = refl
-  online-same (some d) = refl
+  online-same None = refl
+  online-same (Some d) = refl
 
   enabled-same : (o : Option ℕ) → rule_enabled e (with_prev_week_min m s) o ≡ rule_enabled e s o
   unfolding is_enabled
-  enabled-same none = refl
-  enabled-same (some i) = refl
+  enabled-same None = refl
+  enabled-same (Some i) = refl
 
   older-same : (o : Option ℕ) (ms : ℕ) → last_fired_older e (with_prev_week_min m s) o ms ≡ last_fired_older e s o ms
   unfolding last_fired_older last_activation_at
-  older-same none ms = refl
-  older-same (some i) ms = at (last_activation_at s i)
+  older-same None ms = refl
+  older-same (Some i) ms = at (last_activation_at s i)
     where
       at : (o : Option ℕ) → older_than e (with_prev_week_min m s) ms o ≡ older_than e s ms o
-      at none = refl
-      at (some x) = refl
+      at None = refl
+      at (Some x) = refl
 
   pub condition-same : (c : Condition) → eval_condition e (with_prev_week_min m s) c ≡ eval_condition e s c
   unfolding eval_condition eval_reading sun_is_up timer_named var_named
@@ -123,10 +123,10 @@ module _ (m : Option ℕ) (e : Env) (s : Rest) where
   condition-same (GroupState a i state) = refl
   condition-same (InputOccupancy a i k occupied) = refl
   condition-same (InputLight a i k above v) = rw (value_at-same v)
-  condition-same (HclState target state) = ap some (hcl-same (hcl_target e.world target) state)
-  condition-same (DeviceOnline a i) = ap some (online-same (device e.world a i))
-  condition-same (RuleEnabled rule) = ap some (enabled-same (rule_named e.set.image rule))
-  condition-same (LastFiredOlderThan rule ms) = ap some (older-same (rule_named e.set.image rule) ms)
+  condition-same (HclState target state) = ap Some (hcl-same (hcl_target e.world target) state)
+  condition-same (DeviceOnline a i) = ap Some (online-same (device e.world a i))
+  condition-same (RuleEnabled rule) = ap Some (enabled-same (rule_named e.set.image rule))
+  condition-same (LastFiredOlderThan rule ms) = ap Some (older-same (rule_named e.set.image rule) ms)
   condition-same (TimerRunning timer) = refl
   condition-same ControllerActive = refl
   condition-same (VarCompare name cmp tag x) = compare_same (var_named s name) cmp (is_one tag) x
@@ -138,11 +138,11 @@ module _ (m : Option ℕ) (e : Env) (s : Rest) where
   conditions-same (c ∷ cs) = rw (condition-same c) (rest_of (eval_condition e s c) (conditions-same cs))
     where
       rest_of : (o : Option Bool) → conditions_hold e (with_prev_week_min m s) cs ≡ conditions_hold e s cs
-          → (◌>>=◌ {B = Bool} o (λ holds. elim holds [ true ↦ conditions_hold e (with_prev_week_min m s) cs | false ↦ some false ]))
-          ≡ (◌>>=◌ {B = Bool} o (λ holds. elim holds [ true ↦ conditions_hold e s cs | false ↦ some false ]))
-      rest_of none h = refl
-      rest_of (some true) h = h
-      rest_of (some false) h = refl
+          → (◌>>=◌ {B = Bool} o (λ holds. elim holds [ true ↦ conditions_hold e (with_prev_week_min m s) cs | false ↦ Some false ]))
+          ≡ (◌>>=◌ {B = Bool} o (λ holds. elim holds [ true ↦ conditions_hold e s cs | false ↦ Some false ]))
+      rest_of None h = refl
+      rest_of (Some true) h = h
+      rest_of (Some false) h = refl
 
 -- ACTIONS ---------------------------------------------------------------------------------------------------------------------
 module _ (m : Option ℕ) where
@@ -190,10 +190,10 @@ module _ (m : Option ℕ) where
       varset-same n t l h = either (is_one t) (either (ltb (text_limit e.set.image) h) (fails-same s) (set_same n _)) (set_same n _)
 
       add_same : (name : ℕ) (o : Option ℤ) (h : Option VarValue) → SamePrim (var_add e j s name o h) (var_add e j (with_prev_week_min m s) name o h)
-      add_same name none h = fails-same s
-      add_same name (some x) none = set_same name _
-      add_same name (some x) (some (Int n)) = set_same name _
-      add_same name (some x) (some (Text t)) = fails-same s
+      add_same name None h = fails-same s
+      add_same name (Some x) None = set_same name _
+      add_same name (Some x) (Some (Int n)) = set_same name _
+      add_same name (Some x) (Some (Text t)) = fails-same s
 
       light-same : (t h a v : ℕ) → SamePrim (prim_light e j s t h a v) (prim_light e j (with_prev_week_min m s) t h a v)
       unfolding prim_light
@@ -216,17 +216,17 @@ module _ (m : Option ℕ) where
       cycle-same f n = either (eqb n 0) (fails-same s) (effect-same f n)
 
       selects-same : (a g : ℕ) (o : Option ℤ) → SamePrim (selects e j s a g o) (selects e j (with_prev_week_min m s) a g o)
-      selects-same a g none = fails-same s
-      selects-same a g (some (pos n)) = either (leb n (group_limit e.set.image)) (record { rest = refl; effect = refl; disables = refl; reason = refl }) (fails-same s)
-      selects-same a g (some (negsuc n)) = fails-same s
+      selects-same a g None = fails-same s
+      selects-same a g (Some (pos n)) = either (leb n (group_limit e.set.image)) (record { rest = refl; effect = refl; disables = refl; reason = refl }) (fails-same s)
+      selects-same a g (Some (negsuc n)) = fails-same s
 
       dims-same : (t h : ℕ) (o : Option ℕ) → SamePrim (dims e j s t h o) (dims e j (with_prev_week_min m s) t h o)
-      dims-same t h none = fails-same s
-      dims-same t h (some level) = record { rest = refl; effect = refl; disables = refl; reason = refl }
+      dims-same t h None = fails-same s
+      dims-same t h (Some level) = record { rest = refl; effect = refl; disables = refl; reason = refl }
 
       bit-same : (r : ℕ) (on : Bool) (o : Option ℕ) → SamePrim (set_rule_bit e j s r on o) (set_rule_bit e j (with_prev_week_min m s) r on o)
-      bit-same r on none = fails-same s
-      bit-same r on (some i) = either j.dry (record { rest = refl; effect = refl; disables = refl; reason = refl }) (record { rest = refl; effect = refl; disables = refl; reason = refl })
+      bit-same r on None = fails-same s
+      bit-same r on (Some i) = either j.dry (record { rest = refl; effect = refl; disables = refl; reason = refl }) (record { rest = refl; effect = refl; disables = refl; reason = refl })
 
       pub prim-same : (a : Action) → SamePrim (run_prim e j s a) (run_prim e j (with_prev_week_min m s) a)
       unfolding run_prim timer_named var_named

@@ -3,7 +3,7 @@ use mathlib.Core.Path.{◌≡◌, refl, ap, ap₂, sym, subst, ◌∙◌}
 use Prim.Native.Nat.{ℕ, zero, suc, ◌+◌}
 use mathlib.Core.Bool.{Bool, true, false, cond, ◌&&◌}
 use mathlib.Core.List.{List, [], ◌∷◌, ◌++◌}
-use mathlib.Core.Option.{Option, none, some}
+use Rattle.std.specs.Prelude.{Option, None, Some}
 use lib.Dec.{leb, eqb}
 use lib.ListN.{length, set}
 use Rattle.model.specs.Lists.{to_list}
@@ -55,15 +55,15 @@ module _ (m : Option ℕ) where
 
   after_same : (o : Option ℕ) (a a' : PrimResult) (to : Point) (v : Volatile) → SamePrim m a a' → SameStep (after_prim o a to v) (after_prim o a' to (with_minute m v))
   unfolding after_prim
-  after_same none a a' to v h = record { vol = ap (λ r. with_rest r v) h.rest; report = refl; effect = h.effect; reason = h.reason; next = refl }
-  after_same (some q) a a' to v h =
+  after_same None a a' to v h = record { vol = ap (λ r. with_rest r v) h.rest; report = refl; effect = h.effect; reason = h.reason; next = refl }
+  after_same (Some q) a a' to v h =
       record { vol = ap (λ r. strike q (with_rest r v)) h.rest ∙ strike-same q (with_rest a.rest v); report = refl; effect = h.effect; reason = h.reason; next = refl }
 
   branch_same : (o : Option Bool) (t n : ℕ) (sp : Point) (v : Volatile) → SameStep (run_branch o t n sp v) (run_branch o t n sp (with_minute m v))
   unfolding run_branch
-  branch_same (some true) t n sp v = record { vol = refl; report = refl; effect = refl; reason = refl; next = refl }
-  branch_same (some false) t n sp v = record { vol = refl; report = refl; effect = refl; reason = refl; next = refl }
-  branch_same none t n sp v = after_same none _ _ (advance sp (t + n)) v (fails-same m v.rest)
+  branch_same (Some true) t n sp v = record { vol = refl; report = refl; effect = refl; reason = refl; next = refl }
+  branch_same (Some false) t n sp v = record { vol = refl; report = refl; effect = refl; reason = refl; next = refl }
+  branch_same None t n sp v = after_same None _ _ (advance sp (t + n)) v (fails-same m v.rest)
 
   exec-same : (e : Env) (j : Job) (b : ℕ) (sp : Point) (x : Step) (v : Volatile) → SameStep (exec e j b sp x v) (exec e j b sp x (with_minute m v))
   unfolding exec
@@ -80,7 +80,7 @@ module _ (m : Option ℕ) where
       subst (λ o. SameStep (run_branch (condition_at e v.rest c) t n sp v) (run_branch o t n sp (with_minute m v)))
       (sym (condition-same m e v.rest (condition_of (record_of e.set.image conditions c))))
       (branch_same (condition_at e v.rest c) t n sp v)
-  exec-same e j b sp Fail v = after_same none _ _ (advance sp 0) v (fails-same m v.rest)
+  exec-same e j b sp Fail v = after_same None _ _ (advance sp 0) v (fails-same m v.rest)
 
   -- A RUN, WET --------------------------------------------------------------------------------------------------------------------
   record SameRun (r r' : RunOutput) : Type 0 where
@@ -93,9 +93,9 @@ module _ (m : Option ℕ) where
       → ((sp : Point) (v : Volatile) → SameRun (k sp v) (k sp (with_minute m v)))
       → SameRun (continue_run x d o k) (continue_run x d' o k)
   unfolding continue_run
-  continue-same x d d' none k h f =
+  continue-same x d d' None k h f =
       record { vol = h.vol; effects = ap to_list h.effect; reason = h.reason; trace = ap₂ (λ r g. paid x r g ∷ []) h.report h.effect }
-  continue-same x d d' (some sp) k h f =
+  continue-same x d d' (Some sp) k h f =
       let r = subst (λ v. SameRun (k sp d.vol) (k sp v)) (sym h.vol) (f sp d.vol) in
       record {
         vol = r.vol;
@@ -112,8 +112,8 @@ module _ (m : Option ℕ) where
       at : (o : Option Step) → ((sp' : Point) (v' : Volatile) → SameRun (run_steps b e j sp' v') (run_steps b e j sp' (with_minute m v')))
           → SameRun (with_step o v (λ x. let d = exec e j b sp x v in continue_run x d d.next (λ sp' v'. run_steps b e j sp' v')))
           (with_step o (with_minute m v) (λ x. let d = exec e j b sp x (with_minute m v) in continue_run x d d.next (λ sp' v'. run_steps b e j sp' v')))
-      at none f = record { vol = refl; effects = refl; reason = refl; trace = refl }
-      at (some x) f =
+      at None f = record { vol = refl; effects = refl; reason = refl; trace = refl }
+      at (Some x) f =
           let h = exec-same e j b sp x v in
           subst (λ o. SameRun (continue_run x (exec e j b sp x v) (exec e j b sp x v).next (λ sp' v'. run_steps b e j sp' v')) (continue_run x (exec e j b sp x (with_minute m v)) o (λ sp' v'. run_steps b e j sp' v')))
           (sym h.next)
@@ -130,9 +130,9 @@ module _ (m : Option ℕ) where
 
   dry-branch-same : (o : Option Bool) (t n : ℕ) (sp : Point) (qs : List Point) (s : Rest) → SameDryStep (dry_branch o t n sp qs s) (dry_branch o t n sp qs (with_prev_week_min m s))
   unfolding dry_branch
-  dry-branch-same (some true) t n sp qs s = record { rest = refl; report = refl; effect = refl; reason = refl; next = refl; bodies = refl }
-  dry-branch-same (some false) t n sp qs s = record { rest = refl; report = refl; effect = refl; reason = refl; next = refl; bodies = refl }
-  dry-branch-same none t n sp qs s =
+  dry-branch-same (Some true) t n sp qs s = record { rest = refl; report = refl; effect = refl; reason = refl; next = refl; bodies = refl }
+  dry-branch-same (Some false) t n sp qs s = record { rest = refl; report = refl; effect = refl; reason = refl; next = refl; bodies = refl }
+  dry-branch-same None t n sp qs s =
       let h = fails-same m s in record { rest = h.rest; report = refl; effect = h.effect; reason = h.reason; next = refl; bodies = refl }
 
   dry-step-same : (e : Env) (j : Job) (x : Step) (sp : Point) (qs : List Point) (s : Rest) → SameDryStep (dry_step e j x sp qs s) (dry_step e j x sp qs (with_prev_week_min m s))
@@ -159,8 +159,8 @@ module _ (m : Option ℕ) where
       → ((sp : Point) (qs : List Point) (s' : Rest) → SameDryRun (k sp qs s') (k sp qs (with_prev_week_min m s')))
       → SameDryRun (dry_turn e j o s k) (dry_turn e j o (with_prev_week_min m s) k)
   unfolding dry_turn
-  turn-same e j none s k f = record { rest = refl; effects = refl; reason = refl; trace = refl }
-  turn-same e j (some a) s k f =
+  turn-same e j None s k f = record { rest = refl; effects = refl; reason = refl; trace = refl }
+  turn-same e j (Some a) s k f =
       let d = dry_step e j a.step a.point a.bodies s in
       let d' = dry_step e j a.step a.point a.bodies (with_prev_week_min m s) in
       let h = dry-step-same e j a.step a.point a.bodies s in
@@ -210,7 +210,7 @@ module _ (m : Option ℕ) where
       record { vol = ap (λ r. with_rest r v) h.rest; outcomes = ap₂ (λ es n. outcome j es n ∷ []) h.effects h.reason; trace = ap (λ ts. started j.rule ∷ ts) h.trace }
   execute-same e j false v =
       let w = numbered (next_number v.last_number) j in
-      let s = with_last_activation (set v.rest.last_activation j.index (some e.world.now)) (bump activations_total v.rest) in
+      let s = with_last_activation (set v.rest.last_activation j.index (Some e.world.now)) (bump activations_total v.rest) in
       finished-same w (started j.rule) _ _ (run-same (budget e.set.image) e w start (with_number (suc v.last_number) (with_rest s v)))
 
   -- what is decided, with the minute
@@ -225,9 +225,9 @@ module _ (m : Option ℕ) where
 
   verdict-same : (o : Option Bool) (dry : Bool) (s : Rest) → verdict o dry (with_prev_week_min m s) ≡ decision_with (verdict o dry s)
   unfolding decision_with bump_by
-  verdict-same (some true) dry s = refl
-  verdict-same (some false) dry s = refl
-  verdict-same none dry s = ap unevaluable (rest-cond m dry s _)
+  verdict-same (Some true) dry s = refl
+  verdict-same (Some false) dry s = refl
+  verdict-same None dry s = ap unevaluable (rest-cond m dry s _)
 
   decide-same : (e : Env) (i : ℕ) (mode : Mode) (s : Rest) → decide e i mode (with_prev_week_min m s) ≡ decision_with (decide e i mode s)
   unfolding decide in_cooldown last_activation_at decision_with bump_by

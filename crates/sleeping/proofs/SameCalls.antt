@@ -3,7 +3,7 @@ use mathlib.Core.Path.{◌≡◌, refl, ap, ap₂, sym, subst, ◌∙◌}
 use Prim.Native.Nat.{ℕ, zero, suc, ◌≤◌, zero-le}
 use mathlib.Core.Bool.{Bool, true, false, cond, ◌&&◌}
 use mathlib.Core.List.{List, [], ◌∷◌, ◌++◌, map}
-use mathlib.Core.Option.{Option, none, some}
+use Rattle.std.specs.Prelude.{Option, None, Some}
 use lib.Dec.{leb, ltb}
 use lib.ListN.{length, set}
 use borrow.Author.Tests.{le-leb}
@@ -40,8 +40,8 @@ pub record SameDone (d d' : Done) : Type 0 where
 
 -- without wall triggers the next deadline is no matter of the last time
 pub poll-none : (o : Option RuleSet) (s : Store) → set_without_wall o ≡ true → wall_poll s o ≡ []
-poll-none none s h = refl
-poll-none (some set) s h = rw (no-wall set.image s.vol.rest h)
+poll-none None s h = refl
+poll-none (Some set) s h = rw (no-wall set.image s.vol.rest h)
 
 module _ (t : ℕ) (m : Option ℕ) where
   -- an answer that leaves the store as it is
@@ -63,8 +63,8 @@ module _ (t : ℕ) (m : Option ℕ) where
   flipped-same rule i false v = strike-same m rule (with_rest (with_enabled (set v.rest.enabled i false) v.rest) v)
 
   enable-same : (x : Option ℕ) (rule : ℕ) (on : Bool) (s : Store) → SameDone (enabling x rule on s) (enabling x rule on (with_times t m s))
-  enable-same none rule on s = answered-same (enabled false) s
-  enable-same (some i) rule on s =
+  enable-same None rule on s = answered-same (enabled false) s
+  enable-same (Some i) rule on s =
       record { answer = refl; store = agree _ _ t m (ap (λ v. record { now = t; loaded = s.loaded; vol = v }) (flipped-same rule i on s.vol)); trace = refl }
 
   -- TICK AND RUN --------------------------------------------------------------------------------------------------------------------
@@ -90,14 +90,14 @@ module _ (t : ℕ) (m : Option ℕ) where
 
   tick-with-same : (o : Option RuleSet) (snap : List ℕ) (os es : ℕ) (s : Store) → set_without_wall o ≡ true → SameDone (tick_with o snap os es s) (tick_with o snap os es (with_times t m s))
   unfolding tick_with
-  tick-with-same none snap os es s h = committed-same os es (now_of snap) m _ _ s (silent-same m s.vol)
-  tick-with-same (some set) snap os es s h = committed-same os es (now_of snap) _ _ _ s (tick-same (record { world = world_of snap; set = set }) h m s.vol)
+  tick-with-same None snap os es s h = committed-same os es (now_of snap) m _ _ s (silent-same m s.vol)
+  tick-with-same (Some set) snap os es s h = committed-same os es (now_of snap) _ _ _ s (tick-same (record { world = world_of snap; set = set }) h m s.vol)
 
   rule-same : (e : Env) (o : Option ℕ) (dry : Bool) (v : Volatile) → SameHandled m (run_rule e o dry v) (run_rule e o dry (with_minute m v))
   unfolding is_enabled bump_by
-  rule-same e none dry v = silent-same m v
-  rule-same e (some i) true v = activate-same m e i 0 Dry v
-  rule-same e (some i) false v = on (is_enabled v.rest i)
+  rule-same e None dry v = silent-same m v
+  rule-same e (Some i) true v = activate-same m e i 0 Dry v
+  rule-same e (Some i) false v = on (is_enabled v.rest i)
     where
       on : (b : Bool)
           → SameHandled m (cond b (activate e i 0 Manual v) (no_outcome (with_rest (bump suppressed_disabled v.rest) v)))
@@ -107,8 +107,8 @@ module _ (t : ℕ) (m : Option ℕ) where
 
   run-with-same : (o : Option RuleSet) (rule : ℕ) (dry : Bool) (snap : List ℕ) (os es : ℕ) (s : Store) → SameDone (run_with o rule dry snap os es s) (run_with o rule dry snap os es (with_times t m s))
   unfolding run_with
-  run-with-same none rule dry snap os es s = committed-same os es (now_of snap) m _ _ s (silent-same m s.vol)
-  run-with-same (some set) rule dry snap os es s =
+  run-with-same None rule dry snap os es s = committed-same os es (now_of snap) m _ _ s (silent-same m s.vol)
+  run-with-same (Some set) rule dry snap os es s =
       committed-same os es (now_of snap) m _ _ s (rule-same (record { world = world_of snap; set = set }) (rule_named set.image rule) dry s.vol)
 
   given-same : (n : ℕ) (s : Store) (K : Store → Done) → SameDone (K s) (K (with_times t m s)) → SameDone (given n s K) (given n (with_times t m s) K)
@@ -125,7 +125,7 @@ module _ (t : ℕ) (m : Option ℕ) where
   -- EVERY CALL --------------------------------------------------------------------------------------------------------------------------
   times-same : (c : Call) (s : Store) → set_without_wall s.loaded ≡ true → SameDone (call c s) (call c (with_times t m s))
   unfolding call call_load call_enable counters_of fresh
-  times-same (new u) s h = record { answer = refl; store = agree _ _ u none refl; trace = refl }
+  times-same (new u) s h = record { answer = refl; store = agree _ _ u None refl; trace = refl }
   times-same (load u img) s h = load_same (image_refusal_with img (flatten_rules img)) u img (flatten_rules img) s
   times-same (unload u) s h = unload-same u s
   times-same (enable rule on) s h = enable-same (rule_in s.loaded rule) rule on s
@@ -170,8 +170,8 @@ commit-quiet m n now k s le =
 
 pub quiet : (snap : List ℕ) (m n : ℕ) (o : Option RuleSet) (s : Store) → set_without_wall o ≡ true → before_all (now_of snap) s ≡ true → NumbersFit s.vol → QuietTick s (tick_with o snap m n s)
 unfolding tick_with world_of
-quiet snap m n none s free h le = commit-quiet m n (now_of snap) s.vol.rest.prev_week_min s le
-quiet snap m n (some set) s free h le =
+quiet snap m n None s free h le = commit-quiet m n (now_of snap) s.vol.rest.prev_week_min s le
+quiet snap m n (Some set) s free h le =
     let e : Env = record { world = world_of snap; set = set } in
     let l : Later (now_of snap) s.vol = later (now_of snap) s h in
     rw (tick-quiet e s.vol l free) (commit-quiet m n (now_of snap) (minute_of e.world.wall) s le)

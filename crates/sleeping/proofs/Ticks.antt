@@ -3,7 +3,7 @@ use mathlib.Core.Path.{◌≡◌, refl, ap, ap₂, sym, ◌∙◌}
 use Prim.Native.Nat.{ℕ}
 use mathlib.Core.Bool.{Bool, true, false, cond, not, ◌&&◌, ◌||◌}
 use mathlib.Core.List.{List, [], ◌∷◌, ◌++◌}
-use mathlib.Core.Option.{Option, none, some}
+use Rattle.std.specs.Prelude.{Option, None, Some}
 use borrow.Author.Tests.{not-true}
 use Rattle.model.specs.Lists.{all, any}
 use Rattle.model.specs.Rules.{triggers_of, rule_indices}
@@ -72,8 +72,8 @@ no-wall img s h = none_of (is_enabled s) (λ i. any is_wall_trigger (triggers_of
 
 -- the week minute that a tick writes
 pub minute_of : Option WallTime → Option ℕ
-minute_of none = none
-minute_of (some w) = some (week_minute w)
+minute_of None = None
+minute_of (Some w) = Some (week_minute w)
 
 module _ (e : Env) (free : no_wall_triggers e.set.image ≡ true) where
   window-quiet : (now window : ℕ) (v : Volatile) → fire_window e now window v ≡ no_outcome v
@@ -82,8 +82,8 @@ module _ (e : Env) (free : no_wall_triggers e.set.image ≡ true) where
 
   catch-up-quiet : (now : ℕ) (o : Option ℕ) (v : Volatile) → catch_up e now o v ≡ no_outcome v
   unfolding make_up
-  catch-up-quiet now none v = refl
-  catch-up-quiet now (some prev) v = set_back (is_set_back prev now)
+  catch-up-quiet now None v = refl
+  catch-up-quiet now (Some prev) v = set_back (is_set_back prev now)
     where
       set_back : (b : Bool) → cond b (no_outcome v) (make_up e now prev v) ≡ no_outcome v
       set_back true = refl
@@ -91,8 +91,8 @@ module _ (e : Env) (free : no_wall_triggers e.set.image ≡ true) where
 
   wall-at-quiet : (o : Option WallTime) (v : Volatile) → fire_wall_at o e v ≡ no_outcome (with_minute (minute_of o) v)
   unfolding minute_of
-  wall-at-quiet none v = rw (no-wall e.set.image v.rest free)
-  wall-at-quiet (some w) v = catch-up-quiet (week_minute w) v.rest.prev_week_min (with_minute (some (week_minute w)) v)
+  wall-at-quiet None v = rw (no-wall e.set.image v.rest free)
+  wall-at-quiet (Some w) v = catch-up-quiet (week_minute w) v.rest.prev_week_min (with_minute (Some (week_minute w)) v)
 
   pub wall-quiet : (v : Volatile) → fire_wall_schedules e v ≡ no_outcome (with_minute (minute_of e.world.wall) v)
   unfolding fire_wall_schedules

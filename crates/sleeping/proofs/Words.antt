@@ -4,7 +4,7 @@ use Prim.Native.Nat.{ℕ, ◌+◌, ◌-◌, ◌^◌, ◌<◌, ◌≤◌}
 use native.Mathlib.Omega.{arith}
 use mathlib.Core.Bool.{Bool, true, false, ◌&&◌}
 use mathlib.Core.List.{List, ◌++◌}
-use mathlib.Core.Option.{Option, none, some}
+use Rattle.std.specs.Prelude.{Option, None, Some}
 use lib.Dec.{leb, ltb, eqb}
 use lib.ListN.{length, get_or, get_or-append, get_or-eq_default}
 use lib.Seq.{get_or-append-add}
@@ -108,8 +108,8 @@ changing-apart P k m g far =
     (same _ _))))))))
   where
     minute-long : (o : Option ℕ) → length ((maybe (word 10079)).put o) ≡ 2
-    minute-long none = refl
-    minute-long (some x) = refl
+    minute-long None = refl
+    minute-long (Some x) = refl
 
 loaded-long : (l : Loaded) → loaded_part.good l ≡ true → length (loaded_part.put l) ≡ 12419
 unfolding sizes loaded_part

@@ -5,7 +5,7 @@ use native.Mathlib.Omega.{arith}
 use mathlib.Core.Bool.{Bool, true, false, cond}
 use mathlib.Core.Path.{◌≡◌, refl, ◌∙◌}
 use mathlib.Core.List.{List, [], ◌∷◌, ◌++◌}
-use mathlib.Core.Option.{Option, none, some}
+use Rattle.std.specs.Prelude.{Option, None, Some}
 use lib.Dec.{ltb}
 use lib.ListN.{length, take, drop, get_or}
 use lib.Seq.{drop-cons, take_all, take-take, take-suc, get_or-take, length-take-le}
@@ -21,25 +21,25 @@ module _ {A : Type 0} where
   any-default (x ∷ l) (suc i) d e h = any-default l i d e (omega arith)
 
   -- an element that does not pass, in front of others
-  pub passed_over : {B : Type 0} (t : Bool) (x : A) (f : Option A) (g h k : B) → cond t (some x) f ≡ none → (f ≡ none → h ≡ k) → cond t g h ≡ k
+  pub passed_over : {B : Type 0} (t : Bool) (x : A) (f : Option A) (g h k : B) → cond t (Some x) f ≡ None → (f ≡ None → h ≡ k) → cond t g h ≡ k
   passed_over true x f g h k e rest = let z : ◌≡◌ {A = ℕ} 0 1 = cc in absurd (omega arith)
   passed_over false x f g h k e rest = rest e
 
   module _ (p : A → Bool) where
-    find_past : (i : ℕ) (l : List A) → find p (take i l) ≡ none → find p l ≡ find p (drop i l)
+    find_past : (i : ℕ) (l : List A) → find p (take i l) ≡ None → find p l ≡ find p (drop i l)
     find_past zero l e = refl
     find_past (suc i) [] e = refl
-    find_past (suc i) (x ∷ l) e = passed_over (p x) x (find p (take i l)) (some x) (find p l) (find p (drop i l)) e (find_past i l)
+    find_past (suc i) (x ∷ l) e = passed_over (p x) x (find p (take i l)) (Some x) (find p l) (find p (drop i l)) e (find_past i l)
 
-    find-append : (xs ys : List A) → find p xs ≡ none → find p (xs ++ ys) ≡ find p ys
+    find-append : (xs ys : List A) → find p xs ≡ None → find p (xs ++ ys) ≡ find p ys
     find-append [] ys e = refl
-    find-append (x ∷ xs) ys e = passed_over (p x) x (find p xs) (some x) (find p (xs ++ ys)) (find p ys) e (find-append xs ys)
+    find-append (x ∷ xs) ys e = passed_over (p x) x (find p xs) (Some x) (find p (xs ++ ys)) (find p ys) e (find-append xs ys)
 
     module _ (l : List A) (i : ℕ) (first : First p l i) where
-      pub found : (d : A) → i < length l → find p l ≡ some (get_or l i d)
+      pub found : (d : A) → i < length l → find p l ≡ Some (get_or l i d)
       found d h = find_past i l first.before ∙ rw (drop-cons l i d h, first.passes d h)
 
-      pub not_found : length l ≤ i → find p l ≡ none
+      pub not_found : length l ≤ i → find p l ≡ None
       not_found h = rw take_all at first.before
 
       present-by : (d : A) (t : Bool) → ltb i (length l) ≡ t → present (find p l) ≡ t
@@ -50,8 +50,8 @@ module _ {A : Type 0} where
       present-below d = present-by d (ltb i (length l)) refl
 
     -- the loop: none of the first i passes
-    module _ (l : List A) (n i : ℕ) (d : A) (none_yet : find p (take i l) ≡ none) (h : i < n) (w : n ≤ length l) where
-      pub goes_on : p (get_or l i d) ≡ false → find p (take (i + 1) l) ≡ none
+    module _ (l : List A) (n i : ℕ) (d : A) (none_yet : find p (take i l) ≡ None) (h : i < n) (w : n ≤ length l) where
+      pub goes_on : p (get_or l i d) ≡ false → find p (take (i + 1) l) ≡ None
       goes_on e =
           let room : i < length l = omega arith in
           rw (add-one, take-suc l i d room, find-append (take i l) (get_or l i d ∷ []) none_yet, e)
@@ -65,7 +65,7 @@ module _ {A : Type 0} where
             passes = λ f b. rw (get_or-take n l i f h, any-default l i f d (omega arith)) e;
           }
 
-    pub ends : (l : List A) (n i : ℕ) → find p (take i l) ≡ none → i ≤ n → n ≤ i → n ≤ length l → First p (take n l) n
+    pub ends : (l : List A) (n i : ℕ) → find p (take i l) ≡ None → i ≤ n → n ≤ i → n ≤ length l → First p (take n l) n
     ends l n i none_yet h k w =
         let size = length-take-le n l w in
         let all : i ≡ n = omega arith in

@@ -2,7 +2,7 @@
 use mathlib.Core.Path.{◌≡◌, refl, subst}
 use mathlib.Core.Bool.{true}
 use mathlib.Core.List.{List, [], ◌∷◌, ◌++◌}
-use mathlib.Core.Option.{Option, none, some}
+use Rattle.std.specs.Prelude.{Option, None, Some}
 use Prim.Native.Nat.{ℕ, suc, ◌+◌, ◌<◌}
 use native.Mathlib.Nat.{div-lt_iff_lt-mul}
 use native.Mathlib.Omega.{arith}
@@ -63,8 +63,8 @@ pub maybe-roomy : {A : Type 0} {r : Row A} → Roomy r → Roomy (maybe r)
 maybe-roomy {A} {r} p = record { fits = by }
   where
     by : (o : Option A) → Words ((maybe r).put o) → (maybe r).good o ≡ true
-    by none h = refl
-    by (some x) h = p.fits x h.1
+    by None h = refl
+    by (Some x) h = p.fits x h.1
 
 pub as-roomy : {A B : Type 0} (s : Same A B) {r : Row A} → Roomy r → Roomy (as_row s r)
 as-roomy s p = record { fits = λ b h. p.fits (s.from b) h }

@@ -2,7 +2,7 @@
 use mathlib.Core.Path.{◌≡◌, refl, sym, ap, subst, ◌∙◌}
 use mathlib.Core.Bool.{Bool, true, false, not, ◌&&◌, ◌||◌}
 use mathlib.Core.List.{List, [], ◌∷◌, map}
-use mathlib.Core.Option.{Option, none, some}
+use Rattle.std.specs.Prelude.{Option, None, Some}
 use Prim.Native.Nat.{ℕ, zero, suc, ◌+◌, ◌-◌, ◌*◌, ◌≤◌, ◌<◌}
 use native.Mathlib.Omega.{arith}
 use lib.Dec.{eqb, leb}
@@ -110,12 +110,12 @@ pub any-option-laws : RowLaws maybe-any
 any-option-laws = maybe-laws any_laws (word_blank 4294967295)
 
 back-64 : (o : Option ℕ) → option64 (of_option64 o) ≡ o
-back-64 none = refl
-back-64 (some n) = refl
+back-64 None = refl
+back-64 (Some n) = refl
 
 back-32 : (o : Option ℕ) → option32 (of_option32 o) ≡ o
-back-32 none = refl
-back-32 (some n) = refl
+back-32 None = refl
+back-32 (Some n) = refl
 
 pub option-read : (w : List ℕ) (k : ℕ) (x : OptionU32) → x ≡ row_at (option32_row 0) w k → option32 x ≡ row_at maybe-any w k
 unfolding row_at
@@ -207,12 +207,12 @@ module _ (w : List ℕ) (s : Sound w) (i : ℕ) where
   unfolding last_activation_at row_at
   activation-at x h e =
       ap option64 e ∙ back-64 (maybe-wide.get (drop (place_of activations_part + i * 3) w))
-      ∙ kept_at maybe-wide wide-option-laws activations_part (omega arith) refl w s i none h ∙ ap (λ (l : List (Option ℕ)). get_or l i none) (sym activations-are)
+      ∙ kept_at maybe-wide wide-option-laws activations_part (omega arith) refl w s i None h ∙ ap (λ (l : List (Option ℕ)). get_or l i None) (sym activations-are)
 
-  pub activation-none : rules_of w ≤ i → none ≡ last_activation_at (meaning w).rest i
+  pub activation-none : rules_of w ≤ i → None ≡ last_activation_at (meaning w).rest i
   unfolding last_activation_at
   activation-none h =
-      at-past (rows_at maybe-wide 64 (part activations_part w)) (rules_of w) i none h ∙ ap (λ (l : List (Option ℕ)). get_or l i none) (sym activations-are)
+      at-past (rows_at maybe-wide 64 (part activations_part w)) (rules_of w) i None h ∙ ap (λ (l : List (Option ℕ)). get_or l i None) (sym activations-are)
 
   pub activation-put : (w' : List ℕ) (x : OptionU64) → i < rules_of w → ((j : ℕ) → get_or w' j 0 < 4294967296) → w' ≡ laid w (place_of activations_part + i * 3) (option64_row.put x)
       → Means w' (base w) (with_rest (with_last_activation (set (meaning w).rest.last_activation i (option64 x)) (meaning w).rest) (meaning w))
@@ -240,12 +240,12 @@ module _ (w : List ℕ) (s : Sound w) (i : ℕ) where
   unfolding cycle_pos_at
   position_at x h e =
       option-read w (place_of positions_part + i * 2) x e
-      ∙ kept_at maybe-any any-option-laws positions_part (omega arith) refl w s i none h ∙ ap (λ (l : List (Option ℕ)). get_or l i none) (sym positions-are)
+      ∙ kept_at maybe-any any-option-laws positions_part (omega arith) refl w s i None h ∙ ap (λ (l : List (Option ℕ)). get_or l i None) (sym positions-are)
 
-  pub position-none : rules_of w ≤ i → none ≡ cycle_pos_at (meaning w).rest i
+  pub position-none : rules_of w ≤ i → None ≡ cycle_pos_at (meaning w).rest i
   unfolding cycle_pos_at
   position-none h =
-      at-past (rows_at maybe-any 64 (part positions_part w)) (rules_of w) i none h ∙ ap (λ (l : List (Option ℕ)). get_or l i none) (sym positions-are)
+      at-past (rows_at maybe-any 64 (part positions_part w)) (rules_of w) i None h ∙ ap (λ (l : List (Option ℕ)). get_or l i None) (sym positions-are)
 
   pub position-put : (w' : List ℕ) (x : OptionU32) → i < rules_of w → ((j : ℕ) → get_or w' j 0 < 4294967296) → w' ≡ laid w (place_of positions_part + i * 2) ((option32_row 0).put x)
       → Means w' (base w) (with_rest (with_cycle_pos (set (meaning w).rest.cycle_pos i (option32 x)) (meaning w).rest) (meaning w))

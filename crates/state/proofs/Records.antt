@@ -314,8 +314,8 @@ due-leaves w w₁ time gone c =
 pub none-stored : (w : List ℕ) → Sound w → (meaning w).pending ≡ [] → stored_count w ≡ pending_count w
 unfolding stored_count pending_count
 none-stored w s e =
-    let none : get_or w (place_of pending_part) 0 ≡ 0 = sym (pending-length w s) ∙ ap length e in
-    omega (arith, none, s.parts.stored, part_at pending_part (omega arith) w 0 (omega arith))
+    let None : get_or w (place_of pending_part) 0 ≡ 0 = sym (pending-length w s) ∙ ap length e in
+    omega (arith, None, s.parts.stored, part_at pending_part (omega arith) w 0 (omega arith))
 
 pub all-leave : (w w₁ w₂ : List ℕ) → Sound w → w₁ ≡ laid w (place_of pending_part) (replicate (words_in pending_part) 0) → w₂ ≡ laid w₁ (place_of stored_part) (any.put 0)
     → Means w₂ (base w) (record { rest = (meaning w).rest; pending = []; next = (meaning w).next; last_number = (meaning w).last_number })

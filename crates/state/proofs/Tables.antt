@@ -2,7 +2,7 @@
 use mathlib.Core.Path.{◌≡◌, refl, sym, ap, subst, ◌∙◌}
 use mathlib.Core.Bool.{Bool, true, false, not}
 use mathlib.Core.List.{List, [], ◌∷◌, ◌++◌, append_assoc, append-nil}
-use mathlib.Core.Option.{none}
+use Rattle.std.specs.Prelude.{None}
 use Prim.Native.Nat.{ℕ, suc, ◌+◌, ◌-◌, ◌*◌, ◌≤◌, ◌<◌}
 use native.Mathlib.Nat.{zero-mul, suc-mul, mul-le-mul_right}
 use native.Mathlib.Numerals.{add-one}
@@ -258,8 +258,8 @@ module _ (f at x : ℕ) (p : List ℕ) (h : Fits f p) (i : ℕ) where
   all-rows : take (get_or p 0 0) (rows_in f p) ≡ rows_in f p
   all-rows = take_all (get_or p 0 0) (rows_in f p) (rw (rows_long f p h) (omega arith))
 
-  module _ (y : ℕ) (none_yet : find (has_word at x) (take i (rows_in f p)) ≡ none) (l : i < get_or p 0 0) (e : y ≡ word_in f p i at) where
-    pub find-goes : (y ≡ x → ⊥) → find (has_word at x) (take (i + 1) (rows_in f p)) ≡ none
+  module _ (y : ℕ) (none_yet : find (has_word at x) (take i (rows_in f p)) ≡ None) (l : i < get_or p 0 0) (e : y ≡ word_in f p i at) where
+    pub find-goes : (y ≡ x → ⊥) → find (has_word at x) (take (i + 1) (rows_in f p)) ≡ None
     find-goes d = goes_on (has_word at x) (rows_in f p) (get_or p 0 0) i [] none_yet l (rw (rows_long f p h) (omega arith)) (rw (sym e) (ne_eqb y x d))
 
     pub find-stops : y ≡ x → First (has_word at x) (rows_in f p) i
@@ -267,7 +267,7 @@ module _ (f at x : ℕ) (p : List ℕ) (h : Fits f p) (i : ℕ) where
         let s = stops (has_word at x) (rows_in f p) (get_or p 0 0) i [] none_yet l (rw (rows_long f p h) (omega arith)) (rw (sym e) (eq-eqb y x d)) in
         subst (λ (rows : List (List ℕ)). First (has_word at x) rows i) all-rows s
 
-  pub find-ends : find (has_word at x) (take i (rows_in f p)) ≡ none → i ≤ get_or p 0 0 → get_or p 0 0 ≤ i → First (has_word at x) (rows_in f p) (get_or p 0 0)
+  pub find-ends : find (has_word at x) (take i (rows_in f p)) ≡ None → i ≤ get_or p 0 0 → get_or p 0 0 ≤ i → First (has_word at x) (rows_in f p) (get_or p 0 0)
   find-ends none_yet a b =
       let s = ends (has_word at x) (rows_in f p) (get_or p 0 0) i none_yet a b (rw (rows_long f p h) (omega arith)) in
       subst (λ (rows : List (List ℕ)). First (has_word at x) rows (get_or p 0 0)) all-rows s

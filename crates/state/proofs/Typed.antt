@@ -2,7 +2,7 @@
 use mathlib.Core.Path.{◌≡◌, refl, sym, ap, subst, ◌∙◌}
 use mathlib.Core.Bool.{Bool, true, false, cond}
 use mathlib.Core.List.{List, [], ◌∷◌, ◌++◌, map, append_assoc, append-nil}
-use mathlib.Core.Option.{none}
+use Rattle.std.specs.Prelude.{Option, None, Some}
 use Prim.Native.Nat.{ℕ, zero, suc, ◌+◌, ◌-◌, ◌*◌, ◌≤◌, ◌<◌}
 use native.Mathlib.Nat.{add-zero, suc-mul}
 use native.Mathlib.Numerals.{add-one}
@@ -157,15 +157,15 @@ module _ {A : Type 0} (r : Row A) (laws : RowLaws r) where
       keep-rows [] = refl
       keep-rows (x ∷ l) = rw (same x, keep-rows l) (keep-cond (test x) x (keep test l))
 
-      find-cond : {B C : Type 0} (b : Bool) (x : B) (y : C) (f : mathlib.Core.Option.Option B) (g : mathlib.Core.Option.Option C) → cond b (mathlib.Core.Option.some x) f ≡ none → (f ≡ none → g ≡ none) → cond b (mathlib.Core.Option.some y) g ≡ none
+      find-cond : {B C : Type 0} (b : Bool) (x : B) (y : C) (f : Option B) (g : Option C) → cond b (Some x) f ≡ None → (f ≡ None → g ≡ None) → cond b (Some y) g ≡ None
       find-cond true x y f g e k = let z : ◌≡◌ {A = ℕ} 0 1 = cc in absurd (omega arith)
       find-cond false x y f g e k = k e
 
-      find-rows : (i : ℕ) (l : List A) → find q (take i (map r.put l)) ≡ none → find test (take i l) ≡ none
+      find-rows : (i : ℕ) (l : List A) → find q (take i (map r.put l)) ≡ None → find test (take i l) ≡ None
       find-rows zero l e = refl
       find-rows (suc i) [] e = refl
       find-rows (suc i) (x ∷ l) e =
-          let e' : cond (test x) (mathlib.Core.Option.some (r.put x)) (find q (take i (map r.put l))) ≡ none = rw (same x) at e in
+          let e' : cond (test x) (Some (r.put x)) (find q (take i (map r.put l))) ≡ None = rw (same x) at e in
           find-cond (test x) (r.put x) x _ _ e' (find-rows i l)
 
       pub first_rows : (l : List A) (i : ℕ) → First q (map r.put l) i → First test l i

@@ -2,7 +2,7 @@
 use mathlib.Core.Path.{◌≡◌, refl, sym, ap, ◌∙◌}
 use mathlib.Core.Bool.{Bool, true, false, not, or-true}
 use mathlib.Core.List.{List, [], ◌∷◌, ◌++◌, map, append-nil}
-use mathlib.Core.Option.{none}
+use Rattle.std.specs.Prelude.{None}
 use Prim.Native.Nat.{ℕ, zero, suc, ◌+◌, ◌-◌, ◌*◌, ◌≤◌}
 use native.Mathlib.Omega.{arith}
 use lib.Dec.{eqb}
@@ -50,11 +50,11 @@ positions-zero : rows_fit 64 (maybe any).cells (replicate (words_in positions_pa
 unfolding rows_fit row_fits zeros
 positions-zero = refl
 
-no-activations : rows_at (maybe wide) 64 (replicate (words_in activations_part) 0) ≡ replicate 64 none
+no-activations : rows_at (maybe wide) 64 (replicate (words_in activations_part) 0) ≡ replicate 64 None
 unfolding rows_at
 no-activations = refl
 
-no-positions : rows_at (maybe any) 64 (replicate (words_in positions_part) 0) ≡ replicate 64 none
+no-positions : rows_at (maybe any) 64 (replicate (words_in positions_part) 0) ≡ replicate 64 None
 unfolding rows_at
 no-positions = refl
 
@@ -107,8 +107,8 @@ module _ (w w₁ w₂ : List ℕ) (n : ℕ) (s : Sound w) (few : n ≤ 64) where
       let cuts : cut part_sizes w₂ ≡ set (set (set (set (cut part_sizes w) bits_part z₀) activations_part z₁) positions_part z₂) rules_part (n ∷ []) =
       c₄.cuts ∙ ap (λ (ps : List (List ℕ)). set ps rules_part (n ∷ [])) (c₃.cuts ∙ ap (λ (ps : List (List ℕ)). set ps positions_part z₂) (c₂.cuts ∙ ap (λ (ps : List (List ℕ)). set ps activations_part z₁) c₁.cuts)) in
       let bits : map is_one (take n z₀) ≡ replicate n false = ap (map is_one) (take_same 64 0 n few) ∙ map-zeros n in
-      let activations : take n (rows_at (maybe wide) 64 z₁) ≡ replicate n none = ap (take n) no-activations ∙ take_same 64 none n few in
-      let positions : take n (rows_at (maybe any) 64 z₂) ≡ replicate n none = ap (take n) no-positions ∙ take_same 64 none n few in
+      let activations : take n (rows_at (maybe wide) 64 z₁) ≡ replicate n None = ap (take n) no-activations ∙ take_same 64 None n few in
+      let positions : take n (rows_at (maybe any) 64 z₂) ≡ replicate n None = ap (take n) no-positions ∙ take_same 64 None n few in
       let a = across w s in
       record {
         says = ap meaning_of cuts ∙ λ i. with_rest (with_enabled (bits i) (with_last_activation (activations i) (with_cycle_pos (positions i) (meaning w).rest))) (meaning w);

@@ -2,7 +2,7 @@
 use mathlib.Core.Path.{◌≡◌, refl, sym, ap, subst, ◌∙◌}
 use mathlib.Core.Bool.{Bool, true, false, cond, not, ◌&&◌}
 use mathlib.Core.List.{List, [], ◌∷◌, ◌++◌, map}
-use mathlib.Core.Option.{Option, none, some}
+use Rattle.std.specs.Prelude.{Option, None, Some}
 use Prim.Native.Nat.{ℕ, zero, suc, ◌+◌, ◌*◌, ◌≤◌, ◌<◌}
 use native.Mathlib.Omega.{arith}
 use lib.Dec.{leb, ltb}
@@ -40,7 +40,7 @@ R = ℕ × (ℕ × ℕ)
 
 -- ROWS ASSIGNED -------------------------------------------------------------------------------------------------------------------------------
 module _ (name : ℕ) (x : R) where
-  put-past : (i : ℕ) (l : List R) → find (has_name name) (take i l) ≡ none → put_row name x l ≡ take i l ++ put_row name x (drop i l)
+  put-past : (i : ℕ) (l : List R) → find (has_name name) (take i l) ≡ None → put_row name x l ≡ take i l ++ put_row name x (drop i l)
   put-past zero l e = refl
   put-past (suc i) [] e = refl
   put-past (suc i) (y ∷ l) e =
@@ -108,11 +108,11 @@ row_back name (Text n) = refl
 
 module _ (name : ℕ) where
   -- the first of the name among rows is the first among what they say
-  find-says : (i : ℕ) (l : List R) → find (has_name name) (take i l) ≡ none → find (variable_has_name name) (take i (map variable_of l)) ≡ none
+  find-says : (i : ℕ) (l : List R) → find (has_name name) (take i l) ≡ None → find (variable_has_name name) (take i (map variable_of l)) ≡ None
   find-says zero l e = refl
   find-says (suc i) [] e = refl
   find-says (suc i) (y ∷ l) e =
-      passed_over (has_name name y) y (find (has_name name) (take i l)) (some (variable_of y)) (find (variable_has_name name) (take i (map variable_of l))) none e (find-says i l)
+      passed_over (has_name name y) y (find (has_name name) (take i l)) (Some (variable_of y)) (find (variable_has_name name) (take i (map variable_of l))) None e (find-says i l)
 
   first_says : (l : List R) (i : ℕ) → First (has_name name) l i → First (variable_has_name name) (map variable_of l) i
   first_says l i h =
@@ -171,15 +171,15 @@ module _ (name : ℕ) where
         pub variable-short : text_short (row_at variable_row w (place_of variables_part + 1 + i * 4)) ≡ true
         variable-short = ap text_short row_is ∙ each rows i s.parts.texts in_rows
 
-        pub variable-found : (x : Variable) → x ≡ row_at variable_code_row w (place_of variables_part + 1 + i * 4) → some x.value ≡ var_named (meaning w).rest name
+        pub variable-found : (x : Variable) → x ≡ row_at variable_code_row w (place_of variables_part + 1 + i * 4) → Some x.value ≡ var_named (meaning w).rest name
         unfolding var_named row_at
         variable-found x e =
             let q : x ≡ variable_of (get_or rows i (0, (0, 0))) = e ∙ ap variable_of row_is in
             let d : Variable = variable_of (0, (0, 0)) in
             let g : get_or (meaning w).rest.vars i d ≡ variable_of (get_or rows i (0, (0, 0))) = ap (λ (l : List Variable). get_or l i d) variables-are ∙ get_or-map variable_of rows i (0, (0, 0)) in
-            sym (ap value_in (found (variable_has_name name) (meaning w).rest.vars i first d (omega (arith, variables-count, h)) ∙ ap (λ (y : Variable). some y) (g ∙ sym q)))
+            sym (ap value_in (found (variable_has_name name) (meaning w).rest.vars i first d (omega (arith, variables-count, h)) ∙ ap (λ (y : Variable). Some y) (g ∙ sym q)))
 
-      pub variable-absent : get_or w (place_of variables_part) 0 ≤ i → none ≡ var_named (meaning w).rest name
+      pub variable-absent : get_or w (place_of variables_part) 0 ≤ i → None ≡ var_named (meaning w).rest name
       unfolding var_named
       variable-absent h = sym (ap value_in (not_found (variable_has_name name) (meaning w).rest.vars i first (omega (arith, variables-count, h))))
 
@@ -188,8 +188,8 @@ module _ (name : ℕ) where
       here = value_in_lem (find (variable_has_name name) (meaning w).rest.vars) ∙ present-below (variable_has_name name) (meaning w).rest.vars i first (variable_of (0, (0, 0)))
         where
           value_in_lem : (o : Option Variable) → present (value_in o) ≡ present o
-          value_in_lem none = refl
-          value_in_lem (some y) = refl
+          value_in_lem None = refl
+          value_in_lem (Some y) = refl
 
       pub has_room : i < get_or w (place_of variables_part) 0 → leb (get_or w (place_of variables_part) 0) i ≡ lacks_room name (meaning w)
       unfolding lacks_room
@@ -206,7 +206,7 @@ module _ (name : ℕ) (value : VarValue) where
   abbrev x : Variable
   x = record { name = name; value = value }
 
-  found-cond : (b : Bool) (y : R) (f : Option R) (g : Option Variable) → present f ≡ present g → present (cond b (some y) f) ≡ present (cond b (some (variable_of y)) g)
+  found-cond : (b : Bool) (y : R) (f : Option R) (g : Option Variable) → present f ≡ present g → present (cond b (Some y) f) ≡ present (cond b (Some (variable_of y)) g)
   found-cond true y f g e = refl
   found-cond false y f g e = e
 
@@ -215,8 +215,8 @@ module _ (name : ℕ) (value : VarValue) where
   found-same (y ∷ l) = found-cond (has_name name y) y _ _ (found-same l)
 
   value_in_lem : (o : Option Variable) → present (value_in o) ≡ present o
-  value_in_lem none = refl
-  value_in_lem (some y) = refl
+  value_in_lem None = refl
+  value_in_lem (Some y) = refl
 
   put-cond : (b : Bool) (y : R) (l m : List R) → map variable_of (cond b (variable_row_of x ∷ l) (y ∷ m)) ≡ cond b (x ∷ map variable_of l) (variable_of y ∷ map variable_of m)
   put-cond true y l m = ap (λ (z : Variable). z ∷ map variable_of l) (row_back name value)

@@ -1,6 +1,6 @@
 -- Timers, variables and Every slots: what the contracts on them cite.
 use Rattle.std.specs.Prelude.{ℕ, Bool, false, cond, not, ◌&&◌, List, [], ◌∷◌, eqb, leb, length, replicate}
-use Rattle.std.proofs.Math.Option.{Option, none, some}
+use Rattle.std.specs.Prelude.{Option, None, Some}
 use Rattle.model.specs.Lists.{present, find}
 use Rattle.model.specs.State.{Rest, Volatile, with_rest, with_enabled, with_last_activation, with_cycle_pos, add_timer, with_vars, var_named, put_var}
 use Rattle.model.specs.declared.EverySlot.{EverySlot}
@@ -40,8 +40,8 @@ unfoldable pub assigned : ℕ → VarValue → Volatile → Volatile
 assigned name x v = cond (lacks_room name v) v (with_rest (with_vars (put_var name x v.rest.vars) v.rest) v)
 
 abbrev pub found_value : VarFound → Option VarValue
-found_value Absent = none
-found_value (Found x) = some x
+found_value Absent = None
+found_value (Found x) = Some x
 
 -- rows of variables: name, tag, value. A row set again stays in its place
 abbrev pub has_name : ℕ → ℕ × (ℕ × ℕ) → Bool
@@ -56,4 +56,4 @@ assign_row name x l = cond (not (present (find (has_name name) l)) && leb 16 (le
 
 -- n rules, and nothing is kept of any
 abbrev pub unset_rules : ℕ → Rest → Rest
-unset_rules n s = with_enabled (replicate n false) (with_last_activation (replicate n none) (with_cycle_pos (replicate n none) s))
+unset_rules n s = with_enabled (replicate n false) (with_last_activation (replicate n None) (with_cycle_pos (replicate n None) s))

@@ -1,6 +1,6 @@
 -- What a loop over the elements of an array below its count finds: said of lists, for every kind of record.
 use Rattle.std.specs.Prelude.{ℕ, suc, ◌≤◌, ◌<◌, ◌≡◌, Bool, true, List, ◌∷◌, ◌++◌, length, take, drop, get_or}
-use Rattle.std.proofs.Math.Option.{none}
+use Rattle.std.specs.Prelude.{None}
 use Rattle.model.specs.Lists.{find, keep, insert}
 
 -- a has, below the count, the elements of l that pass
@@ -12,7 +12,7 @@ pub record Keeps {A : Type 0} (p : A → Bool) (l a : List A) (count : ℕ) : Ty
 -- the first that passes stands at place i; i is the length where none does
 pub record First {A : Type 0} (p : A → Bool) (l : List A) (i : ℕ) : Type 0 where
   pub within : i ≤ length l
-  pub before : find p (take i l) ≡ none
+  pub before : find p (take i l) ≡ None
   pub passes : (d : A) → i < length l → p (get_or l i d) ≡ true
 
 -- x goes in at place i

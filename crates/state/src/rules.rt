@@ -1,7 +1,7 @@
 // What is kept for each rule of the set, by its place in the image: its bit, its last activation, its cycle position. A place past
 // the last has none, and nothing is kept for it.
 ghost use Rattle.std.specs.Prelude.{◌≡◌, ◌≤◌, set};
-ghost use Rattle.std.proofs.Math.Option.{some};
+ghost use Rattle.std.specs.Prelude.{Some};
 ghost use Rattle.model.specs.Calls.{flipped};
 ghost use Rattle.model.specs.State.{is_enabled, last_activation_at, cycle_pos_at, with_rest, with_enabled, with_last_activation, with_cycle_pos};
 ghost use Rattle.rows.specs.Options.{option32, option64};
@@ -75,7 +75,7 @@ pub fn put_last_activation(v: &mut [u32], i: usize, x: OptionU64)
 
 pub fn set_last_activation(v: &mut [u32], i: usize, time: u64)
     requires { Sound v.old }
-    ensures { Means v.new (base v.old) (with_rest (with_last_activation (set (meaning v.old).rest.last_activation i (some time)) (meaning v.old).rest) (meaning v.old)) }
+    ensures { Means v.new (base v.old) (with_rest (with_last_activation (set (meaning v.old).rest.last_activation i (Some time)) (meaning v.old).rest) (meaning v.old)) }
 {
     let x = OptionU64 {
         present: true,
@@ -109,7 +109,7 @@ pub fn put_cycle_pos(v: &mut [u32], i: usize, x: OptionU32)
 
 pub fn set_cycle_pos(v: &mut [u32], i: usize, at: u32)
     requires { Sound v.old }
-    ensures { Means v.new (base v.old) (with_rest (with_cycle_pos (set (meaning v.old).rest.cycle_pos i (some at)) (meaning v.old).rest) (meaning v.old)) }
+    ensures { Means v.new (base v.old) (with_rest (with_cycle_pos (set (meaning v.old).rest.cycle_pos i (Some at)) (meaning v.old).rest) (meaning v.old)) }
 {
     let x = OptionU32 {
         present: true,

@@ -3,7 +3,7 @@ use mathlib.Core.Path.{◌≡◌, refl, sym, ap, subst, ◌∙◌}
 use mathlib.Core.Logic.{inl}
 use mathlib.Core.Bool.{Bool, true, false, ◌&&◌, false≢true}
 use mathlib.Core.List.{List, [], ◌∷◌, map, append-nil}
-use mathlib.Core.Option.{none}
+use Rattle.std.specs.Prelude.{None}
 use Prim.Native.Nat.{ℕ, zero, suc, ◌+◌, ◌*◌, ◌≤◌, ◌<◌}
 use native.Mathlib.Nat.{add-zero}
 use native.Mathlib.Omega.{arith}
@@ -137,8 +137,8 @@ good_of m g =
 abbrev pub pieces : ℕ → Changing → List (List ℕ)
 pieces n m =
     words_of bit (filled 64 0 (take n m.bits))
-    ∷ words_of (maybe wide) (filled 64 none (take n m.activations))
-    ∷ words_of (maybe any) (filled 64 none (take n m.positions))
+    ∷ words_of (maybe wide) (filled 64 None (take n m.activations))
+    ∷ words_of (maybe any) (filled 64 None (take n m.positions))
     ∷ (most 16 variable_row).put m.variables
     ∷ (most 16 timer_row).put m.timers
     ∷ (most 64 slot_row).put m.slots
@@ -160,8 +160,8 @@ module _ (m : Changing) (g : Good m) (n : ℕ) (h : n ≤ 64) where
   lengths : map length (pieces n m) ≡ part_sizes
   lengths =
       let a = rows_words bit (word_laws 1) _ 64 (ruled-long bit (word_laws 1) 0 refl refl n h m.bits g.bits_long) in
-      let b = rows_words (maybe wide) activations-laws _ 64 (ruled-long (maybe wide) activations-laws none refl refl n h m.activations g.activations_long) in
-      let c = rows_words (maybe any) positions-laws _ 64 (ruled-long (maybe any) positions-laws none refl refl n h m.positions g.positions_long) in
+      let b = rows_words (maybe wide) activations-laws _ 64 (ruled-long (maybe wide) activations-laws None refl refl n h m.activations g.activations_long) in
+      let c = rows_words (maybe any) positions-laws _ 64 (ruled-long (maybe any) positions-laws None refl refl n h m.positions g.positions_long) in
       let v = holds-long variable_row variable-laws 16 _ m.variables (record { words = refl; good = g.variables }) in
       let t = holds-long timer_row timer-laws 16 _ m.timers (record { words = refl; good = g.timers }) in
       let s = holds-long slot_row slot_laws 64 _ m.slots (record { words = refl; good = g.slots }) in
@@ -182,8 +182,8 @@ module _ (m : Changing) (g : Good m) (n : ℕ) (h : n ≤ 64) where
   fit : fits_all state_parts (pieces n m) ≡ true
   fit =
       join (ruled-fit bit (word_laws 1) 0 refl refl n h m.bits g.bits_long g.bits)
-      (join (ruled-fit (maybe wide) activations-laws none refl refl n h m.activations g.activations_long g.activations)
-      (join (ruled-fit (maybe any) positions-laws none refl refl n h m.positions g.positions_long g.positions)
+      (join (ruled-fit (maybe wide) activations-laws None refl refl n h m.activations g.activations_long g.activations)
+      (join (ruled-fit (maybe any) positions-laws None refl refl n h m.positions g.positions_long g.positions)
       (join (holds-fit variable_row variable-laws 16 _ m.variables (record { words = refl; good = g.variables }))
       (join (holds-fit timer_row timer-laws 16 _ m.timers (record { words = refl; good = g.timers }))
       (join (holds-fit slot_row slot_laws 64 _ m.slots (record { words = refl; good = g.slots }))
@@ -212,16 +212,16 @@ module _ (m : Changing) (g : Good m) (n : ℕ) (h : n ≤ 64) where
         offsets = rw (one-get wide wide_laws 0 refl, records-are) none-behind;
         texts = rw variables-are texts;
         bits = ruled-unset bit (word_laws 1) 0 refl refl n h m.bits g.bits_long;
-        activations = ruled-unset (maybe wide) activations-laws none refl refl n h m.activations g.activations_long;
-        positions = ruled-unset (maybe any) positions-laws none refl refl n h m.positions g.positions_long;
+        activations = ruled-unset (maybe wide) activations-laws None refl refl n h m.activations g.activations_long;
+        positions = ruled-unset (maybe any) positions-laws None refl refl n h m.positions g.positions_long;
         beyond = inl (one-get wide wide_laws 0 refl);
       }
 
   says-pieces : meaning_of (pieces n m) ≡ volatile_in n m
   says-pieces =
       let b : take n (words_of bit (filled 64 0 (take n m.bits))) ≡ take n m.bits = ap (take n) (bit-words (filled 64 0 (take n m.bits))) ∙ ruled-take bit (word_laws 1) 0 refl refl n h m.bits g.bits_long in
-      let a = ruled-read (maybe wide) activations-laws none refl refl n h m.activations g.activations_long g.activations in
-      let c = ruled-read (maybe any) positions-laws none refl refl n h m.positions g.positions_long g.positions in
+      let a = ruled-read (maybe wide) activations-laws None refl refl n h m.activations g.activations_long g.activations in
+      let c = ruled-read (maybe any) positions-laws None refl refl n h m.positions g.positions_long g.positions in
       let t = holds-get timer_row timer-laws 16 _ m.timers (record { words = refl; good = g.timers }) in
       let s = holds-get slot_row slot_laws 64 _ m.slots (record { words = refl; good = g.slots }) in
       let w = one-get (maybe any) positions-laws m.prev_week_min g.week in

@@ -3,7 +3,7 @@
 use mathlib.Core.Path.{◌≡◌, refl, sym, ap, ◌∙◌}
 use mathlib.Core.Bool.{true}
 use mathlib.Core.List.{List, [], ◌∷◌, ◌++◌, map, append-nil}
-use mathlib.Core.Option.{none}
+use Rattle.std.specs.Prelude.{None}
 use Prim.Native.Nat.{ℕ, zero, suc, ◌+◌, ◌≤◌}
 use native.Mathlib.Nat.{add-zero}
 use native.Mathlib.Omega.{arith}
@@ -104,14 +104,14 @@ module _ (v : List ℕ) (s : Sound v) where
       ∙ ap (λ (x : List ℕ). words_of bit (filled 64 0 (take n x))) g
       ∙ ap (λ (x : List ℕ). words_of bit (filled 64 0 x)) (sym (bits-same (take n p) (good-take bit (word_laws 1) 0 refl refl n p good)))
 
-  activations-are : part activations_part v ≡ words_of (maybe wide) (filled 64 none (take n (rows_at (maybe wide) 64 (part activations_part v))))
+  activations-are : part activations_part v ≡ words_of (maybe wide) (filled 64 None (take n (rows_at (maybe wide) 64 (part activations_part v))))
   activations-are =
-      unset-ruled (maybe wide) activations-laws none refl refl n few (part activations_part v) (part-long activations_part (omega arith) v s.long) (s.parts.fit activations_part (omega arith)) s.parts.activations
+      unset-ruled (maybe wide) activations-laws None refl refl n few (part activations_part v) (part-long activations_part (omega arith) v s.long) (s.parts.fit activations_part (omega arith)) s.parts.activations
 
-  positions-are : part positions_part v ≡ words_of (maybe (word 15)) (filled 64 none (take n (rows_at (maybe any) 64 (part positions_part v))))
+  positions-are : part positions_part v ≡ words_of (maybe (word 15)) (filled 64 None (take n (rows_at (maybe any) 64 (part positions_part v))))
   positions-are =
-      unset-ruled (maybe any) positions-laws none refl refl n few (part positions_part v) (part-long positions_part (omega arith) v s.long) (s.parts.fit positions_part (omega arith)) s.parts.positions
-      ∙ sym (words-wider (maybe (word 15)) (maybe any) (maybe-wider (word-wider 15 4294967295 (omega arith))) (filled 64 none (take n (rows_at (maybe any) 64 (part positions_part v)))))
+      unset-ruled (maybe any) positions-laws None refl refl n few (part positions_part v) (part-long positions_part (omega arith) v s.long) (s.parts.fit positions_part (omega arith)) s.parts.positions
+      ∙ sym (words-wider (maybe (word 15)) (maybe any) (maybe-wider (word-wider 15 4294967295 (omega arith))) (filled 64 None (take n (rows_at (maybe any) 64 (part positions_part v)))))
 
   variables-are : part variables_part v ≡ (most 16 variable_row).put (map variable_row_of (map variable_of ((most 16 variable_row).get (part variables_part v))))
   variables-are =

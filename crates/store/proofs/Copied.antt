@@ -1,7 +1,7 @@
 -- The words that a state begins with are the store's. Assumes nothing.
 use mathlib.Core.Path.{◌≡◌, refl, sym, ap, ◌∙◌}
 use mathlib.Core.List.{List, ◌++◌, append_assoc, append-nil}
-use mathlib.Core.Option.{none}
+use Rattle.std.specs.Prelude.{None}
 use Prim.Native.Nat.{ℕ, ◌+◌, ◌-◌, ◌*◌, ◌≤◌}
 use native.Mathlib.Nat.{mul-one}
 use native.Mathlib.Omega.{arith}
@@ -113,10 +113,10 @@ module _ (w : List ℕ) (r : Readable w) where
         ∙ ap (λ (k : ℕ). first_of k bits) (sym (mul-one n))
         ∙ words-ruled bit (word_laws 1) 0 refl refl n h m.bits good.bits_long
 
-    activations-words : first_of (n * 3) (take (positions_place - activations_place) (drop activations_place w)) ≡ words_of (maybe wide) (filled 64 none (take n m.activations))
+    activations-words : first_of (n * 3) (take (positions_place - activations_place) (drop activations_place w)) ≡ words_of (maybe wide) (filled 64 None (take n m.activations))
     activations-words =
         ap (first_of (n * 3)) (second_is bits activations positions (others m) behind-all w state_place groups-at 64 192 bits-long activations-long)
-        ∙ words-ruled (maybe wide) activations-laws none refl refl n h m.activations good.activations_long
+        ∙ words-ruled (maybe wide) activations-laws None refl refl n h m.activations good.activations_long
 
     positions-same : words_of (maybe (word 15)) m.positions ≡ words_of (maybe any) m.positions
     positions-same = words-wider (maybe (word 15)) (maybe any) (maybe-wider (word-wider 15 4294967295 (omega arith))) m.positions
@@ -124,10 +124,10 @@ module _ (w : List ℕ) (r : Readable w) where
     positions-long : length positions ≡ 128
     positions-long = ap length positions-same ∙ rows_long (maybe any) positions-laws m.positions ∙ rw good.positions_long
 
-    positions-words : first_of (n * 2) (take (variables_place - positions_place) (drop positions_place w)) ≡ words_of (maybe any) (filled 64 none (take n m.positions))
+    positions-words : first_of (n * 2) (take (variables_place - positions_place) (drop positions_place w)) ≡ words_of (maybe any) (filled 64 None (take n m.positions))
     positions-words =
         ap (first_of (n * 2)) (third-is bits activations positions (others m) behind-all w state_place groups-at 64 192 128 bits-long activations-long positions-long ∙ positions-same)
-        ∙ words-ruled (maybe any) positions-laws none refl refl n h m.positions good.positions_long
+        ∙ words-ruled (maybe any) positions-laws None refl refl n h m.positions good.positions_long
 
     others-long : length (others m) ≡ changing_words - place_of variables_part
     unfolding changing_part
@@ -146,14 +146,14 @@ module _ (w : List ℕ) (r : Readable w) where
 
     -- the parts behind the rules, one by one
     pieces_are : words_of bit (filled 64 0 (take n m.bits))
-        ++ (words_of (maybe wide) (filled 64 none (take n m.activations))
-        ++ (words_of (maybe any) (filled 64 none (take n m.positions))
+        ++ (words_of (maybe wide) (filled 64 None (take n m.activations))
+        ++ (words_of (maybe any) (filled 64 None (take n m.positions))
         ++ (others m ++ (any.put (length m.pending) ++ (replicate 4 0 ++ any.put n))))) ≡ flatten (pieces n m)
     unfolding low_of high_of
     pieces_are =
         let p = most-wider parts.pending_row pending_row pending-wider 32 m.pending in
         let k = (maybe-wider (word-wider 10079 4294967295 (omega arith))).put m.prev_week_min in
-        let front : List ℕ → List ℕ = λ (x : List ℕ). words_of bit (filled 64 0 (take n m.bits)) ++ (words_of (maybe wide) (filled 64 none (take n m.activations)) ++ (words_of (maybe any) (filled 64 none (take n m.positions)) ++ x)) in
+        let front : List ℕ → List ℕ = λ (x : List ℕ). words_of bit (filled 64 0 (take n m.bits)) ++ (words_of (maybe wide) (filled 64 None (take n m.activations)) ++ (words_of (maybe any) (filled 64 None (take n m.positions)) ++ x)) in
         (λ i. front (((most 16 variable_row).put m.variables ++ ((most 16 timer_row).put m.timers ++ ((most 64 slot_row).put m.slots ++ (p i ++ (k i ++ (wide.put m.next ++ (wide.put m.last_number ++ words_of any m.counters))))))) ++ (any.put (length m.pending) ++ (replicate 4 0 ++ any.put n))))
         ∙ ap front (regroup ((most 16 variable_row).put m.variables) ((most 16 timer_row).put m.timers) ((most 64 slot_row).put m.slots) ((most 32 pending_row).put m.pending) ((maybe any).put m.prev_week_min) (wide.put m.next) (wide.put m.last_number) (words_of any m.counters) (any.put (length m.pending) ++ (replicate 4 0 ++ any.put n)))
       where
@@ -173,12 +173,12 @@ module _ (w : List ℕ) (r : Readable w) where
           → AllNumbered v₇ (volatile_in n m)
       copied e₁ e₂ e₃ e₄ k e₅ e₆ e₇ =
           let a = words_of bit (filled 64 0 (take n m.bits)) in
-          let b = words_of (maybe wide) (filled 64 none (take n m.activations)) in
-          let c = words_of (maybe any) (filled 64 none (take n m.positions)) in
+          let b = words_of (maybe wide) (filled 64 None (take n m.activations)) in
+          let c = words_of (maybe any) (filled 64 None (take n m.positions)) in
           let d = others m in
           let la : length a ≡ 64 = rows_long bit (word_laws 1) (filled 64 0 (take n m.bits)) ∙ rw (ruled-long bit (word_laws 1) 0 refl refl n h m.bits good.bits_long) in
-          let lb : length b ≡ 192 = rows_long (maybe wide) activations-laws (filled 64 none (take n m.activations)) ∙ rw (ruled-long (maybe wide) activations-laws none refl refl n h m.activations good.activations_long) in
-          let lc : length c ≡ 128 = rows_long (maybe any) positions-laws (filled 64 none (take n m.positions)) ∙ rw (ruled-long (maybe any) positions-laws none refl refl n h m.positions good.positions_long) in
+          let lb : length b ≡ 192 = rows_long (maybe wide) activations-laws (filled 64 None (take n m.activations)) ∙ rw (ruled-long (maybe wide) activations-laws None refl refl n h m.activations good.activations_long) in
+          let lc : length c ≡ 128 = rows_long (maybe any) positions-laws (filled 64 None (take n m.positions)) ∙ rw (ruled-long (maybe any) positions-laws None refl refl n h m.positions good.positions_long) in
           let ld = others-long in
           let f₁ : v₁ ≡ laid v 0 a = e₁ ∙ ap (laid v 0) bits-words in
           let f₂ : v₂ ≡ laid v₁ (place_of activations_part) b = e₂ ∙ ap (laid v₁ (place_of activations_part)) activations-words in

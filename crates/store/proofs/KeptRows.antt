@@ -1,7 +1,7 @@
 -- What a store keeps at a place for a rule, and its pending record of an index. Assumes nothing.
 use mathlib.Core.Path.{◌≡◌, refl, sym, ap, ◌∙◌}
 use mathlib.Core.List.{List}
-use mathlib.Core.Option.{Option, none, some}
+use Rattle.std.specs.Prelude.{Option, None, Some}
 use Prim.Native.Nat.{ℕ, ◌+◌, ◌*◌, ◌≤◌, ◌<◌}
 use native.Mathlib.Omega.{arith}
 use lib.ListN.{length, get_or, get_or-eq_default}
@@ -21,39 +21,39 @@ use Rattle.store.proofs.Parts.{activations-at, positions-at, pending-at, table-l
 use Rattle.store.proofs.RuleSteps.{table-at}
 
 back-64 : (o : Option ℕ) → option64 (of_option64 o) ≡ o
-back-64 none = refl
-back-64 (some n) = refl
+back-64 None = refl
+back-64 (Some n) = refl
 
 back-32 : (o : Option ℕ) → option32 (of_option32 o) ≡ o
-back-32 none = refl
-back-32 (some n) = refl
+back-32 None = refl
+back-32 (Some n) = refl
 
 module _ (w : List ℕ) (i : ℕ) where
-  pub activation-read : (x : OptionU64) → i < 64 → x ≡ row_at option64_row w (activations_place + i * 3) → option64 x ≡ get_or (changing_in w).activations i none
+  pub activation-read : (x : OptionU64) → i < 64 → x ≡ row_at option64_row w (activations_place + i * 3) → option64 x ≡ get_or (changing_in w).activations i None
   unfolding row_at
   activation-read x h e =
       ap option64 e
       ∙ back-64 (row_at (maybe wide) w (activations_place + i * 3))
-      ∙ sym (table-at (maybe wide) 64 i w activations_place none h)
-      ∙ ap (λ (l : List (Option ℕ)). get_or l i none) (sym (activations-at w))
+      ∙ sym (table-at (maybe wide) 64 i w activations_place None h)
+      ∙ ap (λ (l : List (Option ℕ)). get_or l i None) (sym (activations-at w))
 
-  pub no-activation : 64 ≤ i → none ≡ get_or (changing_in w).activations i none
+  pub no-activation : 64 ≤ i → None ≡ get_or (changing_in w).activations i None
   no-activation h =
       let l = ap length (activations-at w) ∙ table-long (maybe wide) (maybe-laws wide_laws wide-blank) 64 w activations_place in
-      sym (get_or-eq_default (changing_in w).activations none (omega arith))
+      sym (get_or-eq_default (changing_in w).activations None (omega arith))
 
-  pub position-read : (x : OptionU32) → i < 64 → x ≡ row_at (option32_row 0) w (positions_place + i * 2) → option32 x ≡ get_or (changing_in w).positions i none
+  pub position-read : (x : OptionU32) → i < 64 → x ≡ row_at (option32_row 0) w (positions_place + i * 2) → option32 x ≡ get_or (changing_in w).positions i None
   unfolding row_at
   position-read x h e =
       ap option32 e
       ∙ back-32 (row_at (maybe (word 15)) w (positions_place + i * 2))
-      ∙ sym (table-at (maybe (word 15)) 64 i w positions_place none h)
-      ∙ ap (λ (l : List (Option ℕ)). get_or l i none) (sym (positions-at w))
+      ∙ sym (table-at (maybe (word 15)) 64 i w positions_place None h)
+      ∙ ap (λ (l : List (Option ℕ)). get_or l i None) (sym (positions-at w))
 
-  pub no-position : 64 ≤ i → none ≡ get_or (changing_in w).positions i none
+  pub no-position : 64 ≤ i → None ≡ get_or (changing_in w).positions i None
   no-position h =
       let l = ap length (positions-at w) ∙ table-long (maybe (word 15)) (maybe-laws (word_laws 15) (word_blank 15)) 64 w positions_place in
-      sym (get_or-eq_default (changing_in w).positions none (omega arith))
+      sym (get_or-eq_default (changing_in w).positions None (omega arith))
 
   pub record-kept : (d : Pending) → i < length (changing_in w).pending → record_in w i ≡ get_or (changing_in w).pending i d
   unfolding record_in

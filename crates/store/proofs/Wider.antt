@@ -2,7 +2,7 @@
 use mathlib.Core.Path.{◌≡◌, refl, sym, ap, ◌∙◌}
 use mathlib.Core.Bool.{true}
 use mathlib.Core.List.{List, [], ◌∷◌, ◌++◌}
-use mathlib.Core.Option.{Option, none, some}
+use Rattle.std.specs.Prelude.{Option, None, Some}
 use Prim.Native.Nat.{ℕ, suc, ◌+◌, ◌-◌, ◌*◌, ◌≤◌}
 use native.Mathlib.Omega.{arith}
 use lib.Dec.{leb}
@@ -55,12 +55,12 @@ pub maybe-wider : {A : Type 0} {r q : Row A} → Wider r q → Wider (maybe r) (
 maybe-wider {A} {r} {q} h = record { long = ap suc h.long; put = put; good = good }
   where
     put : (o : Option A) → (maybe r).put o ≡ (maybe q).put o
-    put none = ap (λ (n : ℕ). 0 ∷ replicate n 0) h.long
-    put (some a) = ap (λ (x : List ℕ). 1 ∷ x) (h.put a)
+    put None = ap (λ (n : ℕ). 0 ∷ replicate n 0) h.long
+    put (Some a) = ap (λ (x : List ℕ). 1 ∷ x) (h.put a)
 
     good : (o : Option A) → (maybe r).good o ≡ true → (maybe q).good o ≡ true
-    good none g = refl
-    good (some a) g = h.good a g
+    good None g = refl
+    good (Some a) g = h.good a g
 
 -- the row of a pending record, whatever the word of its trigger
 pub pending-wider : Wider parts.pending_row pending_row

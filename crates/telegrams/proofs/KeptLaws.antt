@@ -2,7 +2,7 @@
 use mathlib.Core.Path.{◌≡◌, refl, ap, ◌∙◌}
 use mathlib.Core.Bool.{Bool, true, false, cond, false≢true}
 use mathlib.Core.List.{List, [], ◌∷◌}
-use mathlib.Core.Option.{Option, none, some}
+use Rattle.std.specs.Prelude.{Option, None, Some}
 use Prim.Native.Nat.{ℕ, zero, suc}
 use borrow.Author.Tests.{eqb-true}
 use lib.Dec.{eqb}
@@ -50,12 +50,12 @@ same-cuts (x ∷ xs) =
 -- THE SAME LAMPS
 
 later-present : {A : Type 0} (first o : Option A) → present o ≡ true → o ≡ later first o
-later-present first none e = absurd (false≢true e)
-later-present first (some v) e = refl
+later-present first None e = absurd (false≢true e)
+later-present first (Some v) e = refl
 
-later-none : {A : Type 0} (o : Option A) → o ≡ later none o
-later-none none = refl
-later-none (some v) = refl
+later-none : {A : Type 0} (o : Option A) → o ≡ later None o
+later-none None = refl
+later-none (Some v) = refl
 
 -- an effect whose lamp is set again adds nothing
 adds-nothing : (t : ℕ) (x : Effect) (xs : List Effect) → set_again x xs ≡ true → last_set t (stretch zero xs) ≡ later (setting t x) (last_set t (stretch zero xs))

@@ -2,7 +2,7 @@
 use mathlib.Core.Path.{◌≡◌, refl, sym, ap, ◌∙◌}
 use mathlib.Core.Bool.{Bool, true, false, cond, ◌||◌, false≢true}
 use mathlib.Core.List.{List, [], ◌∷◌}
-use mathlib.Core.Option.{Option, none, some}
+use Rattle.std.specs.Prelude.{Option, None, Some}
 use Prim.Native.Nat.{ℕ, zero, suc, ◌≤◌, zero-le}
 use native.Mathlib.Nat.{le_refl, le_trans}
 use native.Mathlib.Omega.{arith}
@@ -34,13 +34,13 @@ pub on-next : (n t : ℕ) (x : Effect) (xs : List Effect) → cuts x ≡ false �
 unfolding is_set stretch
 on-next n t x xs e = rw e
 
-later-some : {A : Type 0} (v : A) (o : Option A) → present (later (some v) o) ≡ true
-later-some v none = refl
-later-some v (some w) = refl
+later-some : {A : Type 0} (v : A) (o : Option A) → present (later (Some v) o) ≡ true
+later-some v None = refl
+later-some v (Some w) = refl
 
-later-none : {A : Type 0} (o : Option A) → present (later none o) ≡ present o
-later-none none = refl
-later-none (some w) = refl
+later-none : {A : Type 0} (o : Option A) → present (later None o) ≡ present o
+later-none None = refl
+later-none (Some w) = refl
 
 pub on-first : (t : ℕ) (x : Effect) (xs : List Effect) → cuts x ≡ false → is_set zero t (x ∷ xs) ≡ sets t x || is_set zero t xs
 unfolding is_set stretch last_set setting

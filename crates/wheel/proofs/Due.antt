@@ -5,7 +5,7 @@ use native.Mathlib.Omega.{arith}
 use mathlib.Core.Path.{◌≡◌, sym, ap, subst, ◌∙◌}
 use mathlib.Core.Bool.{Bool, true, false≢true}
 use mathlib.Core.List.{List, [], ◌∷◌}
-use mathlib.Core.Option.{none}
+use Rattle.std.specs.Prelude.{None}
 use lib.Dec.{ltb, leb}
 use lib.ListN.{length, take, get_or, length-map, get_or-map}
 use borrow.Author.Tests.{ltb-true}
@@ -38,7 +38,7 @@ module _ (img : List ℕ) (c : Pending) (fits : fits_set img c ≡ true) where
   pub small-budget : image_refusal img ≡ 0 → c.budget ≤ 256
   small-budget ok = let b = budget-fits img (image-accepted img ok).passes in omega (arith, b.1, ltb-true c.budget (budget img) parts.1)
 
-  pub has-rule : rule_named img c.rule ≡ none → ⊥
+  pub has-rule : rule_named img c.rule ≡ None → ⊥
   has-rule e = false≢true (rw e at parts.0)
 
 -- ---- all of some records

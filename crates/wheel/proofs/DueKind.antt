@@ -2,7 +2,7 @@
 use mathlib.Core.Path.{◌≡◌, refl, sym, ap, ◌∙◌}
 use mathlib.Core.Bool.{Bool, true, false, ◌||◌}
 use mathlib.Core.List.{List, [], ◌∷◌}
-use mathlib.Core.Option.{Option, none, some}
+use Rattle.std.specs.Prelude.{Option, None, Some}
 use Prim.Native.Nat.{ℕ, ◌+◌, ◌*◌, ◌≤◌, ◌<◌}
 use native.Mathlib.Numerals.{add-one}
 use lib.ListN.{length, drop, get_or, drop_of_length-le}
@@ -28,20 +28,20 @@ or_assoc true b c = refl
 or_assoc false b c = refl
 
 abbrev nothing : model.WallKind
-nothing = record { kind = none; unsynced = false }
+nothing = record { kind = None; unsynced = false }
 
 -- what one trigger gives in front of others
 abbrev time_kind : Bool → ℕ → model.WallKind → model.WallKind
-time_kind due kind rest = elim due [ true ↦ record { kind = some kind; unsynced = false } | false ↦ rest ]
+time_kind due kind rest = elim due [ true ↦ record { kind = Some kind; unsynced = false } | false ↦ rest ]
 
 abbrev solar_kind : Option Bool → model.WallKind → model.WallKind
-solar_kind o rest = elim o [ none ↦ without_sun rest | some due ↦ time_kind due by_solar rest ]
+solar_kind o rest = elim o [ None ↦ without_sun rest | Some due ↦ time_kind due by_solar rest ]
 
 -- the sun that a snapshot knows, and none
-pub known-sun : {m : MaybeSun} {t : SunTimes} {o : Option model-world.SunTimes} → sun_option m ≡ o → m ≡ sun.Known t → o ≡ some (sun_record t)
+pub known-sun : {m : MaybeSun} {t : SunTimes} {o : Option model-world.SunTimes} → sun_option m ≡ o → m ≡ sun.Known t → o ≡ Some (sun_record t)
 known-sun e h = sym e ∙ rw h
 
-pub unknown-sun : {m : MaybeSun} {o : Option model-world.SunTimes} → sun_option m ≡ o → m ≡ sun.Absent → o ≡ none
+pub unknown-sun : {m : MaybeSun} {o : Option model-world.SunTimes} → sun_option m ≡ o → m ≡ sun.Absent → o ≡ None
 unknown-sun e h = sym e ∙ rw h
 
 -- ONE TRIGGER -------------------------------------------------------------------------------------------------------------------------------
@@ -54,19 +54,19 @@ module _ (e : Env) (base window : ℕ) (missed : Bool) where
   unfolding due_wall_kind
   at-time h m days is = ap (λ (b : Bool). wall_kind (kind_if b by_time missed)) is ∙ due-or-not (minute_due base window days (h * 60 + m)) missed by_time
 
-  sun-due : (event offset : ℕ) {sun : model-world.SunTimes} {b : Bool} → e.world.sun ≡ some sun → b ≡ minute_due base window 127 (solar_of sun event offset) → solar_due e base window event offset ≡ some b
+  sun-due : (event offset : ℕ) {sun : model-world.SunTimes} {b : Bool} → e.world.sun ≡ Some sun → b ≡ minute_due base window 127 (solar_of sun event offset) → solar_due e base window event offset ≡ Some b
   unfolding solar_due
-  sun-due event offset h is = rw h (ap some (sym is))
+  sun-due event offset h is = rw h (ap Some (sym is))
 
-  pub at-sun : (event offset : ℕ) {sun : model-world.SunTimes} {b : Bool} → e.world.sun ≡ some sun → b ≡ minute_due base window 127 (solar_of sun event offset) → wall_kind (kind_if b by_solar missed) ≡ missed_too missed (due_wall_kind e base window (AtSolar event offset ∷ []))
+  pub at-sun : (event offset : ℕ) {sun : model-world.SunTimes} {b : Bool} → e.world.sun ≡ Some sun → b ≡ minute_due base window 127 (solar_of sun event offset) → wall_kind (kind_if b by_solar missed) ≡ missed_too missed (due_wall_kind e base window (AtSolar event offset ∷ []))
   unfolding due_wall_kind
   at-sun event offset {b = b} h is = due-or-not b missed by_solar ∙ ap (λ (o : Option Bool). missed_too missed (solar_kind o nothing)) (sym (sun-due event offset h is))
 
-  without : (event offset : ℕ) → e.world.sun ≡ none → solar_due e base window event offset ≡ none
+  without : (event offset : ℕ) → e.world.sun ≡ None → solar_due e base window event offset ≡ None
   unfolding solar_due
   without event offset h = rw h
 
-  pub no-sun : (event offset : ℕ) → e.world.sun ≡ none → wall_kind (kind_if false 0 true) ≡ missed_too missed (due_wall_kind e base window (AtSolar event offset ∷ []))
+  pub no-sun : (event offset : ℕ) → e.world.sun ≡ None → wall_kind (kind_if false 0 true) ≡ missed_too missed (due_wall_kind e base window (AtSolar event offset ∷ []))
   unfolding due_wall_kind
   no-sun event offset h = (let z : wall_kind (kind_if false 0 true) ≡ missed_too missed (without_sun nothing) = rw (or-true missed) in z) ∙ ap (λ (o : Option Bool). missed_too missed (solar_kind o nothing)) (sym (without event offset h))
 
@@ -85,13 +85,13 @@ module _ (e : Env) (base window : ℕ) (missed : Bool) where
 -- THE TRIGGERS ------------------------------------------------------------------------------------------------------------------------------
 -- the first due of two
 abbrev first_of : Option ℕ → model.WallKind → model.WallKind → model.WallKind
-first_of none w rest = record { kind = rest.kind; unsynced = w.unsynced || rest.unsynced }
-first_of (some kind) w rest = w
+first_of None w rest = record { kind = rest.kind; unsynced = w.unsynced || rest.unsynced }
+first_of (Some kind) w rest = w
 
-chosen : (o : Option ℕ) (kind : ℕ) (w rest : model.WallKind) → o ≡ some kind → first_of o w rest ≡ w
+chosen : (o : Option ℕ) (kind : ℕ) (w rest : model.WallKind) → o ≡ Some kind → first_of o w rest ≡ w
 chosen o kind w rest e = rw e
 
-passed : (now b : Bool) (o : Option ℕ) (w rest : model.WallKind) → o ≡ none → b ≡ now || w.unsynced → missed_too b rest ≡ missed_too now (first_of o w rest)
+passed : (now b : Bool) (o : Option ℕ) (w rest : model.WallKind) → o ≡ None → b ≡ now || w.unsynced → missed_too b rest ≡ missed_too now (first_of o w rest)
 passed now b o w rest e f = rw (e, f, or_assoc now w.unsynced rest.unsynced)
 
 time-first : (b : Bool) (kind : ℕ) (rest : model.WallKind) → time_kind b kind rest ≡ first_of (time_kind b kind nothing).kind (time_kind b kind nothing) rest
@@ -99,9 +99,9 @@ time-first true kind rest = refl
 time-first false kind rest = refl
 
 sun-first : (o : Option Bool) (rest : model.WallKind) → solar_kind o rest ≡ first_of (solar_kind o nothing).kind (solar_kind o nothing) rest
-sun-first none rest = refl
-sun-first (some true) rest = refl
-sun-first (some false) rest = refl
+sun-first None rest = refl
+sun-first (Some true) rest = refl
+sun-first (Some false) rest = refl
 
 module _ (e : Env) (base window : ℕ) where
   abbrev one : Trigger → model.WallKind

@@ -4,7 +4,7 @@ use native.Mathlib.Numerals.{add-one}
 use mathlib.Core.Path.{◌≡◌, refl, sym, ap, subst, ◌∙◌}
 use mathlib.Core.Bool.{Bool, true, false, cond, not}
 use mathlib.Core.List.{List, [], ◌∷◌, ◌++◌, map, append_assoc, append-nil}
-use mathlib.Core.Option.{none, some}
+use Rattle.std.specs.Prelude.{None, Some}
 use lib.ListN.{length, drop, get_or, drop_of_length-le}
 use lib.Seq.{drop-cons}
 use borrow.Author.Tests.{not-true, not-false}
@@ -114,8 +114,8 @@ timer-rules e img timer {n} {x} {ow} {ew} {r} {ow'} {ew'} f =
     subst (λ (l : List ℕ). Fires n (activate_each e by_timer l) x ow ew r ow' ew') (sym (keep-each (λ i. any (fires_on timer) (triggers_of img i)) (name_order img))) f
 
 module _ (e : Env) (img : List ℕ) (x : EverySlot) where
-  pub slot_of : (i : ℕ) (v : Volatile) → rule_named img x.rule ≡ some i → activate_each e by_every (rules_of_slot img x) v ≡ activate_if_enabled e by_every i v
+  pub slot_of : (i : ℕ) (v : Volatile) → rule_named img x.rule ≡ Some i → activate_each e by_every (rules_of_slot img x) v ≡ activate_if_enabled e by_every i v
   slot_of i v h = rw h (one-rule e by_every i v)
 
-  pub slot-none : (v : Volatile) → rule_named img x.rule ≡ none → activate_each e by_every (rules_of_slot img x) v ≡ no_outcome v
+  pub slot-none : (v : Volatile) → rule_named img x.rule ≡ None → activate_each e by_every (rules_of_slot img x) v ≡ no_outcome v
   slot-none v h = rw h (no-rule e by_every v)

@@ -2,7 +2,7 @@
 use mathlib.Core.Path.{◌≡◌, refl, sym, ap, ◌∙◌}
 use mathlib.Core.Bool.{Bool, true, false}
 use mathlib.Core.List.{List, [], ◌∷◌, ◌++◌, map, append_assoc}
-use mathlib.Core.Option.{some}
+use Rattle.std.specs.Prelude.{Some}
 use Prim.Native.Nat.{ℕ, zero, suc, ◌+◌, ◌-◌, ◌*◌, ◌≤◌, ◌<◌, min}
 use native.Mathlib.Omega.{arith}
 use lib.ListN.{length, take, drop, get_or, drop_of_length-le}
@@ -35,10 +35,10 @@ module _ (time : ℕ) (best : OptionU64) where
   pub stays : best.present ≡ true → best.value < time → option64 best ≡ least_of time (option64 best)
   stays h l = let e : min time best.value ≡ best.value = omega arith in rw (h, e)
 
-  pub earlier-than : best.present ≡ true → time ≤ best.value → some time ≡ least_of time (option64 best)
+  pub earlier-than : best.present ≡ true → time ≤ best.value → Some time ≡ least_of time (option64 best)
   earlier-than h l = let e : min time best.value ≡ time = omega arith in rw (h, e)
 
-  pub only : best.present ≡ false → some time ≡ least_of time (option64 best)
+  pub only : best.present ≡ false → Some time ≡ least_of time (option64 best)
   only h = rw h
 
 -- THE ROWS OF A TABLE ----------------------------------------------------------------------------------------------------------------------

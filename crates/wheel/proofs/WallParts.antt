@@ -4,7 +4,7 @@ use native.Mathlib.Omega.{arith}
 use mathlib.Core.Path.{◌≡◌, refl, sym, ap, ◌∙◌}
 use mathlib.Core.Bool.{Bool, true, false, not}
 use mathlib.Core.List.{List}
-use mathlib.Core.Option.{Option, none, some}
+use Rattle.std.specs.Prelude.{Option, None, Some}
 use borrow.Author.Tests.{not-true, not-false}
 use Rattle.model.specs.Activate as model
 use Rattle.model.specs.Activate.{no_outcome}
@@ -86,21 +86,21 @@ module _ (snapshot image : List ℕ) (w : model-world.WallTime) (x : Carried) {v
   env-at = tick_env snapshot image
 
   module _ (prev : OptionU32) (before : option32 prev ≡ (meaning x.vol).rest.prev_week_min) where
-    pub first-minute : (ow ew : List ℕ) → not prev.present ≡ true → Fires 64 (fire_wall_at (some w) env-at) x ow ew (with_vol v x) ow ew
+    pub first-minute : (ow ew : List ℕ) → not prev.present ≡ true → Fires 64 (fire_wall_at (Some w) env-at) x ow ew (with_vol v x) ow ew
     first-minute ow ew n =
-        same-part 64 (λ y. no_outcome (remembering value y)) (fire_wall_at (some w) env-at) (rw (← minute, ← before, not-true prev.present n))
+        same-part 64 (λ y. no_outcome (remembering value y)) (fire_wall_at (Some w) env-at) (rw (← minute, ← before, not-true prev.present n))
         (more-part 0 64 (omega arith) (changed (remembering value) x m refl refl ow ew))
 
-    pub set_back : (set : Bool) (ow ew : List ℕ) → not prev.present ≡ false → set ≡ is_set_back prev.value value → set ≡ true → Fires 64 (fire_wall_at (some w) env-at) x ow ew (with_vol v x) ow ew
+    pub set_back : (set : Bool) (ow ew : List ℕ) → not prev.present ≡ false → set ≡ is_set_back prev.value value → set ≡ true → Fires 64 (fire_wall_at (Some w) env-at) x ow ew (with_vol v x) ow ew
     set_back set ow ew n is b =
-        same-part 64 (λ y. no_outcome (remembering value y)) (fire_wall_at (some w) env-at) (rw (← minute, ← before, not-false prev.present n, ← is, b))
+        same-part 64 (λ y. no_outcome (remembering value y)) (fire_wall_at (Some w) env-at) (rw (← minute, ← before, not-false prev.present n, ← is, b))
         (more-part 0 64 (omega arith) (changed (remembering value) x m refl refl ow ew))
 
     pub catches-up : (set : Bool) (window : ℕ) {r : Carried} {ow ew ow' ew' : List ℕ} → not prev.present ≡ false → set ≡ is_set_back prev.value value → set ≡ false
-        → window ≡ window_of prev.value value → Fires 64 (fire_window env-at value window) (with_vol v x) ow ew r ow' ew' → Fires 64 (fire_wall_at (some w) env-at) x ow ew r ow' ew'
+        → window ≡ window_of prev.value value → Fires 64 (fire_window env-at value window) (with_vol v x) ow ew r ow' ew' → Fires 64 (fire_wall_at (Some w) env-at) x ow ew r ow' ew'
     unfolding make_up
     catches-up set window n is b e f =
-        same-part 64 (λ y. fire_window env-at value window (remembering value y)) (fire_wall_at (some w) env-at) (rw (e, ← minute, ← before, not-false prev.present n, ← is, b))
+        same-part 64 (λ y. fire_window env-at value window (remembering value y)) (fire_wall_at (Some w) env-at) (rw (e, ← minute, ← before, not-false prev.present n, ← is, b))
         (after-change (remembering value) x m refl refl 64 (fire_window env-at value window) f)
 
 pub remember-room : (x : Carried) {v : List ℕ} (value n : ℕ) → Means v (base x.vol) (remembering value (meaning x.vol)) → Room n x → Room n (with_vol v x)
@@ -108,7 +108,7 @@ remember-room x value n m a = room_after (remembering value) x m refl refl n a
 
 -- ---- without a clock
 abbrev forget : model-state.Volatile → model-state.Volatile
-forget v = with_rest (with_prev_week_min none v.rest) v
+forget v = with_rest (with_prev_week_min None v.rest) v
 
 pub forgets : (image v w u : List ℕ) {has : Bool} → has ≡ has_wall_triggers image (meaning v).rest
     → Means w (base v) (count_missed has (meaning v)) → Means u (base w) (forget (meaning w)) → Means u (base v) (without_wall image (meaning v))
@@ -117,7 +117,7 @@ forgets image v w u {has} is a b = rw is at (follows forget w u (base v) (count_
 
 -- ---- the clock that a snapshot has
 module _ (snapshot image : List ℕ) {o : MaybeWall} (is : wall_option o ≡ (world_of snapshot).wall) where
-  pub with-clock : (w : WallTime) (v : model-state.Volatile) → o ≡ wall.Known w → fire_wall_schedules (tick_env snapshot image) v ≡ fire_wall_at (some (wall_record w)) (tick_env snapshot image) v
+  pub with-clock : (w : WallTime) (v : model-state.Volatile) → o ≡ wall.Known w → fire_wall_schedules (tick_env snapshot image) v ≡ fire_wall_at (Some (wall_record w)) (tick_env snapshot image) v
   unfolding fire_wall_schedules tick_env
   with-clock w v h = rw (← is, h)
 

@@ -1,6 +1,6 @@
 -- The next deadline.
 use Rattle.std.specs.Prelude.{ℕ, ◌≡◌, Bool, true, false, List, ◌++◌, map}
-use Rattle.std.proofs.Math.Option.{Option, none, some}
+use Rattle.std.specs.Prelude.{Option, None, Some}
 use Rattle.model.specs.State.{RuleSet, Store}
 use Rattle.model.specs.Steps.{FlatStep}
 use Rattle.model.specs.Wheel.{least, wall_poll}
@@ -20,8 +20,8 @@ LeastWith times best r = (others : List ℕ) → option64 best ≡ least others 
 
 -- a store of these parts
 abbrev pub set_if : Bool → List ℕ → List (List FlatStep) → Option RuleSet
-set_if false image flat = none
-set_if true image flat = some (record { image = image; flat = flat })
+set_if false image flat = None
+set_if true image flat = Some (record { image = image; flat = flat })
 
 abbrev pub store_of : List ℕ → Bool → List (List FlatStep) → List ℕ → ℕ → Store
 store_of image loaded flat v last = record { now = last; loaded = set_if loaded image flat; vol = meaning v }

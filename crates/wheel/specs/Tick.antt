@@ -1,6 +1,6 @@
 -- What a part of a tick does.
 use Rattle.std.specs.Prelude.{ℕ, ◌≡◌, Bool, true, cond, ◌||◌, List, map, ltb, take}
-use Rattle.std.proofs.Math.Option.{none, some}
+use Rattle.std.specs.Prelude.{None, Some}
 use Rattle.model.specs.Activate as model
 use Rattle.model.specs.Flat.{flatten_rules, set_of}
 use Rattle.model.specs.Image.{size_of}
@@ -34,7 +34,7 @@ pub record Holds (store image : List ℕ) : Type 0 where
 
 -- a continuation is one of the set's rules
 abbrev pub fits_set : List ℕ → Pending → Bool
-fits_set image c = pending_fits (some (set_of image (flatten_rules image))) c
+fits_set image c = pending_fits (Some (set_of image (flatten_rules image))) c
 
 -- the records at some indices, as the store has them; each index is that of a place in its table
 abbrev pub records_in : List ℕ → List ℕ → List Pending
@@ -98,8 +98,8 @@ count_missed missed v = model-state.with_rest (cond missed (bump ticks_time_unsy
 
 -- the minute of a tick
 abbrev pub remembering : ℕ → model-state.Volatile → model-state.Volatile
-remembering minute v = model-state.with_rest (with_prev_week_min (some minute) v.rest) v
+remembering minute v = model-state.with_rest (with_prev_week_min (Some minute) v.rest) v
 
 -- without a wall clock the minute before is forgotten
 unfoldable pub without_wall : List ℕ → model-state.Volatile → model-state.Volatile
-without_wall img v = model-state.with_rest (with_prev_week_min none (cond (has_wall_triggers img v.rest) (bump ticks_time_unsynced v.rest) v.rest)) v
+without_wall img v = model-state.with_rest (with_prev_week_min None (cond (has_wall_triggers img v.rest) (bump ticks_time_unsynced v.rest) v.rest)) v

@@ -1,7 +1,7 @@
 // The wall schedules: what has become due since the minute of the tick before, at most an hour of it; nothing where the clock was set back by
 // up to two hours. Document 01, "Tick"; document 02, request 5.
 ghost use Rattle.std.specs.Prelude.{◌≡◌, false, ◌<◌, ◌≤◌};
-ghost use Rattle.std.proofs.Math.Option.{some};
+ghost use Rattle.std.specs.Prelude.{Some};
 ghost use Rattle.model.specs.Image.{size_of};
 ghost use Rattle.model.specs.Rows.{rules};
 ghost use Rattle.model.specs.Rules.{name_order};
@@ -207,7 +207,7 @@ fn fire_wall_at(
 ) -> Handled
     requires holds { Holds store.now image.now × Ordered image.now order }
     requires room { Room 64 (carried v.old x) × WallInRange (wall_record w) }
-    ensures { Fires 64 (fire_wall_at (some (wall_record w)) (tick_env snapshot.now image.now)) (carried v.old x) outcomes.old effects.old (carried v.new result) outcomes.new effects.new }
+    ensures { Fires 64 (fire_wall_at (Some (wall_record w)) (tick_env snapshot.now image.now)) (carried v.old x) outcomes.old effects.old (carried v.new result) outcomes.new effects.new }
 {
     let prev = state::prev_week_min(v);
     let minute = week_minute(w);

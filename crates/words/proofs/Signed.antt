@@ -56,16 +56,16 @@ read-sign f t = rw (to_z-of_z f) at t
 
 -- the sign that a test found rules out the other constructor
 pub never-below : {X : Type 0} (n : ℕ) → le_z (pos 0) (pos n) ≡ false → X
-never-below n h = absurd (none (leb-false 0 n h))
+never-below n h = absurd (None (leb-false 0 n h))
   where
-    none : n < 0 → ⊥
-    none l = omega arith
+    None : n < 0 → ⊥
+    None l = omega arith
 
 pub never-above : {X : Type 0} (n : ℕ) → le_z (pos 0) (negsuc n) ≡ true → X
-never-above n h = absurd (none (cc))
+never-above n h = absurd (None (cc))
   where
-    none : ◌≡◌ {A = ℕ} 0 1 → ⊥
-    none e = omega arith
+    None : ◌≡◌ {A = ℕ} 0 1 → ⊥
+    None e = omega arith
 
 -- what the cast `x as u64` asks
 abbrev pub Casts : ℤ → Type 0

@@ -1,6 +1,6 @@
 -- `curve::level_of` meets its contract. Assumes nothing.
 use mathlib.Core.Path.{refl, ap, ◌∙◌}
-use mathlib.Core.Option.{some}
+use Rattle.std.specs.Prelude.{Some}
 use native.Mathlib.Omega.{arith}
 use native.Mathlib.Numerals.{add-one}
 use Rattle.curve.specs.Curve.{curve}
@@ -27,4 +27,4 @@ pub overflow_add-result : goal.overflow_add-result
 overflow_add-result c = record { fits = omega (arith, place_inside _ _ c.nearest_place-place.ensures) }
 
 pub returns : goal.returns
-returns c = ap some (add-one _ ∙ c.nearest_place-place.ensures) ∙ level-within _ _ c.ranges.ppm (stored-bits _ _ c.ranges.ppm c.bits_of-bits.ensures) c.if-bits-lt-LEAST.false c.if-bits-gt-FULL.false
+returns c = ap Some (add-one _ ∙ c.nearest_place-place.ensures) ∙ level-within _ _ c.ranges.ppm (stored-bits _ _ c.ranges.ppm c.bits_of-bits.ensures) c.if-bits-lt-LEAST.false c.if-bits-gt-FULL.false

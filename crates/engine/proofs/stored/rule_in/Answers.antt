@@ -1,6 +1,6 @@
 -- `engine::stored::rule_in` meets its contract. Assumes nothing.
 use mathlib.Core.Path.{sym, ◌∙◌, ap}
-use mathlib.Core.Option.{Option}
+use Rattle.std.specs.Prelude.{Option}
 use borrow.Author.Tests.{not-true, not-false}
 use Rattle.model.specs.State.{RuleSet}
 use Rattle.model.specs.Calls.{rule_in}

@@ -1,6 +1,6 @@
 -- `eval::compare::compared` meets its contract. Assumes nothing.
 use mathlib.Core.Path.{ap, ◌∙◌}
-use mathlib.Core.Option.{some}
+use Rattle.std.specs.Prelude.{Some}
 use Rattle.eval.proofs.Numbers.{stored-compared}
 use Rattle.eval.proofs.compare.compared.Goals as goal
 
@@ -11,4 +11,4 @@ returns-in-Value-right c =
     let fits = c.in-Value.known_told-1-own.given.0.1 in
     let right-fits = c.in-Value-right.known_told-in-Value-1-own.given.0.1 in
     let test = c.compare_i64.ensures ∙ stored-compared c.args.cmp a z (record { sfits = fits }) (record { sfits = right-fits }) in
-    rw (c.in-Value.is, c.in-Value-right.is) (c.verdict.ensures ∙ ap some test)
+    rw (c.in-Value.is, c.in-Value-right.is) (c.verdict.ensures ∙ ap Some test)

@@ -1,6 +1,6 @@
 -- `eval::state_conditions::compare_var` meets its contract. Assumes nothing.
 use mathlib.Core.Path.{ap, ◌∙◌}
-use mathlib.Core.Option.{some}
+use Rattle.std.specs.Prelude.{Some}
 use Rattle.model.specs.Eval.{eval_condition}
 use Rattle.model.specs.World.{is_one}
 use Rattle.state.specs.Meaning.{meaning}
@@ -19,7 +19,7 @@ returns-in-Text c = λ flat.
     let a = c.args in
     let e = env_of a.snapshot.now a.image.now flat in
     let text = text-compared e (meaning a.v.now).rest c.in-Text.t a.cmp (is_one a.tag) a.operand in
-    rw (← c.variable.ensures, c.in-Found.is, c.in-Text.is) (c.verdict.ensures ∙ ap some c.compare_texts.ensures ∙ text)
+    rw (← c.variable.ensures, c.in-Found.is, c.in-Text.is) (c.verdict.ensures ∙ ap Some c.compare_texts.ensures ∙ text)
 
 pub returns-in-Absent : goal.returns-in-Absent
 unfolding eval_condition

@@ -1,6 +1,6 @@
 -- `eval::values::variable` meets its contract. Assumes nothing.
 use mathlib.Core.Path.{ap, ◌∙◌}
-use mathlib.Core.Option.{some}
+use Rattle.std.specs.Prelude.{Some}
 use mir.Facts.{to_z-of_z}
 use mir.Syntax.{w64}
 use Rattle.eval.proofs.values.variable.Goals as goal
@@ -8,7 +8,7 @@ use Rattle.eval.proofs.values.variable.Goals as goal
 pub returns-in-Int : goal.returns-in-Int
 returns-in-Int c =
     let number = to_z-of_z {w = w64} (record { sfits = c.as_i64.type_inv }) ∙ c.as_i64.ensures in
-    rw (← c.variable.ensures, c.in-Found.is, c.in-Int.is) (ap some number)
+    rw (← c.variable.ensures, c.in-Found.is, c.in-Int.is) (ap Some number)
 
 pub returns-in-Text : goal.returns-in-Text
 returns-in-Text c = rw (← c.variable.ensures, c.in-Found.is, c.in-Text.is)

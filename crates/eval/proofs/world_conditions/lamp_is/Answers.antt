@@ -1,12 +1,12 @@
 -- `eval::world_conditions::lamp_is` meets its contract. Assumes nothing.
 use mathlib.Core.Path.{ap, ◌∙◌}
-use mathlib.Core.Option.{some}
+use Rattle.std.specs.Prelude.{Some}
 use Rattle.model.specs.Eval.{eval_condition}
 use Rattle.eval.proofs.world_conditions.lamp_is.Goals as goal
 
 pub returns-in-Known : goal.returns-in-Known
 unfolding eval_condition
-returns-in-Known c = λ image flat s. rw (← c.lamp.ensures, c.in-Known.is) (c.verdict.ensures ∙ ap some c.same.ensures)
+returns-in-Known c = λ image flat s. rw (← c.lamp.ensures, c.in-Known.is) (c.verdict.ensures ∙ ap Some c.same.ensures)
 
 pub returns-in-Absent : goal.returns-in-Absent
 unfolding eval_condition

@@ -1,7 +1,7 @@
 -- `eval::world_conditions::time_in_range` meets its contract. Assumes nothing.
 use mathlib.Core.Path.{◌∙◌}
 use mathlib.Core.Bool.{Bool}
-use mathlib.Core.Option.{Option}
+use Rattle.std.specs.Prelude.{Option}
 use Rattle.model.specs.Eval.{bound_at, eval_condition}
 use Rattle.model.specs.World.{WallTime}
 use Rattle.world.specs.Values.{wall_option}

@@ -193,8 +193,8 @@ flatten_list-flatten_action-requires t c =
     let a = c.args in
     let q = c.requires in
     let l = c.loop-i.invariant in
-    let some : a.count ≡ 0 → ⊥ = λ e. omega (arith, l.0.from, c.loop-i-test.true) in (
-      omega (arith, left_is a.count (length a.acts.now / 8 - a.first) some, c.decreases, q.count_in_bounds, l.0.from, c.loop-i-test.true),
+    let Some : a.count ≡ 0 → ⊥ = λ e. omega (arith, l.0.from, c.loop-i-test.true) in (
+      omega (arith, left_is a.count (length a.acts.now / 8 - a.first) Some, c.decreases, q.count_in_bounds, l.0.from, c.loop-i-test.true),
       (
         start-next q.start l.1 (omega arith) (omega (arith, l.0.less)) (omega (arith, l.0.few')),
         (omega (arith, q.count_in_bounds, c.loop-i-test.true), omega arith),

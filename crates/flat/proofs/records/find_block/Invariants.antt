@@ -1,7 +1,7 @@
 -- `flat::records::find_block` meets its contract: what is left to search is what the whole search finds. Assumes nothing.
 use mathlib.Core.Path.{◌≡◌}
 use mathlib.Core.List.{List, [], map}
-use mathlib.Core.Option.{Option}
+use Rattle.std.specs.Prelude.{Option}
 use Prim.Native.Nat.{ℕ, ◌-◌, ◌/◌, ◌≤◌}
 use lib.Dec.{eqb}
 use lib.ListN.{length}

@@ -2,24 +2,25 @@
 use mathlib.Core.Path.{◌≡◌, refl, sym, ap, ◌∙◌}
 use mathlib.Core.Bool.{true, false}
 use mathlib.Core.List.{List, [], ◌∷◌}
-use mathlib.Core.Option.{none, some}
+use Rattle.std.specs.Prelude.{None, Some}
 use Prim.Native.Nat.{ℕ, zero, suc, ◌+◌, ◌≤◌, ◌<◌}
 use native.Mathlib.Numerals.{add-one}
 use native.Mathlib.Nat.{add-zero}
 use native.Mathlib.Omega.{arith}
 use borrow.Author.Rules.{rules}
 use borrow.Author.Tests.{eq-eqb, ne_eqb}
-use lib.ListN.{length, take, drop, get_or, get_elem?}
+use lib.ListN.{length, take, drop, get_or}
+use Rattle.std.specs.Prelude.{slice_get}
 use lib.Seq.{length-take-le, drop-cons, get_or-take}
 use Rattle.flat.specs.Words.{same_at}
 use Rattle.flat.proofs.steps.same_at.Goals as goal
 
-get_none : (l : List ℕ) (i : ℕ) → length l ≤ i → get_elem? l i ≡ none
+get_none : (l : List ℕ) (i : ℕ) → length l ≤ i → slice_get l i ≡ None
 get_none [] i h = refl
 get_none (x ∷ l) zero h = absurd (omega arith)
 get_none (x ∷ l) (suc i) h = get_none l i (omega arith)
 
-get-some : (l : List ℕ) (i : ℕ) → i < length l → get_elem? l i ≡ some (get_or l i 0)
+get-some : (l : List ℕ) (i : ℕ) → i < length l → slice_get l i ≡ Some (get_or l i 0)
 get-some [] i h = absurd (omega arith)
 get-some (x ∷ l) zero h = refl
 get-some (x ∷ l) (suc i) h = get-some l i (omega arith)

@@ -1,5 +1,5 @@
 -- `script::read::items` meets its contract. Assumes nothing.
-use mathlib.Core.Option.{none, some}
+use Rattle.std.specs.Prelude.{None, Some}
 use native.Mathlib.Omega.{arith}
 use borrow.Author.Rules.{rules}
 use lib.ListN.{length, drop}
@@ -17,7 +17,7 @@ shape_of-list-in-End c = c.loop-w.invariant.1.same
 pub returns-in-End : goal.returns-in-End
 returns-in-End c =
     let t = rw c.loop-w.invariant.1.same at c.item-s.ensures in
-    filled-ends (list_from c.args.call (length c.args.list.now) 0 (words_of (drop c.args.at c.args.text.now))) (list_from c.args.call (length c.args.list.now) c.loop-w.n (words_of (drop c.loop-w.i c.args.text.now))) c.args.list.now c.loop-w.list c.loop-w.n c.loop-w.invariant.1 none (at-list-end c.args.text.now c.loop-w.i c.args.call c.loop-w.n (length c.args.list.now) t c.in-End.is)
+    filled-ends (list_from c.args.call (length c.args.list.now) 0 (words_of (drop c.args.at c.args.text.now))) (list_from c.args.call (length c.args.list.now) c.loop-w.n (words_of (drop c.loop-w.i c.args.text.now))) c.args.list.now c.loop-w.list c.loop-w.n c.loop-w.invariant.1 None (at-list-end c.args.text.now c.loop-w.i c.args.call c.loop-w.n (length c.args.list.now) t c.in-End.is)
 
 pub shape_of-list-in-Stop : goal.shape_of-list-in-Stop
 shape_of-list-in-Stop c = c.loop-w.invariant.1.same
@@ -25,7 +25,7 @@ shape_of-list-in-Stop c = c.loop-w.invariant.1.same
 pub returns-in-Stop : goal.returns-in-Stop
 returns-in-Stop c =
     let t = rw c.loop-w.invariant.1.same at c.item-s.ensures in
-    filled-ends (list_from c.args.call (length c.args.list.now) 0 (words_of (drop c.args.at c.args.text.now))) (list_from c.args.call (length c.args.list.now) c.loop-w.n (words_of (drop c.loop-w.i c.args.text.now))) c.args.list.now c.loop-w.list c.loop-w.n c.loop-w.invariant.1 (some c.in-Stop.w) (at-list-stop c.args.text.now c.loop-w.i c.args.call c.loop-w.n (length c.args.list.now) t c.in-Stop.w c.in-Stop.is)
+    filled-ends (list_from c.args.call (length c.args.list.now) 0 (words_of (drop c.args.at c.args.text.now))) (list_from c.args.call (length c.args.list.now) c.loop-w.n (words_of (drop c.loop-w.i c.args.text.now))) c.args.list.now c.loop-w.list c.loop-w.n c.loop-w.invariant.1 (Some c.in-Stop.w) (at-list-stop c.args.text.now c.loop-w.i c.args.call c.loop-w.n (length c.args.list.now) t c.in-Stop.w c.in-Stop.is)
 
 pub offset_bounds-list-n : goal.offset_bounds-list-n
 offset_bounds-list-n c =

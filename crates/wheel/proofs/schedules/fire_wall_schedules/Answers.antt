@@ -1,5 +1,5 @@
 -- `wheel::schedules::fire_wall_schedules` meets its contract. Assumes nothing.
-use mathlib.Core.Option.{some}
+use Rattle.std.specs.Prelude.{Some}
 use Rattle.model.specs.Wheel.{fire_wall_at, fire_wall_schedules}
 use Rattle.world.specs.Values.{wall_record}
 use Rattle.world.proofs.Laws.{wall-known}
@@ -24,7 +24,7 @@ without_clock-requires c =
 pub returns-in-Known : goal.returns-in-Known
 returns-in-Known c =
     let e = tick_env c.args.snapshot.now c.args.image.now in
-    same-part 64 (fire_wall_at (some (wall_record _)) e) (fire_wall_schedules e) (with-clock c.args.snapshot.now c.args.image.now c.wall.ensures _ _ c.in-Known.is) c.fire_wall_at.ensures
+    same-part 64 (fire_wall_at (Some (wall_record _)) e) (fire_wall_schedules e) (with-clock c.args.snapshot.now c.args.image.now c.wall.ensures _ _ c.in-Known.is) c.fire_wall_at.ensures
 
 pub returns-in-Absent : goal.returns-in-Absent
 returns-in-Absent c =
