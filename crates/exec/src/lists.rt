@@ -21,7 +21,7 @@ fn decode(kind: u32, a: u32, b: u32, c: u32) -> Step
 
 // The step at a place of a list.
 pub fn step_at(list: &[u32], place: u32) -> MaybeStep
-    ensures { step_option result ≡ get_elem? (steps_in list.now) place }
+    ensures { step_option result ≡ slice_get (steps_in list.now) place }
 {
     let i = place as usize * 4;
     if i + 4 <= list.len() {

@@ -1,8 +1,11 @@
-// The data types that the specification and the code share, and no logic. Names and fields are the Rust's; a field that is an index
+// The data types that the specification and the code share, and no logic but a refusal's number. Names and fields are the Rust's; a field that is an index
 // leads into a table of the image, and a nested list is its first record and its count.
 
 // What a word of a record may be: document 01, refusals 13, 14 and 21.
 #![tactic(auto)]
+
+ghost use Rattle.std.specs.Prelude.{◌≡◌};
+ghost use Rattle.model.specs.Refusals.{refusal_code};
 
 #[derive(Clone, Copy)]
 pub enum Field {
@@ -411,4 +414,45 @@ pub enum TelegramAnswer {
 pub enum Element {
     Malformed,
     Range(u32, u32),
+}
+
+// Why a call is refused, by the numbers of document 01 ("Who can cause a refusal") and of the change requests; the lowest number wins.
+#[derive(Clone, Copy, PartialEq, Eq)]
+pub enum Refusal {
+    // Host.
+    StoreLength = 1,
+    StoreRule = 2,
+    // Rule author.
+    ImageLength = 10,
+    LimitRange = 11,
+    TablePlace = 12,
+    FieldRange = 13,
+    ListRange = 14,
+    RuleName = 15,
+    FlatSteps = 16,
+    TooMany = 17,
+    // Bus driver.
+    SnapshotLength = 20,
+    SnapshotRange = 21,
+    RowAddress = 22,
+    // Host.
+    LentStores = 30,
+    SequenceNumber = 31,
+    ActivationNumber = 32,
+    // Programmes from a crontab.
+    LineForm = 50,
+    DayOrMonth = 51,
+    TriggerStore = 52,
+    // Fewer telegrams.
+    EffectWords = 60,
+    TelegramStore = 61,
+}
+
+// What a call of the C interface answers.
+impl From<Refusal> for u32 {
+    ghost from_gives = { λ refusal number. number ≡ refusal_code refusal };
+
+    fn from(refusal: Refusal) -> u32 {
+        refusal as u32
+    }
 }

@@ -159,7 +159,7 @@ found s at from to a b =
     record {
       within = b.within;
       behind = a.behind;
-      Some = b.behind;
+      some = b.behind;
       word = sym a.same ∙ b.word;
       left = b.left ∙ ap past_word a.left;
     }
