@@ -101,7 +101,7 @@ module _ (b after : List ℕ) (o r : Stream) (answer : List ℕ) where
 
 -- the next start, by its mark
 module _ (b after : List ℕ) (o r : Stream) (answer : List ℕ) (mark : ℕ) (e : mark ≡ get_or answer 0 0) where
-  pub gathers-no-start : mark ≡ 0 → Gathers b o (bytes_of " None") after r → Gathers b o (start_text answer) after r
+  pub gathers-no-start : mark ≡ 0 → Gathers b o (bytes_of " none") after r → Gathers b o (start_text answer) after r
   unfolding start_text
   gathers-no-start h g = rw (← e, eq-eqb mark 0 h) g
 

@@ -97,7 +97,7 @@ trigger_lines answer ws =
 -- "start none", "start unknown", or in how many minutes and which rule, by the answer's mark
 unfoldable pub start_text : List ℕ → List ℕ
 start_text answer =
-    pick (eqb (get_or answer 0 0) 0) (bytes_of " None")
+    pick (eqb (get_or answer 0 0) 0) (bytes_of " none")
     (pick (eqb (get_or answer 0 0) 1) (numbers (words_at answer 1 2)) (bytes_of " unknown"))
 
 unfoldable pub start_lines : List ℕ → List ℕ → List ℕ

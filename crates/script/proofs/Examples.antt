@@ -78,7 +78,7 @@ four-numbers = refl
 
 others :
     handled_line 5 0 1 ++ enabled_line 5 true ++ deadline_line None ++ deadline_line (Some 18446744073709551615) ++ peek_line 13691 2 ++ refused_line 1 10
-    ≡ bytes_of "run 0 1\nenable 5 yes\ndeadline None\ndeadline 18446744073709551615\npeek 13691 2\nload refused 10\n"
+    ≡ bytes_of "run 0 1\nenable 5 yes\ndeadline none\ndeadline 18446744073709551615\npeek 13691 2\nload refused 10\n"
 unfolding handled_line enabled_line deadline_line peek_line refused_line call_name rows line numbers decimal digits digit_count
 others = refl
 

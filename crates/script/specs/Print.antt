@@ -55,7 +55,7 @@ unfoldable pub enabled_line : ℕ → Bool → List ℕ
 enabled_line rule found = line (bytes_of "enable") (numbers (rule ∷ []) ++ pick found (bytes_of " yes") (bytes_of " no"))
 
 unfoldable pub deadline_line : Option ℕ → List ℕ
-deadline_line None = line (bytes_of "deadline") (bytes_of " None")
+deadline_line None = line (bytes_of "deadline") (bytes_of " none")
 deadline_line (Some time) = line (bytes_of "deadline") (numbers (time ∷ []))
 
 unfoldable pub peek_line : ℕ → ℕ → List ℕ
