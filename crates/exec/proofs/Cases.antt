@@ -24,9 +24,6 @@ use Rattle.model.specs.Eval.{value_at}
 use Rattle.model.specs.Actions.{Job, emits, no_effect, fails, hold_or, prim_light, prim_recall, prim_apply, prim_cycle, cycle_effect, level_at, selects, dims, arm_timer, var_set, prim_var_set, var_add, set_rule_bit, run_prim}
 use Rattle.model.specs.declared.Action.TheVariants.{Light, Recall, Apply, Cycle, Percent, PanelSelect, TimerStart, TimerRestart, TimerCancel, VarSet, VarAdd}
 use Rattle.curve.specs.Curve.{level_of}
-use Rattle.curve.specs.Level.{level_in}
-use Rattle.curve.specs.declared.Level.{Level}
-use Rattle.curve.specs.declared.Level.TheVariants.{At, Nothing}
 use Rattle.state.specs.Named.{found_value}
 use Rattle.state.specs.declared.variables.VarFound.{VarFound}
 use Rattle.state.specs.declared.variables.VarFound.TheVariants.{Absent, Found}
@@ -67,10 +64,10 @@ module _ (e : Env) (j : Job) (s : Rest) where
     unfolding run_prim
     percent v level p = rw p
 
-    pub dim-at : (level : Level) (n h : ℕ) → level ≡ At n → h ≡ hold_or hold j.hold → emits s 12 target n h 0 ≡ dims e j s target hold (level_in level)
+    pub dim-at : (level : Option ℕ) (n h : ℕ) → level ≡ Some n → h ≡ hold_or hold j.hold → emits s 12 target n h 0 ≡ dims e j s target hold level
     dim-at level n h p q = rw (p, q)
 
-    pub dim-none : (level : Level) → level ≡ Nothing → fails s ≡ dims e j s target hold (level_in level)
+    pub dim-none : (level : Option ℕ) → level ≡ None → fails s ≡ dims e j s target hold level
     dim-none level p = rw p
 
   module _ (answer scene : ℕ) where

@@ -11,8 +11,6 @@ use Rattle.model.specs.declared.Effect.{Effect}
 use Rattle.model.specs.Steps.{FlatStep}
 use Rattle.model.specs.declared.VarValue.{VarValue}
 use Rattle.model.specs.Eval.{value_at}
-use Rattle.curve.specs.Level.{level_in}
-use Rattle.curve.specs.declared.Level.{Level}
 use Rattle.state.specs.Meaning.{Sound, Means, meaning, base}
 use Rattle.eval.specs.Answers.{env_of}
 use Rattle.exec.specs.declared.Job.{Job}
@@ -71,8 +69,8 @@ Selects image j v adapter group n r =
     (snapshot : List ℕ) (flat : List (List FlatStep)) → Does v r (model.selects (env_of snapshot image flat) (job_of j) (meaning v).rest adapter group n)
 
 -- the level of value i
-abbrev pub LevelAt : List ℕ → List ℕ → Rest → ℕ → Level → Type 0
-LevelAt snapshot image s i r = (flat : List (List FlatStep)) → level_in r ≡ model.level_at (value_at (env_of snapshot image flat) s i)
+abbrev pub LevelAt : List ℕ → List ℕ → Rest → ℕ → Option ℕ → Type 0
+LevelAt snapshot image s i r = (flat : List (List FlatStep)) → r ≡ model.level_at (value_at (env_of snapshot image flat) s i)
 
 abbrev pub Dims : Job → List ℕ → ℕ → ℕ → Option ℕ → ActionDone → Type 0
 Dims j v target hold level r = (e : Env) → Does v r (model.dims e (job_of j) (meaning v).rest target hold level)

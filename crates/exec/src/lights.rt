@@ -4,7 +4,6 @@ ghost use Rattle.model.specs.Actions.{hold_or};
 ghost use Rattle.model.specs.Lists.{or_else};
 ghost use Rattle.model.specs.State.{cycle_pos_at};
 ghost use Rattle.model.specs.declared.Action.TheVariants.{Light, Recall, Apply, Cycle, Percent};
-ghost use Rattle.curve.specs.Level.{level_in};
 ghost use Rattle.image.specs.Sized.{Sized};
 ghost use Rattle.state.specs.Meaning.{Sound, meaning};
 ghost use Rattle.exec.specs.Done.{action_done};
@@ -12,7 +11,6 @@ ghost use Rattle.exec.specs.Results.{Performs, PerformsIn, LevelAt, Dims};
 
 use crate::answers::{emits, fails, no_effect};
 use crate::{Job, PrimResult};
-use curve::Level;
 use eval::Number;
 use eval::values::value_at;
 use rows::OptionU32;
@@ -106,24 +104,24 @@ pub fn cycle(image: &[u32], v: &mut [u32], job: Job, first: u32, count: u32) -> 
 }
 
 // A level, or none.
-fn dim(v: &mut [u32], job: Job, target: u32, hold: u32, level: Level) -> PrimResult
+fn dim(v: &mut [u32], job: Job, target: u32, hold: u32, level: Option<u32>) -> PrimResult
     requires { Sound v.old }
-    ensures { Dims job v.old target hold (level_in level) (action_done v.new result) }
+    ensures { Dims job v.old target hold level (action_done v.new result) }
 {
     match level {
-        Level::At(n) => emits(LEVEL, target, n, hold_or(hold, job.hold), 0),
-        Level::Nothing => fails(v),
+        Some(n) => emits(LEVEL, target, n, hold_or(hold, job.hold), 0),
+        None => fails(v),
     }
 }
 
 // The level of value i, where it can be evaluated and has one.
-fn level_at(snapshot: &[u32], image: &[u32], v: &[u32], i: u32) -> Level
+fn level_at(snapshot: &[u32], image: &[u32], v: &[u32], i: u32) -> Option<u32>
     requires { Sized image.now × Sound v.now }
     ensures { LevelAt snapshot.now image.now (meaning v.now).rest i result }
 {
     match value_at(snapshot, image, v, i) {
         Number::Value(n) => curve::level_of(n),
-        Number::Unevaluable => Level::Nothing,
+        Number::Unevaluable => None,
     }
 }
 
