@@ -1,37 +1,9 @@
--- `store::checks::texts_short` meets its contract. The invariant: the answer is that of the rest. Assumes nothing.
-use mathlib.Core.Path.{sym, ◌∙◌}
-use native.Mathlib.Omega.{arith}
+-- `store::checks::texts_short` meets its contract. Assumes nothing.
+use Rattle.std.proofs.Common.{refl, rules}
 use Rattle.model.specs.Parts.{variable_row}
 use Rattle.model.specs.Store.{text_short}
-use borrow.Author.Tests.{not-true, not-false}
-use Rattle.store.proofs.Rest.{goes, leaves, ends}
-use Rattle.store.proofs.Rules.{all_start, all-loop}
+use Rattle.store.proofs.Rules.{all_rows}
 use Rattle.store.proofs.checks.texts_short.Goals as goal
 
-pub loop-i-init : goal.loop-i-init
-loop-i-init c = (omega arith, all_start text_short variable_row _ _ c.args.k _ (omega arith))
-
-pub overflow_mul-i : goal.overflow_mul-i
-overflow_mul-i c = omega arith
-
-pub overflow_add-k : goal.overflow_add-k
-overflow_add-k c = omega arith
-
-pub text_short-requires : goal.text_short-requires
-text_short-requires c = omega arith
-
-pub returns-then-not-text_short : goal.returns-then-not-text_short
-returns-then-not-text_short c = leaves (all-loop text_short variable_row _ _) _ _ _ c.loop-i-test.true c.loop-i.invariant.1 (sym c.text_short.ensures ∙ not-true _ c.if-not-text_short.true-raw)
-
-pub overflow_add-i : goal.overflow_add-i
-overflow_add-i c = omega arith
-
-pub loop-i-smaller : goal.loop-i-smaller
-loop-i-smaller c = omega arith
-
-pub loop-i-preserved : goal.loop-i-preserved
-loop-i-preserved c =
-    (omega arith, goes (all-loop text_short variable_row _ _) _ _ _ _ c.loop-i-test.true c.loop-i.invariant.1 (sym c.text_short.ensures ∙ not-false _ c.if-not-text_short.false-raw) (omega arith))
-
 pub returns : goal.returns
-returns c = ends (all-loop text_short variable_row _ _) _ _ _ c.loop-i.invariant.0 c.loop-i-test.false c.loop-i.invariant.1
+returns c = all_rows text_short variable_row _ _ refl _ _ _ _ _ c.all.ensures.ran (λ i a q h. search rules)
