@@ -23,9 +23,6 @@ use Rattle.model.specs.Calls.{load, unload, enable, done, refused, enabled, answ
 use Rattle.model.proofs.Bools.{join}
 use Rattle.model.proofs.PartsLaws.{variable-laws, timer-laws}
 use Rattle.model.proofs.PartsLaws as parts_laws
-use Rattle.image.specs.Found.{found}
-use Rattle.image.specs.declared.rule.Found.{Found}
-use Rattle.image.specs.declared.rule.Found.TheVariants.{At, Nothing}
 use Rattle.counters.specs.Counters as counters
 use Rattle.counters.specs.declared.Counters.{Counters}
 use Rattle.model.specs.OnWords.{call_on}
@@ -173,7 +170,7 @@ enable-call : (rule : ℕ) (on : Bool) (s : Store) (o : Option ℕ) → rule_in 
 unfolding call call_enable
 enable-call rule on s o e = ap (λ (x : Option ℕ). enabling x rule on s) e
 
-pub enable-no : (rule : ℕ) (on : Bool) (w : List ℕ) (k : Said w) (r : Found) → r ≡ found (rule_in k.store.loaded rule) → r ≡ Nothing
+pub enable-no : (rule : ℕ) (on : Bool) (w : List ℕ) (k : Said w) (r : Option ℕ) → r ≡ rule_in k.store.loaded rule → r ≡ None
     → shown (Enabled false) w [] [] ≡ seen (call_on (enable rule on) w)
 enable-no rule on w k r e n =
     let s = k.store in
@@ -181,7 +178,7 @@ enable-no rule on w k r e n =
     let a = enabled false in
     call-seen (enable rule on) w w [] [] s (Enabled false) a (enable-on rule on w) k.is (ap (λ (x : calls.Done). x.answer) d) (same-enabled false) (sym k.written ∙ sym (ap (λ (x : calls.Done). write x.store) d)) (no-outcomes 0 a refl) (no-effects 0 a refl)
 
-pub enable-yes : (rule i : ℕ) (on : Bool) (w w₁ : List ℕ) (u : List ℕ) (k : Said w) (r : Found) → r ≡ found (rule_in k.store.loaded rule) → r ≡ At i
+pub enable-yes : (rule i : ℕ) (on : Bool) (w w₁ : List ℕ) (u : List ℕ) (k : Said w) (r : Option ℕ) → r ≡ rule_in k.store.loaded rule → r ≡ Some i
     → AllNumbered u (flipped rule i on k.store.vol) → Wrote w (meaning u) w₁ → shown (Enabled true) w₁ [] [] ≡ seen (call_on (enable rule on) w)
 enable-yes rule i on w w₁ u k r e n a h =
     let s = k.store in

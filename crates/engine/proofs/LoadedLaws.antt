@@ -21,9 +21,6 @@ use Rattle.model.specs.Store.{read, rule_count}
 use Rattle.model.specs.Calls.{kept_at, kept, rule_in}
 use Rattle.model.proofs.RowLaws.{word_laws, wide_laws, word_blank, wide-blank, maybe-laws}
 use Rattle.image.proofs.Rules.{named_rule}
-use Rattle.image.specs.Found.{found}
-use Rattle.image.specs.declared.rule.Found.{Found}
-use Rattle.image.specs.declared.rule.Found.TheVariants.{At, Nothing}
 use Rattle.store.specs.Set.{loaded_in}
 use Rattle.store.specs.FlatPart.{Kept}
 use Rattle.store.specs.Places.{activations_place, positions_place}
@@ -88,15 +85,15 @@ inside : (o : Option RuleSet) (name i : ℕ) → rule_in o name ≡ Some i → i
 inside None name i e = absurd (none-some i e)
 inside (Some set) name i e = (named_rule set.image name i e).0
 
-module _ (o : Option RuleSet) (xs : List (Option ℕ)) (name : ℕ) (r : Found) (e : r ≡ found (rule_in o name)) where
+module _ (o : Option RuleSet) (xs : List (Option ℕ)) (name : ℕ) (r : Option ℕ) (e : r ≡ rule_in o name) where
   abbrev of_rules : List (Option ℕ)
   of_rules = take (rule_count o) xs
 
-  pub nothing-kept : r ≡ Nothing → length xs ≡ 64 → get_or xs 64 None ≡ kept o of_rules name
+  pub nothing-kept : r ≡ None → length xs ≡ 64 → get_or xs 64 None ≡ kept o of_rules name
   nothing-kept n l =
       get_or-eq_default xs None (omega arith) ∙ sym (ap (λ (x : Option ℕ). kept_at x of_rules) (found_none (rule_in o name) r e n)) ∙ kept-place o of_rules name
 
-  pub kept_there : (i : ℕ) → r ≡ At i → get_or xs i None ≡ kept o of_rules name
+  pub kept_there : (i : ℕ) → r ≡ Some i → get_or xs i None ≡ kept o of_rules name
   kept_there i n =
       let q = found_at (rule_in o name) r i e n in
       sym (get_or-take (rule_count o) xs i None (inside o name i q)) ∙ sym (ap (λ (x : Option ℕ). kept_at x of_rules) q) ∙ kept-place o of_rules name

@@ -19,7 +19,6 @@ ghost use Rattle.engine.specs.Handling.{begun, ran_in, ticked_in, Commits};
 
 use crate::{Answer, stored};
 use activate::{Handled, Mode};
-use image::rule::Found;
 use state::place::WORDS;
 use store::set::{image_in, is_loaded};
 
@@ -129,8 +128,8 @@ fn run_rule(
         effects: 0,
     };
     match stored::rule_in(store, rule) {
-        Found::Nothing => x,
-        Found::At(i) => run_at(store, snapshot, outcomes, effects, v, x, rule, i, dry),
+        None => x,
+        Some(i) => run_at(store, snapshot, outcomes, effects, v, x, rule, i, dry),
     }
 }
 

@@ -15,7 +15,6 @@ ghost use Rattle.engine.specs.Answers.{shown};
 ghost use Rattle.engine.specs.Sets.{cleared, rule_of, rules_of};
 
 use crate::{Answer, stored};
-use image::rule::Found;
 use rows::read;
 use state::place::{MAX_RULES, WORDS};
 use store::table;
@@ -36,8 +35,8 @@ fn old_place(store: &[u32], name: u32) -> usize
     ensures { (s : Store) (xs : List (Option ℕ)) → read store.now ≡ Some s → length xs ≡ 64 → get_or xs result None ≡ kept s.loaded (take (rule_count s.loaded) xs) name }
 {
     match stored::rule_in(store, name) {
-        Found::Nothing => MAX_RULES,
-        Found::At(i) => i as usize,
+        None => MAX_RULES,
+        Some(i) => i as usize,
     }
 }
 

@@ -6,14 +6,12 @@ ghost use Rattle.model.specs.State.{Store};
 ghost use Rattle.model.specs.Store.{read, rule_count};
 ghost use Rattle.model.specs.Calls.{enable, deadline, counters, rule_in};
 ghost use Rattle.model.specs.OnWords.{call_on};
-ghost use Rattle.image.specs.Found.{found};
 ghost use Rattle.state.specs.Meaning.{AllNumbered, state_words};
 ghost use Rattle.rows.specs.Options.{option64};
 ghost use Rattle.engine.specs.Seen.{seen, refusal_of};
 ghost use Rattle.engine.specs.Answers.{shown, shown_counters, deadline_is};
 
 use crate::{Answer, Counted};
-use image::rule::Found;
 use rows::{OptionU64, read};
 use state::place::WORDS;
 use store::set::{image_in, is_loaded};
@@ -53,12 +51,12 @@ pub fn begin(store: &[u32], v: &mut [u32])
 }
 
 // The rule of a name in the loaded set.
-pub fn rule_in(store: &[u32], name: u32) -> Found
+pub fn rule_in(store: &[u32], name: u32) -> Option<u32>
     requires { present (read store.now) ≡ true }
-    ensures { (s : Store) → read store.now ≡ Some s → result ≡ found (rule_in s.loaded name) }
+    ensures { (s : Store) → read store.now ≡ Some s → result ≡ rule_in s.loaded name }
 {
     if !is_loaded(store) {
-        return Found::Nothing;
+        return None;
     }
     image::rule::rule_named(image_in(store), name)
 }
@@ -119,8 +117,8 @@ pub fn enable(store: &mut [u32], rule: u32, on: bool) -> Answer
     ensures { shown result store.new [] [] ≡ seen (call_on (enable rule on) store.old) }
 {
     match rule_in(store, rule) {
-        Found::Nothing => Answer::Enabled(false),
-        Found::At(i) => {
+        None => Answer::Enabled(false),
+        Some(i) => {
             let mut v = [0u32; WORDS];
             begin(store, &mut v);
             state::rules::set_enabled(&mut v, rule, i as usize, on);

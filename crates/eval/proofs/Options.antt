@@ -1,5 +1,5 @@
 -- Answers of other crates as options, and the steps of the definitions on them. Assumes nothing.
-use mathlib.Core.Path.{◌≡◌, refl}
+use mathlib.Core.Path.{◌≡◌, refl, sym}
 use mathlib.Core.Bool.{Bool, true, false}
 use Rattle.std.specs.Prelude.{Option, None, Some}
 use Prim.Native.Nat.{ℕ}
@@ -10,20 +10,14 @@ use Rattle.model.specs.Eval.{compare_var}
 use Rattle.model.specs.Lists.{◌>>=◌}
 use Rattle.model.specs.State.{Env, Rest}
 use Rattle.model.specs.declared.VarValue.TheVariants.{Text}
-use Rattle.image.specs.declared.rule.Found.TheVariants.{At, Nothing}
-use Rattle.image.specs.Found.{found}
 use Rattle.eval.specs.Answers.{compared_by, text_compared, in_range}
 
 -- the place of a rule that was found, and none
-pub found_at : (o : Option ℕ) (i : ℕ) → At i ≡ found o → o ≡ Some i
-unfolding found
-found_at None i e = let z : ◌≡◌ {A = ℕ} 0 1 = cc in absurd (omega arith)
-found_at (Some j) i e = let p : i ≡ j = cc in rw p
+pub found_at : (o : Option ℕ) (i : ℕ) → Some i ≡ o → o ≡ Some i
+found_at o i e = sym e
 
-pub found_none : (o : Option ℕ) → Nothing ≡ found o → o ≡ None
-unfolding found
-found_none None e = refl
-found_none (Some j) e = let z : ◌≡◌ {A = ℕ} 0 1 = cc in absurd (omega arith)
+pub found_none : (o : Option ℕ) → None ≡ o → o ≡ None
+found_none o e = sym e
 
 -- a number that is known against one that may be missing
 pub known-compared : (cmp : ℕ) {x y : ℤ} {o p : Option ℤ} → x ≡ y → o ≡ p → compared_by cmp (Some x) o ≡ (p >>= λ z. Some (compare_i64 cmp y z))

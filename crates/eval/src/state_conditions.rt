@@ -13,7 +13,6 @@ ghost use Rattle.eval.specs.Equals.{Evaluates, EvaluatesIn, EvaluatesKept, Compa
 use crate::compare::{compare_text, compared, verdict};
 use crate::values::value_at;
 use crate::{Number, Verdict};
-use image::rule::Found;
 use model::VarValue;
 use rows::OptionU64;
 use state::variables::VarFound;
@@ -25,8 +24,8 @@ pub fn rule_enabled(image: &[u32], v: &[u32], rule: u32) -> Verdict
     ensures { EvaluatesIn image.now (meaning v.now).rest (condition.RuleEnabled rule) result }
 {
     match image::rule::rule_named(image, rule) {
-        Found::At(i) => verdict(state::rules::is_enabled(v, i as usize)),
-        Found::Nothing => Verdict::No,
+        Some(i) => verdict(state::rules::is_enabled(v, i as usize)),
+        None => Verdict::No,
     }
 }
 
@@ -54,11 +53,11 @@ pub fn last_fired_older_than(
     ensures { Evaluates snapshot.now image.now (meaning v.now).rest (condition.LastFiredOlderThan rule ms) result }
 {
     match image::rule::rule_named(image, rule) {
-        Found::At(i) => {
+        Some(i) => {
             let last = state::rules::last_activation(v, i as usize);
             verdict(older_than(snapshot, ms, last))
         }
-        Found::Nothing => Verdict::Yes,
+        None => Verdict::Yes,
     }
 }
 

@@ -12,8 +12,6 @@ use Rattle.model.specs.State as model-state
 use Rattle.model.specs.Calls.{flipped}
 use Rattle.model.specs.State.{Rest, with_rest, with_enabled, add_timer, with_vars, put_var}
 use Rattle.model.specs.declared.VarValue.{VarValue}
-use Rattle.image.specs.Found.{found}
-use Rattle.image.specs.declared.rule.Found.TheVariants.{At, Nothing}
 use Rattle.state.specs.Meaning.{Means, meaning, base}
 use Rattle.state.specs.Named.{armed, assigned, lacks_room}
 use Rattle.exec.specs.Results.{Does, struck}
@@ -36,15 +34,11 @@ follows f v w r s m d =
     }
 
 -- a search by name
-pub found_at : (o : Option ℕ) (i : ℕ) → At i ≡ found o → Some i ≡ o
-unfolding found
-found_at None i e = cc
-found_at (Some k) i e = cc
+pub found_at : (o : Option ℕ) (i : ℕ) → Some i ≡ o → Some i ≡ o
+found_at o i e = e
 
-pub found_nothing : (o : Option ℕ) → Nothing ≡ found o → None ≡ o
-unfolding found
-found_nothing None e = refl
-found_nothing (Some k) e = cc
+pub found_nothing : (o : Option ℕ) → None ≡ o → None ≡ o
+found_nothing o e = e
 
 -- a state that takes one more timer, and one more value of a variable
 pub armed-wet : (v w : List ℕ) (name due : ℕ) → leb 16 (length (meaning v).rest.timers) ≡ false → Means w (base v) (armed name due (meaning v)) → Means w (base v) (with_rest (add_timer name due (meaning v).rest) (meaning v))

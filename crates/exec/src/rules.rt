@@ -8,7 +8,6 @@ ghost use Rattle.exec.specs.Results.{SetsBit};
 
 use crate::answers::{fails, no_effect};
 use crate::{Job, PrimResult};
-use image::rule::Found;
 
 fn set_bit_at(v: &mut [u32], job: Job, rule: u32, i: u32, on: bool) -> PrimResult
     requires { Sound v.old }
@@ -26,7 +25,7 @@ pub fn set_rule_bit(image: &[u32], v: &mut [u32], job: Job, rule: u32, on: bool)
     ensures { SetsBit job v.old rule on (rule_named image.now rule) (action_done v.new result) }
 {
     match image::rule::rule_named(image, rule) {
-        Found::At(i) => set_bit_at(v, job, rule, i, on),
-        Found::Nothing => fails(v),
+        Some(i) => set_bit_at(v, job, rule, i, on),
+        None => fails(v),
     }
 }

@@ -10,7 +10,7 @@ ghost use Rattle.activate.specs.Handled.{Room};
 ghost use Rattle.wheel.specs.Tick.{Holds, HasRecords, Fires, fits_set, are_indices, records_in, tick_env};
 
 use activate::{Handled, resume};
-use image::rule::{Found, rule_named};
+use image::rule::rule_named;
 use model::Pending;
 use state::pending::{due_now, without_due};
 use store::flat_part::{rule_own, rule_steps};
@@ -32,12 +32,12 @@ fn resume_one(
     ensures { Fires 1 (model.resume (tick_env snapshot.now image.now) c) (carried v.old x) outcomes.old effects.old (carried v.new result) outcomes.new effects.new }
 {
     match rule_named(image, c.rule) {
-        Found::At(i) => {
+        Some(i) => {
             let part = rule_steps(store, i);
             let own = rule_own(store, i);
             resume(snapshot, image, part, own, outcomes, effects, v, x, i, c)
         }
-        Found::Nothing => x,
+        None => x,
     }
 }
 

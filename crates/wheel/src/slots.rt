@@ -7,7 +7,7 @@ ghost use Rattle.wheel.specs.Tick.{Holds, Fires, tick_env, rules_of_slot, rules_
 
 use crate::rules::activate_if_enabled;
 use activate::Handled;
-use image::rule::{Found, rule_named};
+use image::rule::rule_named;
 use model::EverySlot;
 use state::slots::{due_slots, move_slots};
 
@@ -29,10 +29,10 @@ fn fire_slot(
     ensures { Fires 1 (activate_each (tick_env snapshot.now image.now) by_every (rules_of_slot image.now slot)) (carried v.old x) outcomes.old effects.old (carried v.new result) outcomes.new effects.new }
 {
     match rule_named(image, slot.rule) {
-        Found::At(i) => activate_if_enabled(
+        Some(i) => activate_if_enabled(
             snapshot, image, store, outcomes, effects, v, x, i, BY_EVERY,
         ),
-        Found::Nothing => x,
+        None => x,
     }
 }
 

@@ -11,22 +11,22 @@ use Rattle.engine.proofs.handle.run_rule.Goals as goal
 pub run_at-requires : goal.run_at-requires
 run_at-requires c =
     record {
-      store_value = (c.requires.0, λ t e. found_at (rule_in t.loaded c.args.rule) _ _ (c.rule_in.ensures t e) c.in-At.is);
+      store_value = (c.requires.0, λ t e. found_at (rule_in t.loaded c.args.rule) _ _ (c.rule_in.ensures t e) c.in-Some.is);
       room = room-begun c.args.v.now _ c.requires.1;
     }
 
-pub returns-in-Nothing : goal.returns-in-Nothing
-returns-in-Nothing c s e =
+pub returns-in-None : goal.returns-in-None
+returns-in-None c s e =
     let a = c.args in
     let v = a.v.now in
-    let n = found_none (rule_in s.loaded a.rule) _ (c.rule_in.ensures s e) c.in-Nothing.is in
+    let n = found_none (rule_in s.loaded a.rule) _ (c.rule_in.ensures s e) c.in-None.is in
     rw (ran-nothing s.loaded a.rule a.dry a.snapshot.now (meaning v) n) (nothing-done (begun v) _ _ c.requires.1.sound)
 
-pub returns-in-At : goal.returns-in-At
-returns-in-At c s e =
+pub returns-in-Some : goal.returns-in-Some
+returns-in-Some c s e =
     let a = c.args in
     let v = a.v.now in
-    let q = found_at (rule_in s.loaded a.rule) _ _ (c.rule_in.ensures s e) c.in-At.is in
+    let q = found_at (rule_in s.loaded a.rule) _ _ (c.rule_in.ensures s e) c.in-Some.is in
     let l = set-of s.loaded a.rule _ q in
     continues-as (begun v) _ _ _ _ _ _ _
     (ran-rule s.loaded l.0 a.rule _ a.dry a.snapshot.now (meaning v) l.1 q)

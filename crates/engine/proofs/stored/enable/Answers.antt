@@ -15,14 +15,14 @@ put_state-requires c =
     let k = said _ c.requires in
     (k.long, itself (flipped-numbers _ _ k.store c.args.rule _ c.args.on (c.begin.ensures k.store k.is) c.set_enabled.ensures))
 
-pub returns-in-Nothing : goal.returns-in-Nothing
-returns-in-Nothing c =
+pub returns-in-None : goal.returns-in-None
+returns-in-None c =
     let k = said _ c.requires in
-    enable-no c.args.rule c.args.on _ k _ (c.rule_in.ensures k.store k.is) c.in-Nothing.is
+    enable-no c.args.rule c.args.on _ k _ (c.rule_in.ensures k.store k.is) c.in-None.is
 
-pub returns-in-At : goal.returns-in-At
-returns-in-At c =
+pub returns-in-Some : goal.returns-in-Some
+returns-in-Some c =
     let k = said _ c.requires in
-    enable-yes c.args.rule _ c.args.on _ _ _ k _ (c.rule_in.ensures k.store k.is) c.in-At.is
+    enable-yes c.args.rule _ c.args.on _ _ _ k _ (c.rule_in.ensures k.store k.is) c.in-Some.is
     (flipped-numbers _ _ k.store c.args.rule _ c.args.on (c.begin.ensures k.store k.is) c.set_enabled.ensures)
     c.put_state.ensures

@@ -5,10 +5,10 @@ use Rattle.model.specs.Eval.{eval_condition}
 use Rattle.eval.proofs.Options.{found_at, found_none}
 use Rattle.eval.proofs.state_conditions.rule_enabled.Goals as goal
 
-pub returns-in-At : goal.returns-in-At
+pub returns-in-Some : goal.returns-in-Some
 unfolding eval_condition
-returns-in-At c = λ snapshot flat. rw (found_at _ _ (sym c.in-At.is ∙ c.rule_named.ensures)) (c.verdict.ensures ∙ ap Some c.is_enabled.ensures)
+returns-in-Some c = λ snapshot flat. rw (found_at _ _ (sym c.in-Some.is ∙ c.rule_named.ensures)) (c.verdict.ensures ∙ ap Some c.is_enabled.ensures)
 
-pub returns-in-Nothing : goal.returns-in-Nothing
+pub returns-in-None : goal.returns-in-None
 unfolding eval_condition
-returns-in-Nothing c = λ snapshot flat. rw (found_none _ (sym c.in-Nothing.is ∙ c.rule_named.ensures))
+returns-in-None c = λ snapshot flat. rw (found_none _ (sym c.in-None.is ∙ c.rule_named.ensures))

@@ -17,18 +17,18 @@ rule_named-requires c =
 pub resume-requires : goal.resume-requires
 resume-requires c =
     let h = c.requires.holds.0 in
-    let n = found_at _ _ (sym c.in-At.is ∙ c.rule_named.ensures) in
+    let n = found_at _ _ (sym c.in-Some.is ∙ c.rule_named.ensures) in
     record {
       accepted = (image-accepted _ h.accepted, part-fits _ _ _ h.kept _ (named_rule _ _ _ n).0 _ _ c.rule_steps-part.ensures c.rule_own-own.ensures h.accepted, n);
       budget_bound = (small-budget _ _ c.requires.holds.1 h.accepted, c.requires.room);
     }
 
-pub returns-in-At : goal.returns-in-At
-returns-in-At c =
-    let n = found_at _ _ (sym c.in-At.is ∙ c.rule_named.ensures) in
+pub returns-in-Some : goal.returns-in-Some
+returns-in-Some c =
+    let n = found_at _ _ (sym c.in-Some.is ∙ c.rule_named.ensures) in
     let says = part_says _ _ _ c.requires.holds.0.kept _ (named_rule _ _ _ n).0 _ _ c.rule_steps-part.ensures c.rule_own-own.ensures in
     resumed c.args.snapshot.now c.args.image.now _ _ _ (carried c.args.v.now c.args.x) _ _ _ _ _ says c.args.c c.resume.ensures
 
-pub returns-in-Nothing : goal.returns-in-Nothing
-returns-in-Nothing c =
-    absurd (has-rule _ _ c.requires.holds.1 (found_none _ (sym c.in-Nothing.is ∙ c.rule_named.ensures)))
+pub returns-in-None : goal.returns-in-None
+returns-in-None c =
+    absurd (has-rule _ _ c.requires.holds.1 (found_none _ (sym c.in-None.is ∙ c.rule_named.ensures)))

@@ -18,16 +18,16 @@ rule_named-requires c =
 pub activate_if_enabled-requires : goal.activate_if_enabled-requires
 activate_if_enabled-requires c =
     record {
-      holds = (c.requires.holds, (named_rule _ _ _ (found_at _ _ (sym c.in-At.is ∙ c.rule_named.ensures))).0);
+      holds = (c.requires.holds, (named_rule _ _ _ (found_at _ _ (sym c.in-Some.is ∙ c.rule_named.ensures))).0);
       room = c.requires.room;
     }
 
-pub returns-in-At : goal.returns-in-At
-returns-in-At c =
+pub returns-in-Some : goal.returns-in-Some
+returns-in-Some c =
     let e = tick_env c.args.snapshot.now c.args.image.now in
-    same-part 1 (activate_if_enabled e by_every _) (activate_each e by_every (rules_of_slot c.args.image.now c.args.slot)) (slot_of e c.args.image.now c.args.slot _ _ (found_at _ _ (sym c.in-At.is ∙ c.rule_named.ensures))) c.activate_if_enabled.ensures
+    same-part 1 (activate_if_enabled e by_every _) (activate_each e by_every (rules_of_slot c.args.image.now c.args.slot)) (slot_of e c.args.image.now c.args.slot _ _ (found_at _ _ (sym c.in-Some.is ∙ c.rule_named.ensures))) c.activate_if_enabled.ensures
 
-pub returns-in-Nothing : goal.returns-in-Nothing
-returns-in-Nothing c =
+pub returns-in-None : goal.returns-in-None
+returns-in-None c =
     let e = tick_env c.args.snapshot.now c.args.image.now in
-    skips 1 (activate_each e by_every (rules_of_slot c.args.image.now c.args.slot)) (carried c.args.v.now c.args.x) _ _ c.requires.room.sound (slot-none e c.args.image.now c.args.slot _ (found_none _ (sym c.in-Nothing.is ∙ c.rule_named.ensures)))
+    skips 1 (activate_each e by_every (rules_of_slot c.args.image.now c.args.slot)) (carried c.args.v.now c.args.x) _ _ c.requires.room.sound (slot-none e c.args.image.now c.args.slot _ (found_none _ (sym c.in-None.is ∙ c.rule_named.ensures)))
