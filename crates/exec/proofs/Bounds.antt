@@ -137,5 +137,5 @@ same-list e j b sp Fail v = after_list None (actions.fails v.rest) (advance sp 0
 
 pub keeps-list :
     (e : Env) (j : actions.Job) (b : ℕ) (sp : Point) (x : Step) (v : List ℕ) (d : StepDone) → paid.Steps v d (exec e j b sp x (meaning v))
-    → (or_else sp (paid.next_option d.next)).list ≡ sp.list
+    → (or_else sp (d.next)).list ≡ sp.list
 keeps-list e j b sp x v d s = ap (λ (o : Option Point). (or_else sp o).list) s.next ∙ same-list e j b sp x (meaning v)

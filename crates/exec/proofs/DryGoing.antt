@@ -22,9 +22,9 @@ use Rattle.model.specs.declared.Step.TheVariants.{Primitive, Wait, Branch, After
 use Rattle.flat.specs.Words.{Says}
 use Rattle.state.specs.Meaning.{Sound, meaning, base}
 use Rattle.eval.specs.Answers.{env_of}
-use Rattle.exec.specs.Results.{effect_option, job_of}
+use Rattle.exec.specs.Results.{job_of}
 use Rattle.lent_words.specs.PutEffects.{put_effects}
-use Rattle.exec.specs.Lists.{step_option, step_in}
+use Rattle.exec.specs.Lists.{step_in}
 use Rattle.exec.specs.Runs.{Finished, finished}
 use Rattle.exec.specs.DryRuns.{bodies_of, queued_by, SameRun, Queues, Moved, DrySteps, DryTaken, DryMachine, dry_machine, finish_dry, left_dry, DryTurned, DryFinishes, RunsDry}
 use Rattle.exec.specs.declared.Job.{Job}
@@ -32,8 +32,6 @@ use Rattle.exec.specs.Done.{DryRunNow, RunDone, StepDone}
 use Rattle.lent_words.proofs.Written.{put-append}
 use Rattle.exec.proofs.Going.{few, reason-none, reason-assoc}
 use Rattle.exec.proofs.DryQueue.{is-step}
-use Rattle.exec.specs.declared.MaybeStep.{MaybeStep}
-use Rattle.exec.specs.declared.MaybeStep.TheVariants.{Nothing, One}
 
 -- ---- one turn
 step-bodies : (e : Env) (j : actions.Job) (x : Step) (sp : Point) (qs : List Point) (s : Rest) → (dry_step e j x sp qs s).bodies ≡ queued_by x sp qs
@@ -92,23 +90,23 @@ taken_is run q r x words exit d y k t s z =
     let n : r.point ≡ y.next = t.point ∙ ap (or_else q.point) s.next in
     let b : bodies_of r ≡ y.bodies = t.bodies ∙ k.says ∙ sym z in
     let a : r.reason ≡ first_reason run.reason y.reason = t.reason ∙ ap (λ (i : ℕ). first_reason i d.reason) k.same.reason ∙ ap (first_reason run.reason) s.reason in
-    let c : r.count ≡ run.count + length (to_list y.effect) = t.count ∙ ap (λ (i : ℕ). i + length (to_list (effect_option d.effect))) k.same.count ∙ ap (λ (o : Option Effect). run.count + length (to_list o)) s.effect in
-    let w : exit ≡ put_effects words run.count (to_list y.effect) = t.written ∙ ap (λ (i : ℕ). put_effects words i (to_list (effect_option d.effect))) k.same.count ∙ ap (λ (o : Option Effect). put_effects words run.count (to_list o)) s.effect in
+    let c : r.count ≡ run.count + length (to_list y.effect) = t.count ∙ ap (λ (i : ℕ). i + length (to_list d.effect)) k.same.count ∙ ap (λ (o : Option Effect). run.count + length (to_list o)) s.effect in
+    let w : exit ≡ put_effects words run.count (to_list y.effect) = t.written ∙ ap (λ (i : ℕ). put_effects words i (to_list d.effect)) k.same.count ∙ ap (λ (o : Option Effect). put_effects words run.count (to_list o)) s.effect in
     rw (v, s.state.says, n, b, a, c, w)
 
-module _ (snapshot image part : List ℕ) (own : ℕ) (job : Job) (run r : DryRunNow) (words : List ℕ) (m : MaybeStep) (moved : Moved part own run r) (at : step_option m ≡ step_in part own r.point) where
-  here : (flat : List (List FlatStep)) → Says part own (get_or flat job.index []) → step_option m ≡ step_at (env_of snapshot image flat).set job.index r.point
+module _ (snapshot image part : List ℕ) (own : ℕ) (job : Job) (run r : DryRunNow) (words : List ℕ) (m : Option Step) (moved : Moved part own run r) (at : m ≡ step_in part own r.point) where
+  here : (flat : List (List FlatStep)) → Says part own (get_or flat job.index []) → m ≡ step_at (env_of snapshot image flat).set job.index r.point
   here flat e = at ∙ is-step part own r.point (env_of snapshot image flat) (job_of job) e
 
   pub turn-ends-dry :
-      m ≡ Nothing → Sound run.vol
+      m ≡ None → Sound run.vol
       → DryTurned snapshot image part own job run words (record { vol = r.vol; point = r.point; bodies = r.bodies; first = r.first; queued = r.queued; reason = r.reason; count = r.count; ended = true }) words
   turn-ends-dry n s =
       record {
         says = λ flat b e g.
             let E = env_of snapshot image flat in
             let none_left : next_step E (job_of job) run.point (bodies_of run) ≡ None =
-            moved.says E (job_of job) e ∙ ap (λ (o : Option Step). found o r.point (bodies_of r) None) (sym (here flat e) ∙ ap step_option n) in
+            moved.says E (job_of job) e ∙ ap (λ (o : Option Step). found o r.point (bodies_of r) None) (sym (here flat e) ∙ n) in
             ended-anywhere E (job_of job) b (dry_machine run words) _ (ap meaning moved.same.vol) moved.same.reason moved.same.count refl
             ∙ turn-none E (job_of job) b (dry_machine run words) none_left;
         sound = subst Sound (sym moved.same.vol) s;
@@ -119,7 +117,7 @@ module _ (snapshot image part : List ℕ) (own : ℕ) (job : Job) (run r : DryRu
       }
 
   pub turn-steps-dry :
-      (x : Step) (d : StepDone) (q f : DryRunNow) (exit : List ℕ) → m ≡ One x
+      (x : Step) (d : StepDone) (q f : DryRunNow) (exit : List ℕ) → m ≡ Some x
       → ((flat : List (List FlatStep)) (qs : List Point) → DrySteps r.vol d (dry_step (env_of snapshot image flat) (job_of job) x r.point qs (meaning r.vol).rest))
       → Queues r x q → DryTaken q words d f exit → DryTurned snapshot image part own job run words f exit
   turn-steps-dry x d q f exit n s k t =
@@ -127,7 +125,7 @@ module _ (snapshot image part : List ℕ) (own : ℕ) (job : Job) (run r : DryRu
         says = λ flat b e g.
             let E = env_of snapshot image flat in
             let next : next_step E (job_of job) run.point (bodies_of run) ≡ Some (record { step = x; point = r.point; bodies = bodies_of r }) =
-            moved.says E (job_of job) e ∙ ap (λ (o : Option Step). found o r.point (bodies_of r) None) (sym (here flat e) ∙ ap step_option n) in
+            moved.says E (job_of job) e ∙ ap (λ (o : Option Step). found o r.point (bodies_of r) None) (sym (here flat e) ∙ n) in
             let same : dry_machine f exit ≡ take_dry (dry_step E (job_of job) x r.point (bodies_of r) (meaning r.vol).rest) (dry_machine r words) =
             taken_is r q f x words exit d _ k t (s flat (bodies_of r)) (step-bodies E (job_of job) x r.point (bodies_of r) _) in
             ap (λ (z : Bool). left_dry z b E (job_of job) (dry_machine f exit)) (t.ended ∙ k.same.ended ∙ moved.same.ended ∙ g)
@@ -136,7 +134,7 @@ module _ (snapshot image part : List ℕ) (own : ℕ) (job : Job) (run r : DryRu
             ∙ turn-some E (job_of job) b (dry_machine run words) x r.point (bodies_of r) next;
         sound = subst Sound (sym t.vol) (s [] []).state.sound;
         based = ap (λ (v : List ℕ). base v) t.vol ∙ (s [] []).state.based ∙ ap (λ (v : List ℕ). base v) moved.same.vol;
-        count = omega (arith, t.count, k.same.count, moved.same.count, few (effect_option d.effect));
+        count = omega (arith, t.count, k.same.count, moved.same.count, few d.effect);
         fits = omega (arith, t.first, t.queued, k.fits);
         most = omega (arith, t.queued, k.most, moved.most);
       }

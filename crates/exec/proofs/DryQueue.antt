@@ -21,11 +21,9 @@ use Rattle.model.specs.declared.Point.{Point}
 use Rattle.model.specs.declared.Step.{Step}
 use Rattle.model.specs.declared.Step.TheVariants.{Primitive, Wait, Branch, After, Fail}
 use Rattle.flat.specs.Words.{steps_in, list_words, Says}
-use Rattle.exec.specs.Lists.{step_option, step_in}
+use Rattle.exec.specs.Lists.{step_in}
 use Rattle.exec.specs.DryRuns.{body_point, bodies_of, queued_by, SameRun, Queues, Moved}
 use Rattle.exec.specs.Done.{DryRunNow}
-use Rattle.exec.specs.declared.MaybeStep.{MaybeStep}
-use Rattle.exec.specs.declared.MaybeStep.TheVariants.{Nothing, One}
 use Rattle.exec.proofs.Decoded.{said}
 
 -- ---- the queue
@@ -94,16 +92,16 @@ module _ (run : DryRunNow) (x : Step) (fits : run.first ≤ run.queued) where
       }
 
 -- ---- the next step
-module _ (part : List ℕ) (own : ℕ) (list : List ℕ) (p : Point) (m : MaybeStep) (of : list ≡ list_words part own p.list) (at : step_option m ≡ slice_get (steps_in list) p.place) where
+module _ (part : List ℕ) (own : ℕ) (list : List ℕ) (p : Point) (m : Option Step) (of : list ≡ list_words part own p.list) (at : m ≡ slice_get (steps_in list) p.place) where
   -- the step at the point is what the code found
-  pub is_found : step_option m ≡ step_in part own p
+  pub is_found : m ≡ step_in part own p
   is_found = at ∙ ap (λ (w : List ℕ). slice_get (steps_in w) p.place) of
 
-  pub has-none : m ≡ Nothing → false ≡ present (step_in part own p)
-  has-none n = ap present (sym (ap step_option n) ∙ is_found)
+  pub has-none : m ≡ None → false ≡ present (step_in part own p)
+  has-none n = ap present (sym n ∙ is_found)
 
-  pub has_one : (x : Step) → m ≡ One x → true ≡ present (step_in part own p)
-  has_one x n = ap present (sym (ap step_option n) ∙ is_found)
+  pub has_one : (x : Step) → m ≡ Some x → true ≡ present (step_in part own p)
+  has_one x n = ap present (sym n ∙ is_found)
 
 -- the step of the rule
 pub is-step : (part : List ℕ) (own : ℕ) (p : Point) (e : Env) (j : actions.Job) → Says part own (get_or e.set.flat j.index []) → step_in part own p ≡ step_at e.set j.index p

@@ -22,16 +22,11 @@ use Rattle.model.specs.declared.Step.{Step}
 use Rattle.flat.specs.Words.{steps_in, list_words, Says}
 use Rattle.state.specs.Meaning.{Sound, meaning, base, accepted}
 use Rattle.eval.specs.Answers.{env_of}
-use Rattle.exec.specs.Results.{effect_option, job_of}
-use Rattle.exec.specs.Paid.{Steps, next_option}
+use Rattle.exec.specs.Results.{job_of}
+use Rattle.exec.specs.Paid.{Steps}
 use Rattle.lent_words.specs.PutEffects.{put_effects}
-use Rattle.exec.specs.Lists.{step_option}
 use Rattle.exec.specs.Runs.{Machine, machine, Finished, finished, finish, take_step, turn_with, turn_of, left_of, Taken, Turned, Finishes, Runs}
 use Rattle.exec.specs.declared.Job.{Job}
-use Rattle.exec.specs.declared.MaybeStep.{MaybeStep}
-use Rattle.exec.specs.declared.MaybeStep.TheVariants.{Nothing, One}
-use Rattle.exec.specs.declared.Next.{Next}
-use Rattle.exec.specs.declared.Next.TheVariants.{Ends, At}
 use Rattle.exec.specs.Done.{RunDone, RunNow, StepDone}
 use Rattle.lent_words.proofs.Written.{put-append}
 use Rattle.exec.proofs.Bounds.{accepts-one, keeps-list}
@@ -108,13 +103,13 @@ taken_is : (run r : RunNow) (w exit : List ℕ) (d : StepDone) (v : List ℕ) (x
 unfolding take_step
 taken_is run r w exit d v x t s = rw (t.vol, t.point, t.reason, t.count, t.written, t.ended, s.state.says, s.effect, s.reason, s.next)
 
-module _ (snapshot image list : List ℕ) (job : Job) (left : ℕ) (run : RunNow) (words : List ℕ) (found : MaybeStep) (at : step_option found ≡ slice_get (steps_in list) run.point.place) where
-  pub turn-ends : found ≡ Nothing → Sound run.vol → Turned snapshot image list job left run words (record { vol = run.vol; point = run.point; reason = run.reason; count = run.count; ended = true }) words
+module _ (snapshot image list : List ℕ) (job : Job) (left : ℕ) (run : RunNow) (words : List ℕ) (found : Option Step) (at : found ≡ slice_get (steps_in list) run.point.place) where
+  pub turn-ends : found ≡ None → Sound run.vol → Turned snapshot image list job left run words (record { vol = run.vol; point = run.point; reason = run.reason; count = run.count; ended = true }) words
   unfolding turn_with step_at
   turn-ends n s =
       record {
         says = λ flat l.
-            let o : None ≡ slice_get (list_in (get_or flat job.index []) run.point.list) run.point.place = sym (ap step_option n) ∙ at ∙ ap (λ (xs : List Step). slice_get xs run.point.place) l in
+            let o : None ≡ slice_get (list_in (get_or flat job.index []) run.point.list) run.point.place = sym n ∙ at ∙ ap (λ (xs : List Step). slice_get xs run.point.place) l in
             rw (← o);
         sound = s;
         based = refl;
@@ -124,7 +119,7 @@ module _ (snapshot image list : List ℕ) (job : Job) (left : ℕ) (run : RunNow
       }
 
   pub turn-steps :
-      (x : Step) (d : StepDone) (r : RunNow) (exit : List ℕ) → found ≡ One x
+      (x : Step) (d : StepDone) (r : RunNow) (exit : List ℕ) → found ≡ Some x
       → ((flat : List (List FlatStep)) → Steps run.vol d (exec (env_of snapshot image flat) (job_of job) left run.point x (meaning run.vol)))
       → Taken run words d r exit → Turned snapshot image list job left run words r exit
   turn-steps x d r exit n s t =
@@ -133,13 +128,13 @@ module _ (snapshot image list : List ℕ) (job : Job) (left : ℕ) (run : RunNow
         sound = subst Sound (sym t.vol) (s []).state.sound;
         based = ap (λ (v : List ℕ). base v) t.vol ∙ (s []).state.based;
         accepted = omega (arith, ap (λ (v : List ℕ). accepted v) t.vol, accepts-one (env_of snapshot image []) (job_of job) left run.point x run.vol d (s []));
-        count = omega (arith, t.count, few (effect_option d.effect));
+        count = omega (arith, t.count, few d.effect);
         same_list = ap (λ (p : Point). p.list) t.point ∙ keeps-list (env_of snapshot image []) (job_of job) left run.point x run.vol d (s []);
       }
     where
       steps : (flat : List (List FlatStep)) → steps_in list ≡ list_in (get_or flat job.index []) run.point.list → machine r exit ≡ turn_of (env_of snapshot image flat) (job_of job) left (machine run words)
       steps flat l =
-          let o : Some x ≡ slice_get (list_in (get_or flat job.index []) run.point.list) run.point.place = sym (ap step_option n) ∙ at ∙ ap (λ (xs : List Step). slice_get xs run.point.place) l in
+          let o : Some x ≡ slice_get (list_in (get_or flat job.index []) run.point.list) run.point.place = sym n ∙ at ∙ ap (λ (xs : List Step). slice_get xs run.point.place) l in
           taken_is run r words exit d run.vol _ t (s flat) ∙ turn_at (env_of snapshot image flat) (job_of job) left (machine run words) x o
 
 -- ---- the loop
@@ -229,8 +224,8 @@ module _ (list : List ℕ) (run : RunNow) (r : RunDone) (same : r.vol ≡ run.vo
         counted = counted;
       }
 
-  module _ (found : MaybeStep) (at : step_option found ≡ slice_get (steps_in list) run.point.place) (goes : run.ended ≡ false) where
-    pub finish-unpaid : ((o : Option Step) → step_option found ≡ o → r.reason ≡ first_reason run.reason (unpaid o)) → Finishes list run r
+  module _ (found : Option Step) (at : found ≡ slice_get (steps_in list) run.point.place) (goes : run.ended ≡ false) where
+    pub finish-unpaid : ((o : Option Step) → found ≡ o → r.reason ≡ first_reason run.reason (unpaid o)) → Finishes list run r
     unfolding step_at
     finish-unpaid q =
         record {
@@ -243,22 +238,22 @@ module _ (list : List ℕ) (run : RunNow) (r : RunDone) (same : r.vol ≡ run.vo
         }
 
 -- where no step is left, and where one is
-pub reason-past : (found : MaybeStep) (a b : ℕ) → found ≡ Nothing → b ≡ a → (o : Option Step) → step_option found ≡ o → b ≡ first_reason a (unpaid o)
-reason-past found a b n h o e = h ∙ sym (reason-none a) ∙ ap (λ (x : Option Step). first_reason a (unpaid x)) (sym (ap step_option n) ∙ e)
+pub reason-past : (found : Option Step) (a b : ℕ) → found ≡ None → b ≡ a → (o : Option Step) → found ≡ o → b ≡ first_reason a (unpaid o)
+reason-past found a b n h o e = h ∙ sym (reason-none a) ∙ ap (λ (x : Option Step). first_reason a (unpaid x)) (sym n ∙ e)
 
-pub reason-left : (found : MaybeStep) (x : Step) (a b : ℕ) → found ≡ One x → b ≡ first_reason a 2 → (o : Option Step) → step_option found ≡ o → b ≡ first_reason a (unpaid o)
-reason-left found x a b n h o e = h ∙ ap (λ (y : Option Step). first_reason a (unpaid y)) (sym (ap step_option n) ∙ e)
+pub reason-left : (found : Option Step) (x : Step) (a b : ℕ) → found ≡ Some x → b ≡ first_reason a 2 → (o : Option Step) → found ≡ o → b ≡ first_reason a (unpaid o)
+reason-left found x a b n h o e = h ∙ ap (λ (y : Option Step). first_reason a (unpaid y)) (sym n ∙ e)
 
 -- ---- taking a step over
-module _ (sp : Point) (n : Next) where
-  pub point-ends : n ≡ Ends → sp ≡ or_else sp (next_option n)
+module _ (sp : Point) (n : Option Point) where
+  pub point-ends : n ≡ None → sp ≡ or_else sp n
   point-ends h = rw h
 
-  pub ended-ends : n ≡ Ends → true ≡ not (present (next_option n))
+  pub ended-ends : n ≡ None → true ≡ not (present n)
   ended-ends h = rw h
 
-  pub point_at : (to : Point) → n ≡ At to → to ≡ or_else sp (next_option n)
+  pub point_at : (to : Point) → n ≡ Some to → to ≡ or_else sp n
   point_at to h = rw h
 
-  pub ended_at : (to : Point) → n ≡ At to → false ≡ not (present (next_option n))
+  pub ended_at : (to : Point) → n ≡ Some to → false ≡ not (present n)
   ended_at to h = rw h

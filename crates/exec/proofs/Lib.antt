@@ -2,9 +2,7 @@
 pub mod Follows
 pub mod Cases
 pub mod PoolWords
-pub mod Keys
 pub mod Stepped
-pub mod Written
 pub mod Decoded
 pub mod Bounds
 pub mod Going

@@ -24,8 +24,6 @@ use Rattle.model.specs.declared.Step.TheVariants.{Primitive, Wait, Branch, After
 use Rattle.state.specs.Meaning.{Means, meaning, base}
 use Rattle.exec.specs.Results.{Does}
 use Rattle.exec.specs.Paid.{Steps, reach}
-use Rattle.exec.specs.declared.MaybeEffect.TheVariants.{Nothing}
-use Rattle.exec.specs.declared.Next.TheVariants.{Ends, At}
 use Rattle.exec.specs.Done.{ActionDone, StepDone}
 
 pub steps-as : {v : List ℕ} {r : StepDone} {a b : model.StepResult} → Steps v r a → a ≡ b → Steps v r b
@@ -34,11 +32,11 @@ steps-as {v} {r} d e = subst (λ (x : model.StepResult). Steps v r x) e d
 -- what an action did
 pub after-does :
     (v : List ℕ) (a : ActionDone) (x : actions.PrimResult) (to : Point) → Does v a x
-    → Steps v (record { vol = a.vol; effect = a.effect; reason = a.reason; next = At to }) (after_prim x.disables x to (meaning v))
+    → Steps v (record { vol = a.vol; effect = a.effect; reason = a.reason; next = Some to }) (after_prim x.disables x to (meaning v))
 unfolding after_prim
 after-does v a x to d = go x.disables refl
   where
-    go : (o : Option ℕ) → x.disables ≡ o → Steps v (record { vol = a.vol; effect = a.effect; reason = a.reason; next = At to }) (after_prim o x to (meaning v))
+    go : (o : Option ℕ) → x.disables ≡ o → Steps v (record { vol = a.vol; effect = a.effect; reason = a.reason; next = Some to }) (after_prim o x to (meaning v))
     go None e = record { state = rw e at d.state; effect = d.effect; reason = d.reason; next = refl }
     go (Some q) e = record { state = rw e at d.state; effect = d.effect; reason = d.reason; next = refl }
 
@@ -54,13 +52,13 @@ module _ (e : Env) (j : actions.Job) (b : ℕ) (sp to : Point) (v : List ℕ) wh
   module _ (w : List ℕ) (ms reason : ℕ) where
     pub wait-is :
         to ≡ advance sp 0 → (let x = schedule e j b ms to (meaning v) in Means w (base v) x.vol × (reason ≡ x.reason))
-        → Steps v (record { vol = w; effect = Nothing; reason = reason; next = Ends }) (exec e j b sp (Wait ms) (meaning v))
+        → Steps v (record { vol = w; effect = None; reason = reason; next = None }) (exec e j b sp (Wait ms) (meaning v))
     unfolding exec
     wait-is t s = let u = rw t at s in record { state = u.0; effect = refl; reason = u.1; next = refl }
 
     pub after_is :
         (body : Point) → body ≡ body_start sp → to ≡ advance sp 0 → (let x = schedule e j b ms body (meaning v) in Means w (base v) x.vol × (reason ≡ x.reason))
-        → Steps v (record { vol = w; effect = Nothing; reason = reason; next = At to }) (exec e j b sp (After ms) (meaning v))
+        → Steps v (record { vol = w; effect = None; reason = reason; next = Some to }) (exec e j b sp (After ms) (meaning v))
     unfolding exec
     after_is body q t s = let u = rw q at s in record { state = u.0; effect = refl; reason = u.1; next = ap Some t }
 

@@ -1,9 +1,8 @@
 -- What an action, a step and a run answer, with the words of the state as they are then.
-use Rattle.std.specs.Prelude.{ℕ, Bool, List}
+use Rattle.std.specs.Prelude.{ℕ, Bool, List, Option}
+use Rattle.model.specs.declared.Effect.{Effect}
 use Rattle.model.specs.declared.Point.{Point}
 use Rattle.exec.specs.declared.DryRun.{DryRun}
-use Rattle.exec.specs.declared.MaybeEffect.{MaybeEffect}
-use Rattle.exec.specs.declared.Next.{Next}
 use Rattle.exec.specs.declared.PrimResult.{PrimResult}
 use Rattle.exec.specs.declared.Run.{Run}
 use Rattle.exec.specs.declared.RunResult.{RunResult}
@@ -12,7 +11,7 @@ use Rattle.exec.specs.declared.StepResult.{StepResult}
 -- what an action did
 pub record ActionDone : Type 0 where
   pub vol : List ℕ
-  pub effect : MaybeEffect
+  pub effect : Option Effect
   pub reason : ℕ
 
 abbrev pub action_done : List ℕ → PrimResult → ActionDone
@@ -21,9 +20,9 @@ action_done w r = record { vol = w; effect = r.effect; reason = r.reason }
 -- what one paid step did
 pub record StepDone : Type 0 where
   pub vol : List ℕ
-  pub effect : MaybeEffect
+  pub effect : Option Effect
   pub reason : ℕ
-  pub next : Next
+  pub next : Option Point
 
 abbrev pub step_done : List ℕ → StepResult → StepDone
 step_done w r = record { vol = w; effect = r.effect; reason = r.reason; next = r.next }

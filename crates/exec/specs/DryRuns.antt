@@ -17,8 +17,7 @@ use Rattle.model.specs.declared.Step.TheVariants.{Primitive, Wait, Branch, After
 use Rattle.flat.specs.Words.{Says}
 use Rattle.state.specs.Meaning.{Sound, Means, meaning, base}
 use Rattle.eval.specs.Answers.{env_of}
-use Rattle.exec.specs.Results.{effect_option, job_of}
-use Rattle.exec.specs.Paid.{next_option}
+use Rattle.exec.specs.Results.{job_of}
 use Rattle.lent_words.specs.PutEffects.{put_effects}
 use Rattle.exec.specs.Runs.{Finished, finished}
 use Rattle.exec.specs.Done.{DryRunNow, RunDone, StepDone}
@@ -27,9 +26,9 @@ use Rattle.exec.specs.declared.Job.{Job}
 -- from v the step came to r, and the specification to d
 pub record DrySteps (v : List ℕ) (r : StepDone) (d : model.DryStepResult) : Type 0 where
   pub state : Means r.vol (base v) (with_rest d.rest (meaning v))
-  pub effect : effect_option r.effect ≡ d.effect
+  pub effect : r.effect ≡ d.effect
   pub reason : r.reason ≡ d.reason
-  pub next : next_option r.next ≡ Some d.next
+  pub next : r.next ≡ Some d.next
 
 abbrev pub DryStepsIn : List ℕ → List ℕ → Job → List ℕ → Point → Step → StepDone → Type 0
 DryStepsIn snapshot image j v sp x r =
@@ -75,11 +74,11 @@ pub record Moved (part : List ℕ) (own : ℕ) (run r : DryRunNow) : Type 0 wher
 
 pub record DryTaken (run : DryRunNow) (words : List ℕ) (d : StepDone) (r : DryRunNow) (exit : List ℕ) : Type 0 where
   pub vol : r.vol ≡ d.vol
-  pub point : r.point ≡ or_else run.point (next_option d.next)
+  pub point : r.point ≡ or_else run.point d.next
   pub bodies : bodies_of r ≡ bodies_of run
   pub reason : r.reason ≡ first_reason run.reason d.reason
-  pub count : r.count ≡ run.count + length (to_list (effect_option d.effect))
-  pub written : exit ≡ put_effects words run.count (to_list (effect_option d.effect))
+  pub count : r.count ≡ run.count + length (to_list d.effect)
+  pub written : exit ≡ put_effects words run.count (to_list d.effect)
   pub ended : r.ended ≡ run.ended
   pub first : r.first ≡ run.first
   pub queued : r.queued ≡ run.queued

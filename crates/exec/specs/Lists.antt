@@ -1,6 +1,6 @@
 -- A rule's lists as words.
 use Rattle.std.specs.Prelude.{ℕ, ◌≤◌, ◌≡◌, Bool, true, List, leb, length}
-use Rattle.std.specs.Prelude.{Option, None, Some}
+use Rattle.std.specs.Prelude.{Option}
 use Rattle.std.specs.Prelude.{slice_get}
 use Rattle.model.specs.Flat.{list_in}
 use Rattle.model.specs.Lists.{all}
@@ -9,12 +9,6 @@ use Rattle.model.specs.declared.Point.{Point}
 use Rattle.model.specs.declared.Step.{Step}
 use Rattle.flat.specs.Words.{steps_in, list_words, Says}
 use Rattle.exec.specs.Paid.{reach}
-use Rattle.exec.specs.declared.MaybeStep.{MaybeStep}
-use Rattle.exec.specs.declared.MaybeStep.TheVariants.{Nothing, One}
-
-abbrev pub step_option : MaybeStep → Option Step
-step_option Nothing = None
-step_option (One x) = Some x
 
 -- the step at a point of a rule, in its part of the flat steps
 abbrev pub step_in : List ℕ → ℕ → Point → Option Step

@@ -1,6 +1,6 @@
 -- What one paid step did, in the specification's terms.
 use Rattle.std.specs.Prelude.{ℕ, ◌+◌, ◌≡◌, List}
-use Rattle.std.specs.Prelude.{Option, None, Some}
+use Rattle.std.specs.Prelude.{None, Some}
 use Rattle.model.specs.Actions as actions
 use Rattle.model.specs.Exec as model
 use Rattle.model.specs.Outcome.{plain}
@@ -11,15 +11,9 @@ use Rattle.model.specs.declared.Step.{Step}
 use Rattle.model.specs.declared.Step.TheVariants.{Primitive, Wait, Branch, After, Fail}
 use Rattle.state.specs.Meaning.{Means, meaning, base}
 use Rattle.eval.specs.Answers.{env_of}
-use Rattle.exec.specs.Results.{Does, effect_option, job_of}
+use Rattle.exec.specs.Results.{Does, job_of}
 use Rattle.exec.specs.declared.Job.{Job}
-use Rattle.exec.specs.declared.Next.{Next}
-use Rattle.exec.specs.declared.Next.TheVariants.{Ends, At}
 use Rattle.exec.specs.Done.{ActionDone, StepDone}
-
-abbrev pub next_option : Next → Option Point
-next_option Ends = None
-next_option (At sp) = Some sp
 
 -- how far behind itself a step can lead
 abbrev pub reach : Step → ℕ
@@ -32,9 +26,9 @@ reach Fail = 0
 -- from v the step came to r, and the specification to d
 pub record Steps (v : List ℕ) (r : StepDone) (d : model.StepResult) : Type 0 where
   pub state : Means r.vol (base v) d.vol
-  pub effect : effect_option r.effect ≡ d.effect
+  pub effect : r.effect ≡ d.effect
   pub reason : r.reason ≡ d.reason
-  pub next : next_option r.next ≡ d.next
+  pub next : r.next ≡ d.next
 
 abbrev pub Follows : ActionDone → Point → StepDone → Type 0
 Follows a to r = (v : List ℕ) (x : actions.PrimResult) → Does v a x → Steps v r (model.after_prim x.disables x to (meaning v))

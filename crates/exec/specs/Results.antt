@@ -1,27 +1,18 @@
 -- What an action did, in the specification's terms.
 use Rattle.std.specs.Prelude.{ℕ, ◌≡◌, Bool, List, ℤ}
 use Rattle.std.specs.Prelude.{Option, None, Some}
-use denote.Enum.Declared.{tag_of}
 use Rattle.model.specs.Actions as model
 use Rattle.model.specs.State as model-state
 use Rattle.model.specs.State.{Env, Rest, with_rest, strike}
 use Rattle.model.specs.declared.Action.{Action}
-use Rattle.model.specs.contracts.Action.{the_type}
-use Rattle.model.specs.declared.Effect.{Effect}
 use Rattle.model.specs.Steps.{FlatStep}
 use Rattle.model.specs.declared.VarValue.{VarValue}
 use Rattle.model.specs.Eval.{value_at}
 use Rattle.state.specs.Meaning.{Sound, Means, meaning, base}
 use Rattle.eval.specs.Answers.{env_of}
 use Rattle.exec.specs.declared.Job.{Job}
-use Rattle.exec.specs.declared.MaybeEffect.{MaybeEffect}
-use Rattle.exec.specs.declared.MaybeEffect.TheVariants.{Nothing, One}
 use Rattle.exec.specs.declared.PrimResult.{PrimResult}
 use Rattle.exec.specs.Done.{ActionDone, action_done}
-
-abbrev pub effect_option : MaybeEffect → Option Effect
-effect_option Nothing = None
-effect_option (One x) = Some x
 
 abbrev pub job_of : Job → model.Job
 job_of j = record { rule = j.rule; index = j.index; hold = j.hold; trigger = j.trigger; dry = j.dry; number = j.number }
@@ -34,7 +25,7 @@ struck (Some q) v = strike q v
 -- from v the action came to r, and the specification to a
 pub record Does (v : List ℕ) (r : ActionDone) (a : model.PrimResult) : Type 0 where
   pub state : Means r.vol (base v) (struck a.disables (with_rest a.rest (meaning v)))
-  pub effect : effect_option r.effect ≡ a.effect
+  pub effect : r.effect ≡ a.effect
   pub reason : r.reason ≡ a.reason
 
 -- the state stays as it is, and the answer is the specification's
@@ -77,7 +68,3 @@ Dims j v target hold level r = (e : Env) → Does v r (model.dims e (job_of j) (
 
 abbrev pub SetsBit : Job → List ℕ → ℕ → Bool → Option ℕ → ActionDone → Type 0
 SetsBit j v rule on i r = (e : Env) → Does v r (model.set_rule_bit e (job_of j) (meaning v).rest rule on i)
-
--- the place of an action's constructor in `model::Action`
-abbrev pub variant_of : Action → ℕ
-variant_of x = tag_of the_type x

@@ -14,8 +14,7 @@ use Rattle.model.specs.declared.Step.{Step}
 use Rattle.flat.specs.Words.{steps_in, Says}
 use Rattle.state.specs.Meaning.{Sound, Means, meaning, base, accepted}
 use Rattle.eval.specs.Answers.{env_of}
-use Rattle.exec.specs.Results.{effect_option, job_of}
-use Rattle.exec.specs.Paid.{next_option}
+use Rattle.exec.specs.Results.{job_of}
 use Rattle.lent_words.specs.PutEffects.{put_effects}
 use Rattle.exec.specs.declared.Job.{Job}
 use Rattle.exec.specs.Done.{RunDone, RunNow, StepDone}
@@ -79,11 +78,11 @@ left_of false b e j m = finish m (model.run_steps b e j m.point m.vol)
 
 pub record Taken (run : RunNow) (words : List ℕ) (d : StepDone) (r : RunNow) (exit : List ℕ) : Type 0 where
   pub vol : r.vol ≡ d.vol
-  pub point : r.point ≡ or_else run.point (next_option d.next)
+  pub point : r.point ≡ or_else run.point d.next
   pub reason : r.reason ≡ model.first_reason run.reason d.reason
-  pub count : r.count ≡ run.count + length (to_list (effect_option d.effect))
-  pub written : exit ≡ put_effects words run.count (to_list (effect_option d.effect))
-  pub ended : r.ended ≡ not (present (next_option d.next))
+  pub count : r.count ≡ run.count + length (to_list d.effect)
+  pub written : exit ≡ put_effects words run.count (to_list d.effect)
+  pub ended : r.ended ≡ not (present d.next)
 
 -- the run has moved on, in every environment whose list for the run these words say
 pub record Turned (snapshot image list : List ℕ) (job : Job) (left : ℕ) (run : RunNow) (words : List ℕ) (r : RunNow) (exit : List ℕ) : Type 0 where

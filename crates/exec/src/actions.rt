@@ -1,9 +1,8 @@
 // A primitive action, by its kind: `run_prim`.
-ghost use Rattle.std.specs.Prelude.{◌≤◌};
 ghost use Rattle.image.specs.Sized.{Sized};
 ghost use Rattle.state.specs.Meaning.{Sound};
 ghost use Rattle.exec.specs.Done.{action_done};
-ghost use Rattle.exec.specs.Results.{PerformsIn, PerformsAt, variant_of};
+ghost use Rattle.exec.specs.Results.{PerformsIn, PerformsAt};
 
 use crate::answers::{emits, fails, no_effect};
 use crate::{Job, PrimResult, lights, rules, timers, variables};
@@ -28,104 +27,7 @@ const LOG: u32 = 11;
 // The table of actions.
 const ACTIONS: u32 = 4;
 
-// Variables, rules, messages.
-fn run_variable(
-    snapshot: &[u32],
-    image: &[u32],
-    v: &mut [u32],
-    job: Job,
-    action: Action,
-) -> PrimResult
-    requires sized { Sized image.now × Sound v.old }
-    requires bound { 17 ≤ variant_of action }
-    ensures { PerformsIn snapshot.now image.now job v.old action (action_done v.new result) }
-{
-    match action {
-        Action::VarSet {
-            name,
-            tag,
-            low,
-            high,
-        } => variables::var_set(image, v, job, name, tag, low, high),
-        Action::VarAdd { name, delta } => variables::var_add(snapshot, image, v, job, name, delta),
-        Action::RuleEnable { rule } => rules::set_rule_bit(image, v, job, rule, true),
-        Action::RuleDisable { rule } => rules::set_rule_bit(image, v, job, rule, false),
-        Action::MqttPublish {
-            topic,
-            payload,
-            retain,
-        } => emits(MQTT_PUBLISH, topic, payload, retain, 0),
-        Action::Log { text } => emits(LOG, text, 0, 0, 0),
-        Action::StatCount { name } => no_effect(),
-        Action::NoAction => fails(v),
-        // No other kind comes here.
-        _ => fails(v),
-    }
-}
-
-// First timers, then what `run_variable` runs.
-fn run_timer(snapshot: &[u32], image: &[u32], v: &mut [u32], job: Job, action: Action) -> PrimResult
-    requires sized { Sized image.now × Sound v.old }
-    requires bound { 14 ≤ variant_of action }
-    ensures { PerformsIn snapshot.now image.now job v.old action (action_done v.new result) }
-{
-    match action {
-        Action::TimerStart { timer, duration_ms } => timers::timer_start(
-            snapshot,
-            v,
-            job,
-            timer,
-            duration_ms,
-        ),
-        Action::TimerRestart { timer, duration_ms } => timers::timer_restart(
-            snapshot,
-            v,
-            job,
-            timer,
-            duration_ms,
-        ),
-        Action::TimerCancel { timer } => timers::timer_cancel(v, job, timer),
-        _ => run_variable(snapshot, image, v, job, action),
-    }
-}
-
-// First inputs and panels, then what `run_timer` runs.
-fn run_input(snapshot: &[u32], image: &[u32], v: &mut [u32], job: Job, action: Action) -> PrimResult
-    requires sized { Sized image.now × Sound v.old }
-    requires bound { 9 ≤ variant_of action }
-    ensures { PerformsIn snapshot.now image.now job v.old action (action_done v.new result) }
-{
-    match action {
-        Action::FeedbackOn {
-            adapter,
-            address,
-            instance,
-        } => emits(INPUT_FEEDBACK, adapter, address, instance, 1),
-        Action::FeedbackOff {
-            adapter,
-            address,
-            instance,
-        } => emits(INPUT_FEEDBACK, adapter, address, instance, 0),
-        Action::PanelSelect {
-            adapter,
-            group,
-            selected,
-        } => variables::panel_select(snapshot, image, v, job, adapter, group, selected),
-        Action::CancelHold {
-            adapter,
-            address,
-            instance,
-        } => emits(CANCEL_HOLD, adapter, address, instance, 0),
-        Action::CatchMovement {
-            adapter,
-            address,
-            instance,
-        } => emits(CATCH_MOVEMENT, adapter, address, instance, 0),
-        _ => run_timer(snapshot, image, v, job, action),
-    }
-}
-
-// First lights, scenes and schedules, then what `run_input` runs.
+// One arm for each kind.
 pub fn run_prim(
     snapshot: &[u32],
     image: &[u32],
@@ -160,7 +62,63 @@ pub fn run_prim(
         Action::HclHold { target } => emits(HCL_HOLD, target, 0, 0, 0),
         Action::HclEnable { schedule } => emits(HCL_SCHEDULE, schedule, 1, 0, 0),
         Action::HclDisable { schedule } => emits(HCL_SCHEDULE, schedule, 0, 0, 0),
-        _ => run_input(snapshot, image, v, job, action),
+        Action::FeedbackOn {
+            adapter,
+            address,
+            instance,
+        } => emits(INPUT_FEEDBACK, adapter, address, instance, 1),
+        Action::FeedbackOff {
+            adapter,
+            address,
+            instance,
+        } => emits(INPUT_FEEDBACK, adapter, address, instance, 0),
+        Action::PanelSelect {
+            adapter,
+            group,
+            selected,
+        } => variables::panel_select(snapshot, image, v, job, adapter, group, selected),
+        Action::CancelHold {
+            adapter,
+            address,
+            instance,
+        } => emits(CANCEL_HOLD, adapter, address, instance, 0),
+        Action::CatchMovement {
+            adapter,
+            address,
+            instance,
+        } => emits(CATCH_MOVEMENT, adapter, address, instance, 0),
+        Action::TimerStart { timer, duration_ms } => timers::timer_start(
+            snapshot,
+            v,
+            job,
+            timer,
+            duration_ms,
+        ),
+        Action::TimerRestart { timer, duration_ms } => timers::timer_restart(
+            snapshot,
+            v,
+            job,
+            timer,
+            duration_ms,
+        ),
+        Action::TimerCancel { timer } => timers::timer_cancel(v, job, timer),
+        Action::VarSet {
+            name,
+            tag,
+            low,
+            high,
+        } => variables::var_set(image, v, job, name, tag, low, high),
+        Action::VarAdd { name, delta } => variables::var_add(snapshot, image, v, job, name, delta),
+        Action::RuleEnable { rule } => rules::set_rule_bit(image, v, job, rule, true),
+        Action::RuleDisable { rule } => rules::set_rule_bit(image, v, job, rule, false),
+        Action::MqttPublish {
+            topic,
+            payload,
+            retain,
+        } => emits(MQTT_PUBLISH, topic, payload, retain, 0),
+        Action::Log { text } => emits(LOG, text, 0, 0, 0),
+        Action::StatCount { name } => no_effect(),
+        Action::NoAction => fails(v),
     }
 }
 

@@ -4,7 +4,7 @@ ghost use Rattle.state.specs.Meaning.{Sound, meaning};
 ghost use Rattle.exec.specs.Done.{action_done};
 ghost use Rattle.exec.specs.Results.{AnswersOnly, Does};
 
-use crate::{MaybeEffect, PrimResult};
+use crate::PrimResult;
 use model::Effect;
 
 pub fn emits(kind: u32, a: u32, b: u32, c: u32, d: u32) -> PrimResult
@@ -12,7 +12,7 @@ pub fn emits(kind: u32, a: u32, b: u32, c: u32, d: u32) -> PrimResult
 {
     let x = Effect { kind, a, b, c, d };
     PrimResult {
-        effect: MaybeEffect::One(x),
+        effect: Some(x),
         reason: 0,
     }
 }
@@ -21,7 +21,7 @@ pub fn no_effect() -> PrimResult
     ensures { AnswersOnly model_actions.no_effect result }
 {
     PrimResult {
-        effect: MaybeEffect::Nothing,
+        effect: None,
         reason: 0,
     }
 }
@@ -32,7 +32,7 @@ pub fn fails(v: &mut [u32]) -> PrimResult
 {
     state::bump(v, counters::ACTIONS_FAILED, 1);
     PrimResult {
-        effect: MaybeEffect::Nothing,
+        effect: None,
         reason: state::reasons::CONDITION_UNEVALUABLE,
     }
 }

@@ -13,7 +13,7 @@ use crate::effects::put_effect;
 use crate::lists::step_at;
 use crate::places::advance;
 use crate::runs::first_reason;
-use crate::{DryRun, Job, MaybeStep, Next, RunResult, StepResult, steps};
+use crate::{DryRun, Job, RunResult, StepResult, steps};
 use flat::body::list_of;
 use model::{Jump, Point, Step};
 
@@ -60,8 +60,8 @@ fn has_step(part: &[u32], own: usize, point: Point) -> bool
 {
     let list = list_of(part, own, point.list);
     match step_at(list, point.place) {
-        MaybeStep::Nothing => false,
-        MaybeStep::One(_) => true,
+        None => false,
+        Some(_) => true,
     }
 }
 
@@ -101,8 +101,8 @@ fn take_dry(run: DryRun, effects: &mut [u32], d: StepResult) -> DryRun
     r.count = count;
     r.reason = reason;
     match next {
-        Next::Ends => r,
-        Next::At(p) => {
+        None => r,
+        Some(p) => {
             r.point = p;
             r
         }
@@ -128,12 +128,12 @@ fn turn_dry(
     let point = r.point;
     let list = list_of(part, own, point.list);
     match step_at(list, point.place) {
-        MaybeStep::Nothing => {
+        None => {
             let mut q = r;
             q.ended = true;
             q
         }
-        MaybeStep::One(step) => {
+        Some(step) => {
             let d = exec_dry(snapshot, image, v, job, point, step);
             let q = queue_body(r, step);
             take_dry(q, effects, d)

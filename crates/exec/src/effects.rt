@@ -3,19 +3,19 @@
 ghost use Rattle.std.specs.Prelude.{◌≡◌, ◌+◌, ◌<◌, length};
 ghost use Rattle.words.specs.Saturating.{max32};
 ghost use Rattle.model.specs.Lists.{to_list};
-ghost use Rattle.exec.specs.Results.{effect_option};
 ghost use Rattle.lent_words.specs.PutEffects.{put_effects};
 
-use crate::MaybeEffect;
+use model::Effect;
 
 // The number of effects with this one.
-pub fn put_effect(words: &mut [u32], count: u32, effect: MaybeEffect) -> u32
+#[tactic(auto, unfolding(lent_words::specs::PutEffects::put_effects))]
+pub fn put_effect(words: &mut [u32], count: u32, effect: Option<Effect>) -> u32
     requires { count < max32 }
-    ensures { (words.new ≡ put_effects words.old count (to_list (effect_option effect))) × (result ≡ count + length (to_list (effect_option effect))) }
+    ensures { (words.new ≡ put_effects words.old count (to_list effect)) × (result ≡ count + length (to_list effect)) }
 {
     match effect {
-        MaybeEffect::Nothing => count,
-        MaybeEffect::One(x) => {
+        None => count,
+        Some(x) => {
             lent_words::write_effect(words, count as usize, x);
             count + 1
         }

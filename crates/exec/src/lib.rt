@@ -15,7 +15,7 @@ pub mod steps;
 mod timers;
 mod variables;
 
-use model::{Effect, Point, Step};
+use model::{Effect, Point};
 
 // What a run knows of its rule: name, place in the image, hold_hcl; and the trigger and the activation number for the outcome, 0 for none.
 #[derive(Clone, Copy)]
@@ -28,40 +28,19 @@ pub struct Job {
     pub number: u64,
 }
 
-// A step gives at most one effect.
-#[derive(Clone, Copy)]
-pub enum MaybeEffect {
-    Nothing,
-    One(Effect),
-}
-
 // What came of an action: its effect, the reason that it notes.
 #[derive(Clone, Copy)]
 pub struct PrimResult {
-    pub effect: MaybeEffect,
+    pub effect: Option<Effect>,
     pub reason: u32,
 }
 
-// Where a run goes on.
-#[derive(Clone, Copy)]
-pub enum Next {
-    Ends,
-    At(Point),
-}
-
-// What came of one paid step.
+// What came of one paid step: at most one effect, and where the run goes on, if it does.
 #[derive(Clone, Copy)]
 pub struct StepResult {
-    pub effect: MaybeEffect,
+    pub effect: Option<Effect>,
     pub reason: u32,
-    pub next: Next,
-}
-
-// A step of a list, and none past its end.
-#[derive(Clone, Copy)]
-pub enum MaybeStep {
-    Nothing,
-    One(Step),
+    pub next: Option<Point>,
 }
 
 // A run under way: `count` effects are written, or would be.

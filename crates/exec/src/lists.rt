@@ -2,9 +2,7 @@
 ghost use Rattle.std.specs.Prelude.{◌≡◌};
 ghost use Rattle.std.specs.Prelude.{slice_get};
 ghost use Rattle.flat.specs.Words.{step_of, steps_in};
-ghost use Rattle.exec.specs.Lists.{step_option};
 
-use crate::MaybeStep;
 use model::Step;
 
 fn decode(kind: u32, a: u32, b: u32, c: u32) -> Step
@@ -20,13 +18,13 @@ fn decode(kind: u32, a: u32, b: u32, c: u32) -> Step
 }
 
 // The step at a place of a list.
-pub fn step_at(list: &[u32], place: u32) -> MaybeStep
-    ensures { step_option result ≡ slice_get (steps_in list.now) place }
+pub fn step_at(list: &[u32], place: u32) -> Option<Step>
+    ensures { result ≡ slice_get (steps_in list.now) place }
 {
     let i = place as usize * 4;
     if i + 4 <= list.len() {
         let step = decode(list[i], list[i + 1], list[i + 2], list[i + 3]);
-        return MaybeStep::One(step);
+        return Some(step);
     }
-    MaybeStep::Nothing
+    None
 }

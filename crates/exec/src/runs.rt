@@ -11,7 +11,7 @@ ghost use Rattle.exec.specs.Runs.{Taken, Turned, Finishes, Ready, Runs};
 use crate::effects::put_effect;
 use crate::lists::step_at;
 use crate::steps::exec;
-use crate::{Job, MaybeStep, Next, Run, RunResult, StepResult};
+use crate::{Job, Run, RunResult, StepResult};
 use flat::body::list_of;
 use model::Point;
 
@@ -33,13 +33,13 @@ fn take_step(run: Run, effects: &mut [u32], d: StepResult) -> Run
     let next = d.next;
     let point = run.point;
     match next {
-        Next::Ends => Run {
+        None => Run {
             point,
             reason,
             count,
             ended: true,
         },
-        Next::At(p) => Run {
+        Some(p) => Run {
             point: p,
             reason,
             count,
@@ -65,12 +65,12 @@ fn turn(
 {
     let point = run.point;
     match step_at(list, point.place) {
-        MaybeStep::Nothing => {
+        None => {
             let mut r = run;
             r.ended = true;
             r
         }
-        MaybeStep::One(step) => {
+        Some(step) => {
             let d = exec(snapshot, image, v, job, left, point, step);
             take_step(run, effects, d)
         }
@@ -89,11 +89,11 @@ fn finish(list: &[u32], run: Run) -> RunResult
         };
     }
     match step_at(list, point.place) {
-        MaybeStep::Nothing => RunResult {
+        None => RunResult {
             reason: run.reason,
             count: run.count,
         },
-        MaybeStep::One(_) => RunResult {
+        Some(_) => RunResult {
             reason: first_reason(run.reason, state::reasons::EFFECT_BUDGET),
             count: run.count,
         },

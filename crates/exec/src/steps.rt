@@ -10,7 +10,7 @@ ghost use Rattle.exec.specs.Paid.{Follows, GoesOn, StepsAlways, StepsAt, StepsIn
 use crate::actions::prim_at;
 use crate::answers::fails;
 use crate::places::{advance, body_start, enter_then};
-use crate::{Job, MaybeEffect, Next, PrimResult, StepResult};
+use crate::{Job, PrimResult, StepResult};
 use eval::Verdict;
 use eval::conditions::condition_at;
 use model::{Point, Step};
@@ -23,7 +23,7 @@ fn after_prim(a: PrimResult, to: Point) -> StepResult
     StepResult {
         effect,
         reason: a.reason,
-        next: Next::At(to),
+        next: Some(to),
     }
 }
 
@@ -32,9 +32,9 @@ pub fn goes_on(to: Point) -> StepResult
     ensures { (v : List ℕ) → Sound v → GoesOn v to (step_done v result) }
 {
     StepResult {
-        effect: MaybeEffect::Nothing,
+        effect: None,
         reason: 0,
-        next: Next::At(to),
+        next: Some(to),
     }
 }
 
@@ -61,9 +61,9 @@ fn wait(snapshot: &[u32], v: &mut [u32], job: Job, left: u32, sp: Point, ms: u32
     let time = world::now_ms(snapshot);
     let reason = state::pending::schedule(v, time, job.rule, job.trigger, job.number, left, ms, to);
     StepResult {
-        effect: MaybeEffect::Nothing,
+        effect: None,
         reason,
-        next: Next::Ends,
+        next: None,
     }
 }
 
@@ -86,9 +86,9 @@ fn after(snapshot: &[u32], v: &mut [u32], job: Job, left: u32, sp: Point, ms: u3
     );
     let to = advance(sp, 0);
     StepResult {
-        effect: MaybeEffect::Nothing,
+        effect: None,
         reason,
-        next: Next::At(to),
+        next: Some(to),
     }
 }
 

@@ -1,18 +1,7 @@
 -- `exec::actions::run_prim` meets its contract: one callee for each kind. Assumes nothing.
-use borrow.Enum.Refused.{opened}
-use Prim.Native.Nat.{zero-le}
-use mathlib.Core.Path.{refl}
-use Rattle.model.specs.Lists.{up_from}
-use Rattle.exec.proofs.Keys.{least}
 use Rattle.model.specs.Actions.{run_prim}
 use Rattle.eval.specs.Answers.{env_of}
 use Rattle.exec.proofs.actions.run_prim.Goals as goal
-
-pub run_input-requires : goal.run_input-requires
-run_input-requires c = record {
-  sized = c.requires;
-  bound = least 0 9 _ zero-le (up_from 9 16) refl (opened c.in_default.in_default-own.keys10);
-}
 
 pub returns-in-Light : goal.returns-in-Light
 unfolding run_prim
@@ -49,3 +38,67 @@ returns-in-HclEnable c flat = rw c.in-HclEnable.is (c.emits-in-HclEnable.ensures
 pub returns-in-HclDisable : goal.returns-in-HclDisable
 unfolding run_prim
 returns-in-HclDisable c flat = rw c.in-HclDisable.is (c.emits-in-HclDisable.ensures _ c.requires.1)
+
+pub returns-in-FeedbackOn : goal.returns-in-FeedbackOn
+unfolding run_prim
+returns-in-FeedbackOn c flat = rw c.in-FeedbackOn.is (c.emits-in-FeedbackOn.ensures _ c.requires.1)
+
+pub returns-in-FeedbackOff : goal.returns-in-FeedbackOff
+unfolding run_prim
+returns-in-FeedbackOff c flat = rw c.in-FeedbackOff.is (c.emits-in-FeedbackOff.ensures _ c.requires.1)
+
+pub returns-in-PanelSelect : goal.returns-in-PanelSelect
+unfolding run_prim
+returns-in-PanelSelect c flat = rw c.in-PanelSelect.is (c.panel_select.ensures flat)
+
+pub returns-in-CancelHold : goal.returns-in-CancelHold
+unfolding run_prim
+returns-in-CancelHold c flat = rw c.in-CancelHold.is (c.emits-in-CancelHold.ensures _ c.requires.1)
+
+pub returns-in-CatchMovement : goal.returns-in-CatchMovement
+unfolding run_prim
+returns-in-CatchMovement c flat = rw c.in-CatchMovement.is (c.emits-in-CatchMovement.ensures _ c.requires.1)
+
+pub returns-in-TimerStart : goal.returns-in-TimerStart
+unfolding run_prim
+returns-in-TimerStart c flat = rw c.in-TimerStart.is (c.timer_start.ensures c.args.image.now flat)
+
+pub returns-in-TimerRestart : goal.returns-in-TimerRestart
+unfolding run_prim
+returns-in-TimerRestart c flat = rw c.in-TimerRestart.is (c.timer_restart.ensures c.args.image.now flat)
+
+pub returns-in-TimerCancel : goal.returns-in-TimerCancel
+unfolding run_prim
+returns-in-TimerCancel c flat = rw c.in-TimerCancel.is (c.timer_cancel.ensures (env_of c.args.snapshot.now c.args.image.now flat))
+
+pub returns-in-VarSet : goal.returns-in-VarSet
+unfolding run_prim
+returns-in-VarSet c flat = rw c.in-VarSet.is (c.var_set.ensures c.args.snapshot.now flat)
+
+pub returns-in-VarAdd : goal.returns-in-VarAdd
+unfolding run_prim
+returns-in-VarAdd c flat = rw c.in-VarAdd.is (c.var_add.ensures flat)
+
+pub returns-in-RuleEnable : goal.returns-in-RuleEnable
+unfolding run_prim
+returns-in-RuleEnable c flat = rw c.in-RuleEnable.is (c.set_rule_bit.ensures (env_of c.args.snapshot.now c.args.image.now flat))
+
+pub returns-in-RuleDisable : goal.returns-in-RuleDisable
+unfolding run_prim
+returns-in-RuleDisable c flat = rw c.in-RuleDisable.is (c.set_rule_bit-in-RuleDisable.ensures (env_of c.args.snapshot.now c.args.image.now flat))
+
+pub returns-in-MqttPublish : goal.returns-in-MqttPublish
+unfolding run_prim
+returns-in-MqttPublish c flat = rw c.in-MqttPublish.is (c.emits-in-MqttPublish.ensures _ c.requires.1)
+
+pub returns-in-Log : goal.returns-in-Log
+unfolding run_prim
+returns-in-Log c flat = rw c.in-Log.is (c.emits-in-Log.ensures _ c.requires.1)
+
+pub returns-in-StatCount : goal.returns-in-StatCount
+unfolding run_prim
+returns-in-StatCount c flat = rw c.in-StatCount.is (c.no_effect.ensures _ c.requires.1)
+
+pub returns-in-NoAction : goal.returns-in-NoAction
+unfolding run_prim
+returns-in-NoAction c flat = rw c.in-NoAction.is c.fails.ensures

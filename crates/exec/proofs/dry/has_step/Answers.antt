@@ -2,8 +2,8 @@
 use Rattle.exec.proofs.DryQueue.{has-none, has_one}
 use Rattle.exec.proofs.dry.has_step.Goals as goal
 
-pub returns-in-Nothing : goal.returns-in-Nothing
-returns-in-Nothing c = has-none c.args.part.now c.args.own _ c.args.point _ c.list_of-list.ensures c.step_at.ensures c.in-Nothing.is
+pub returns-in-None : goal.returns-in-None
+returns-in-None c = has-none c.args.part.now c.args.own _ c.args.point _ c.list_of-list.ensures c.step_at.ensures c.in-None.is
 
-pub returns-in-One : goal.returns-in-One
-returns-in-One c = has_one c.args.part.now c.args.own _ c.args.point _ c.list_of-list.ensures c.step_at.ensures _ c.in-One.is
+pub returns-in-Some : goal.returns-in-Some
+returns-in-Some c = has_one c.args.part.now c.args.own _ c.args.point _ c.list_of-list.ensures c.step_at.ensures _ c.in-Some.is

@@ -3,11 +3,11 @@ use mathlib.Core.Path.{refl}
 use Rattle.exec.proofs.Going.{point-ends, point_at}
 use Rattle.exec.proofs.dry.take_dry.Goals as goal
 
-pub returns-in-Ends : goal.returns-in-Ends
-returns-in-Ends c v w =
+pub returns-in-None : goal.returns-in-None
+returns-in-None c v w =
     record {
       vol = refl;
-      point = point-ends _ _ c.in-Ends.is;
+      point = point-ends _ _ c.in-None.is;
       bodies = refl;
       reason = c.first_reason-reason.ensures;
       count = c.put_effect-count.ensures.1;
@@ -17,11 +17,11 @@ returns-in-Ends c v w =
       queued = refl;
     }
 
-pub returns-in-At : goal.returns-in-At
-returns-in-At c v w =
+pub returns-in-Some : goal.returns-in-Some
+returns-in-Some c v w =
     record {
       vol = refl;
-      point = point_at _ _ _ c.in-At.is;
+      point = point_at _ _ _ c.in-Some.is;
       bodies = refl;
       reason = c.first_reason-reason.ensures;
       count = c.put_effect-count.ensures.1;
