@@ -15,7 +15,7 @@ use exec::Job;
 use exec::dry::run_steps_dry;
 use exec::runs::run_steps;
 use image::layout::budget;
-use model::{Jump, Point};
+use model::{Point};
 
 pub fn note_wet_partial(v: &mut [u32], dry: bool)
     requires { Sound v.old }
@@ -91,7 +91,7 @@ fn run_dry(
     let from = Point {
         list: 0,
         place: 0,
-        jump: Jump::NoJump,
+        jump: None,
     };
     let most = budget(image);
     let run = run_steps_dry(
@@ -122,7 +122,7 @@ pub fn execute(
     let from = Point {
         list: 0,
         place: 0,
-        jump: Jump::NoJump,
+        jump: None,
     };
     let most = budget(image);
     run_wet(

@@ -7,12 +7,12 @@ use lib.Dec.{eqb, leb}
 use lib.ListN.{get_or}
 use Rattle.model.specs.Lists.{any, keep}
 use Rattle.model.specs.Wheel.{due_now, due_indices}
-use Rattle.model.specs.declared.Jump.TheVariants.{NoJump}
 use Rattle.model.specs.declared.Pending.{Pending}
+use Rattle.std.specs.Prelude.{None}
 
 -- a record of rule 5 with this due time and sequence number
 abbrev due_at : ℕ → ℕ → Pending
-due_at due seq = record { rule = 5; point = record { list = 0; place = 0; jump = NoJump }; due = due; budget = 1; trigger = 0; seq = seq; number = 1 }
+due_at due seq = record { rule = 5; point = record { list = 0; place = 0; jump = None }; due = due; budget = 1; trigger = 0; seq = seq; number = 1 }
 
 -- due at 9, 5 and 7
 abbrev standing : List Pending

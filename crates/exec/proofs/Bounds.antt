@@ -14,7 +14,7 @@ use Rattle.model.specs.Lists.{or_else}
 use Rattle.model.specs.State.{Env, Volatile, is_full, strike}
 use Rattle.model.specs.Steps.{arrive, point}
 use Rattle.model.specs.declared.Jump.{Jump}
-use Rattle.model.specs.declared.Jump.TheVariants.{NoJump, JumpFrom}
+use Rattle.model.specs.Steps.{jump_at}
 use Rattle.model.specs.declared.Point.{Point}
 use Rattle.model.specs.declared.Step.{Step}
 use Rattle.model.specs.declared.Step.TheVariants.{Primitive, Wait, Branch, After, Fail}
@@ -49,7 +49,7 @@ unfolding exec
 next_grows e j b sp (Primitive i) v = let a = actions.prim_at e j v.rest i in omega (arith, after_next a.disables a (advance sp 0) v)
 next_grows e j b sp (Wait ms) v = schedule-next e j b ms (advance sp 0) v
 next_grows e j b sp (Branch c t n) v = branch-next (condition_at e v.rest c) t n sp v
-next_grows e j b sp (After ms) v = schedule-next e j b ms (point (suc sp.place) 0 NoJump) v
+next_grows e j b sp (After ms) v = schedule-next e j b ms (point (suc sp.place) 0 None) v
 next_grows e j b sp Fail v = omega (arith, after_next None (actions.fails v.rest) (advance sp 0) v)
 
 pub accepts-one :
@@ -82,7 +82,7 @@ unfolding exec
 step-last e j b sp (Primitive i) v = let a = actions.prim_at e j v.rest i in after_last a.disables a (advance sp 0) v
 step-last e j b sp (Wait ms) v = schedule-last e j b ms (advance sp 0) v
 step-last e j b sp (Branch c t n) v = branch-last (condition_at e v.rest c) t n sp v
-step-last e j b sp (After ms) v = schedule-last e j b ms (point (suc sp.place) 0 NoJump) v
+step-last e j b sp (After ms) v = schedule-last e j b ms (point (suc sp.place) 0 None) v
 step-last e j b sp Fail v = after_last None (actions.fails v.rest) (advance sp 0) v
 
 goes_last : (x : Step) (d : StepResult) (o : Option Point) (k : Point → Volatile → RunOutput) (n : ℕ) → d.vol.last_number ≡ n
@@ -104,12 +104,12 @@ run-last (suc b) e j sp v =
     (λ x. let d = exec e j b sp x v in goes_last x d d.next _ v.last_number (step-last e j b sp x v) (λ sp' v'. run-last b e j sp' v'))
 
 -- ---- places
-arrive-list : (n p : ℕ) (j : Jump) → (arrive n p j).list ≡ n
+arrive-list : (n p : ℕ) (j : Option Jump) → (arrive n p j).list ≡ n
 unfolding arrive
-arrive-list n p NoJump = refl
-arrive-list n p (JumpFrom at to) = go (eqb p at)
+arrive-list n p None = refl
+arrive-list n p (Some j) = go (eqb p j.at)
   where
-    go : (t : Bool) → (cond t (point n to NoJump) (point n p (JumpFrom at to))).list ≡ n
+    go : (t : Bool) → (cond t (point n j.to None) (point n p (Some (jump_at j.at j.to)))).list ≡ n
     go true = refl
     go false = refl
 
@@ -123,7 +123,7 @@ advance-list sp n = arrive-list sp.list (suc sp.place + n) sp.jump
 
 branch-list : (o : Option Bool) (t n : ℕ) (sp : Point) (v : Volatile) → (or_else sp (run_branch o t n sp v).next).list ≡ sp.list
 unfolding run_branch
-branch-list (Some true) t n sp v = arrive-list sp.list (suc sp.place) (JumpFrom (suc sp.place + t) (suc sp.place + t + n))
+branch-list (Some true) t n sp v = arrive-list sp.list (suc sp.place) (Some (jump_at (suc sp.place + t) (suc sp.place + t + n)))
 branch-list (Some false) t n sp v = advance-list sp t
 branch-list None t n sp v = after_list None (actions.fails v.rest) (advance sp (t + n)) sp v (advance-list sp (t + n))
 

@@ -17,7 +17,7 @@ use Rattle.model.specs.Outcome.{plain}
 use Rattle.model.specs.State.{Env}
 use Rattle.model.specs.Steps.{arrive, point}
 use Rattle.model.specs.declared.Jump.{Jump}
-use Rattle.model.specs.declared.Jump.TheVariants.{NoJump, JumpFrom}
+use Rattle.model.specs.Steps.{jump_at}
 use Rattle.model.specs.declared.Point.{Point}
 use Rattle.model.specs.declared.Step.{Step}
 use Rattle.model.specs.declared.Step.TheVariants.{Primitive, Wait, Branch, After, Fail}
@@ -76,23 +76,23 @@ module _ (e : Env) (j : actions.Job) (b : ℕ) (sp to : Point) (v : List ℕ) wh
     neither-is h p = rw (← h, p)
 
 -- ---- places
-module _ (list place at to : ℕ) (jump : Jump) where
-  pub arrive-jumps : jump ≡ JumpFrom at to → place ≡ at → point list to NoJump ≡ arrive list place jump
+module _ (list place at to : ℕ) (jump : Option Jump) where
+  pub arrive-jumps : jump ≡ Some (jump_at at to) → place ≡ at → point list to None ≡ arrive list place jump
   unfolding arrive
   arrive-jumps j h = rw (j, eq-eqb place at h)
 
-  pub arrive-goes : jump ≡ JumpFrom at to → (place ≡ at → ⊥) → point list place (JumpFrom at to) ≡ arrive list place jump
+  pub arrive-goes : jump ≡ Some (jump_at at to) → (place ≡ at → ⊥) → point list place (Some (jump_at at to)) ≡ arrive list place jump
   unfolding arrive
   arrive-goes j h = rw (j, ne_eqb place at h)
 
-pub arrive-plain : (list place : ℕ) (jump : Jump) → jump ≡ NoJump → point list place NoJump ≡ arrive list place jump
+pub arrive-plain : (list place : ℕ) (jump : Option Jump) → jump ≡ None → point list place None ≡ arrive list place jump
 unfolding arrive
 arrive-plain list place jump j = rw j
 
 pub advance-is : (sp : Point) (n : ℕ) (r : Point) → r ≡ arrive sp.list (sp.place + 1 + n) sp.jump → r ≡ advance sp n
 advance-is sp n r e = let s : sp.place + 1 + n ≡ suc sp.place + n = omega arith in e ∙ ap (λ (p : ℕ). arrive sp.list p sp.jump) s
 
-pub enter-is : (sp : Point) (t n : ℕ) (r : Point) → r ≡ arrive sp.list (sp.place + 1) (JumpFrom (sp.place + 1 + t) (sp.place + 1 + t + n)) → r ≡ enter_then sp t n
+pub enter-is : (sp : Point) (t n : ℕ) (r : Point) → r ≡ arrive sp.list (sp.place + 1) (Some (jump_at (sp.place + 1 + t) (sp.place + 1 + t + n))) → r ≡ enter_then sp t n
 enter-is sp t n r e = rw add-one at e
 
 -- a step that is known leads as far as its constructor says

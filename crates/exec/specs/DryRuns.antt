@@ -10,7 +10,6 @@ use Rattle.model.specs.Lists.{to_list, or_else}
 use Rattle.model.specs.State as model-state
 use Rattle.model.specs.State.{Env, Rest, with_rest}
 use Rattle.model.specs.Steps.{FlatStep, point}
-use Rattle.model.specs.declared.Jump.TheVariants.{NoJump}
 use Rattle.model.specs.declared.Point.{Point}
 use Rattle.model.specs.declared.Step.{Step}
 use Rattle.model.specs.declared.Step.TheVariants.{Primitive, Wait, Branch, After, Fail}
@@ -36,7 +35,7 @@ DryStepsIn snapshot image j v sp x r =
 
 -- a body begins at its first step; and the bodies that a queue of lists holds
 abbrev pub body_point : ℕ → Point
-body_point n = point n 0 NoJump
+body_point n = point n 0 None
 
 abbrev pub bodies_of : DryRunNow → List Point
 bodies_of r = map body_point (drop r.first (take r.queued r.bodies))

@@ -15,7 +15,7 @@ use crate::places::advance;
 use crate::runs::first_reason;
 use crate::{DryRun, Job, RunResult, StepResult, steps};
 use flat::body::list_of;
-use model::{Jump, Point, Step};
+use model::{Point, Step};
 
 fn exec_dry(
     snapshot: &[u32],
@@ -81,7 +81,7 @@ fn next_list(part: &[u32], own: usize, run: DryRun) -> DryRun
         let p = Point {
             list,
             place: 0,
-            jump: Jump::NoJump,
+            jump: None,
         };
         r.point = p;
         r.first = k + 1;

@@ -6,27 +6,27 @@ ghost use Rattle.model.specs.Exec as model_exec;
 
 use model::{Jump, Point};
 
-pub fn arrive(list: u32, place: u32, jump: Jump) -> Point
+pub fn arrive(list: u32, place: u32, jump: Option<Jump>) -> Point
     ensures { result ≡ model_steps.arrive list place jump }
 {
     match jump {
-        Jump::NoJump => Point {
+        None => Point {
             list,
             place,
-            jump: Jump::NoJump,
+            jump: None,
         },
-        Jump::JumpFrom(at, to) => {
-            if place == at {
+        Some(j) => {
+            if place == j.at {
                 return Point {
                     list,
-                    place: to,
-                    jump: Jump::NoJump,
+                    place: j.to,
+                    jump: None,
                 };
             }
             Point {
                 list,
                 place,
-                jump: Jump::JumpFrom(at, to),
+                jump: Some(j),
             }
         }
     }
@@ -47,7 +47,11 @@ pub fn enter_then(sp: Point, t: u32, n: u32) -> Point
     ensures { result ≡ model_exec.enter_then sp t n }
 {
     let p = sp.place + 1;
-    arrive(sp.list, p, Jump::JumpFrom(p + t, p + t + n))
+    let past_else = Jump {
+        at: p + t,
+        to: p + t + n,
+    };
+    arrive(sp.list, p, Some(past_else))
 }
 
 // The body of the after at a point of the rule's own list.
@@ -58,6 +62,6 @@ pub fn body_start(sp: Point) -> Point
     Point {
         list: sp.place + 1,
         place: 0,
-        jump: Jump::NoJump,
+        jump: None,
     }
 }

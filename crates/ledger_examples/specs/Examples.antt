@@ -3,9 +3,9 @@ use Rattle.std.specs.Prelude.{ℕ, true, false, List, [], ◌∷◌}
 use Rattle.edges.specs.Samples.{log, wait, after, percent, literal, doing, valued, tick_at, run_wet}
 use Rattle.edges.specs.Edges.{afters}
 use Rattle.model.specs.Calls.{Call, load, enable}
-use Rattle.model.specs.declared.Jump.TheVariants.{NoJump}
 use Rattle.model.specs.Steps.{point}
 use Rattle.ledger.specs.Ledger.{Entry, Activation}
+use Rattle.std.specs.Prelude.{None}
 
 -- B 3: After of two Logs, After of one Log, Log
 unfoldable pub after_calls : List Call
@@ -27,7 +27,7 @@ unfoldable pub waiting : List ℕ
 waiting = doing 8 3 (log 7 ∷ wait 1000 ∷ log 9 ∷ [])
 
 unfoldable pub continuation : Entry
-continuation = record { rule = 5; point = point 0 2 NoJump; due = 1000; budget = 6 }
+continuation = record { rule = 5; point = point 0 2 None; due = 1000; budget = 6 }
 
 -- early, in time, and once more
 unfoldable pub wait_calls : List Call

@@ -2,7 +2,7 @@
 use mathlib.Core.Path.{◌≡◌, refl}
 use Rattle.model.specs.Layout.{sizes}
 use Rattle.model.specs.Parts.{any, list_row, step_row, variable_row, timer_is, timer_row, slot_is, slot_row, jump_is, jump_row, pending_is, pending_row, loaded_is, loaded_part, changing_is, changing_part, parts_is, layout}
-use Rattle.model.proofs.RowLaws.{RowLaws, word_laws, wide_laws, ⊗-laws, as_row_laws, maybe-laws, pad-laws, word_blank, wide-blank, ⊗-blank}
+use Rattle.model.proofs.RowLaws.{RowLaws, word_laws, wide_laws, ⊗-laws, as_row_laws, maybe-laws, pad-laws, word_blank, wide-blank, ⊗-blank, as_row_blank}
 use Rattle.model.proofs.CodecLaws.{CodecLaws, one_laws, all_laws, most-laws, unused-laws, then-laws, as-parts-laws}
 
 pub any_laws : RowLaws any
@@ -24,7 +24,7 @@ pub slot_laws : RowLaws slot_row
 slot_laws = as_row_laws slot_is (⊗-laws any_laws (⊗-laws any_laws (⊗-laws any_laws wide_laws)))
 
 pub jump-laws : RowLaws jump_row
-jump-laws = as_row_laws jump_is (maybe-laws (⊗-laws any_laws any_laws) (⊗-blank (word_blank 4294967295) (word_blank 4294967295)))
+jump-laws = maybe-laws (as_row_laws jump_is (⊗-laws any_laws any_laws)) (as_row_blank jump_is (⊗-blank (word_blank 4294967295) (word_blank 4294967295)))
 
 pub pending-laws : RowLaws pending_row
 pending-laws =

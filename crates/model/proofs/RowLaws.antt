@@ -172,6 +172,9 @@ pub ⊗-blank : {A B : Type 0} {r : Row A} {s : Row B} → Blank r → Blank s �
           row-append r.cells s.cells w ∙ join (p.blank w a) (q.blank (drop m w) b);
     }
 
+pub as_row_blank : {A B : Type 0} {r : Row A} (s : Same A B) → Blank r → Blank (as_row s r)
+as_row_blank s p = record { blank = p.blank }
+
 -- A MARK AND A ROW ------------------------------------------------------------------------------------------------------------------
 module _ {A : Type 0} {r : Row A} (p : RowLaws r) (b : Blank r) where
   maybe-long : (o : Option A) → length ((maybe r).put o) ≡ length (maybe r).cells

@@ -1,8 +1,8 @@
 -- The parts of a store, in order: document 01, "Store". Places, layout and size are computed from this; docs/STORE.md lists the places.
 use Rattle.std.specs.Prelude.{refl, List, ℕ}
-use Rattle.std.specs.Prelude.{Option, None, Some}
+use Rattle.std.specs.Prelude.{Option}
 use Rattle.model.specs.Codec.{Row, word, wide, ◌⊗◌, maybe, pad, Same, as_row, Codec, one, all, most, unused, ◌then◌, as_parts}
-use Rattle.model.specs.Steps.{Jump, NoJump, JumpFrom}
+use Rattle.model.specs.Steps.{Jump, jump_at}
 use Rattle.model.specs.State.{NamedTimer, EverySlot, Pending}
 
 -- ROWS ----------------------------------------------------------------------------------------------------------------------------
@@ -44,23 +44,16 @@ slot_is =
 abbrev pub slot_row : Row EverySlot
 slot_row = as_row slot_is (any ⊗ (any ⊗ (any ⊗ wide)))
 
--- mark, where it is taken, where it leads
-abbrev pub jump_of : Option (ℕ × ℕ) → Jump
-jump_of None = NoJump
-jump_of (Some j) = JumpFrom j.0 j.1
+-- where it is taken, where it leads
+abbrev pub jump_is : Same (ℕ × ℕ) Jump
+jump_is = record { to = λ j. jump_at j.0 j.1; from = λ j. (j.at, j.to); there = λ j. refl; back = λ j. refl }
 
-abbrev pub of_jump : Jump → Option (ℕ × ℕ)
-of_jump NoJump = None
-of_jump (JumpFrom at to) = Some (at, to)
-
-abbrev pub jump_is : Same (Option (ℕ × ℕ)) Jump
-jump_is = record { to = jump_of; from = of_jump; there = elim [ NoJump ↦ refl | JumpFrom at to ↦ refl ]; back = elim [ None ↦ refl | Some j ↦ refl ] }
-
-abbrev pub jump_row : Row Jump
-jump_row = as_row jump_is (maybe (any ⊗ any))
+-- mark, jump
+abbrev pub jump_row : Row (Option Jump)
+jump_row = maybe (as_row jump_is (any ⊗ any))
 
 -- sequence number, due time, rule, list, place, jump, budget, trigger, activation number; its event word is 0
-abbrev pub pending_is : Same (ℕ × (ℕ × (ℕ × (ℕ × (ℕ × (Jump × (ℕ × (ℕ × (ℕ × Unit {0}))))))))) Pending
+abbrev pub pending_is : Same (ℕ × (ℕ × (ℕ × (ℕ × (ℕ × (Option Jump × (ℕ × (ℕ × (ℕ × Unit {0}))))))))) Pending
 pending_is =
     record {
       to =

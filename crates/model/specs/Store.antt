@@ -6,7 +6,7 @@ use Rattle.model.specs.Lists.{◌>>=◌, all, flatten, or_else, present}
 use Rattle.model.specs.Image.{budget, size_of}
 use Rattle.model.specs.Rows.{rules}
 use Rattle.model.specs.Rules.{rule_named}
-use Rattle.model.specs.Steps.{Step, FlatStep, Primitive, Wait, Branch, After, Fail, Jump, NoJump, JumpFrom, Point}
+use Rattle.model.specs.Steps.{Step, FlatStep, Primitive, Wait, Branch, After, Fail, Jump, jump_at, Point}
 use Rattle.model.specs.Flat.{Flattened, flatten_rules, set_of, list_in, part_of}
 use Rattle.model.specs.Load.{image_refusal}
 use Rattle.model.specs.World.{is_one}
@@ -24,25 +24,25 @@ is_after (After ms) = true
 is_after Fail = false
 
 -- p places behind a step that stands at place i: inside its then-region, if it is a branch and p is below the region's size
-abbrev pub jump_over : Step → ℕ → ℕ → Jump → Jump
+abbrev pub jump_over : Step → ℕ → ℕ → Option Jump → Option Jump
 jump_over (Primitive x) i p j = j
 jump_over (Wait ms) i p j = j
-jump_over (Branch c t e) i p j = cond (ltb p t) (JumpFrom (suc i + t) (suc i + t + e)) j
+jump_over (Branch c t e) i p j = cond (ltb p t) (Some (jump_at (suc i + t) (suc i + t + e))) j
 jump_over (After ms) i p j = j
 jump_over Fail i p j = j
 
 -- "a jump stands with it exactly while the place is inside a then-region, and leads past the else-region": the jump of the place
 -- p places behind the head of this list, which stands at place i
-abbrev pub jump_from : ℕ → List Step → ℕ → Jump
-jump_from i [] p = NoJump
-jump_from i (x ∷ xs) zero = NoJump
+abbrev pub jump_from : ℕ → List Step → ℕ → Option Jump
+jump_from i [] p = None
+jump_from i (x ∷ xs) zero = None
 jump_from i (x ∷ xs) (suc p) = jump_over x i p (jump_from (suc i) xs p)
 
-abbrev pub same_jump : Jump → Jump → Bool
-same_jump NoJump NoJump = true
-same_jump NoJump (JumpFrom a b) = false
-same_jump (JumpFrom a b) NoJump = false
-same_jump (JumpFrom a b) (JumpFrom c d) = eqb a c && eqb b d
+abbrev pub same_jump : Option Jump → Option Jump → Bool
+same_jump None None = true
+same_jump None (Some j) = false
+same_jump (Some j) None = false
+same_jump (Some j) (Some k) = eqb j.at k.at && eqb j.to k.to
 
 -- "its place lies in that list or at its end", with the jump of that place
 unfoldable pub point_fits : List Step → Point → Bool

@@ -336,20 +336,19 @@ pub enum Step {
     Fail,
 }
 
-// A jump stands with a place exactly while that place is inside a then-region.
-#[derive(Clone, Copy)]
-pub enum Jump {
-    NoJump,
-    // Where it is taken, and where it leads: past the else-region.
-    JumpFrom(u32, u32),
+// Where a jump is taken, and where it leads: past the else-region.
+#[derive(Clone, Copy, PartialEq, Eq)]
+pub struct Jump {
+    pub at: u32,
+    pub to: u32,
 }
 
-// A place in one of a rule's lists, with its jump. List 0 is the rule's own, list p + 1 the body of the after at place p of it.
+// A place in one of a rule's lists, with its jump, which it has exactly while it is inside a then-region. List 0 is the rule's own, list p + 1 the body of the after at place p of it.
 #[derive(Clone, Copy)]
 pub struct Point {
     pub list: u32,
     pub place: u32,
-    pub jump: Jump,
+    pub jump: Option<Jump>,
 }
 
 #[derive(Clone, Copy)]

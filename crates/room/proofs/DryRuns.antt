@@ -11,7 +11,7 @@ use Rattle.std.specs.Prelude.{slice_get}
 use Rattle.model.specs.Lists.{to_list}
 use Rattle.model.specs.declared.Step.{Step}
 use Rattle.model.specs.declared.Step.TheVariants.{Primitive, Wait, Branch, After, Fail}
-use Rattle.model.specs.declared.Jump.TheVariants.{JumpFrom}
+use Rattle.model.specs.Steps.{jump_at}
 use Rattle.model.specs.declared.Point.{Point}
 use Rattle.model.specs.Steps.{FlatStep, steps_of, arrive, start}
 use Rattle.model.specs.State.{Env, Rest}
@@ -127,7 +127,7 @@ module _ (e : Env) (ok : SetOk e.set) (j : Job) where
       → Stepped (ahead sp qs) (dry_branch o t f sp qs s).next (dry_branch o t f sp qs s).bodies
   unfolding dry_branch
   branch_less (Some true) c t f sp qs s here g =
-      let p = suc sp.place in onto sp _ qs (Branch c t f) here g (arrive-ahead sp.list p (JumpFrom (p + t) (p + t + f)) (omega arith))
+      let p = suc sp.place in onto sp _ qs (Branch c t f) here g (arrive-ahead sp.list p (Some (jump_at (p + t) (p + t + f))) (omega arith))
   branch_less (Some false) c t f sp qs s here g = onto sp _ qs (Branch c t f) here g (onward sp t g.0)
   branch_less None c t f sp qs s here g = onto sp _ qs (Branch c t f) here g (onward sp (t + f) g.0)
 

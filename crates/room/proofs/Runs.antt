@@ -12,7 +12,7 @@ use Rattle.model.specs.Lists.{to_list}
 use Rattle.model.specs.declared.Step.{Step}
 use Rattle.model.specs.declared.Step.TheVariants.{Primitive, Wait, Branch, After, Fail}
 use Rattle.model.specs.declared.Jump.{Jump}
-use Rattle.model.specs.declared.Jump.TheVariants.{NoJump, JumpFrom}
+use Rattle.model.specs.Steps.{jump_at}
 use Rattle.model.specs.declared.Point.{Point}
 use Rattle.model.specs.Steps.{arrive}
 use Rattle.model.specs.declared.Effect.{Effect}
@@ -27,11 +27,11 @@ use Rattle.ledger.proofs.Points.{at-inside}
 use Rattle.ledger.proofs.SetRules.{list_of}
 
 -- a jump leads onwards
-abbrev pub Onward : Jump → Type 0
-Onward NoJump = Unit {0}
-Onward (JumpFrom at to) = at ≤ to
+abbrev pub Onward : Option Jump → Type 0
+Onward None = Unit {0}
+Onward (Some j) = j.at ≤ j.to
 
-over-onward : (x : Step) (i p : ℕ) (j : Jump) → Onward j → Onward (jump_over x i p j)
+over-onward : (x : Step) (i p : ℕ) (j : Option Jump) → Onward j → Onward (jump_over x i p j)
 over-onward (Primitive a) i p j h = h
 over-onward (Wait ms) i p j h = h
 over-onward (Branch c t e) i p j h = by (ltb p t) (λ y. rw y (omega arith)) (λ n. rw n h)
@@ -50,12 +50,12 @@ pub record Ahead (n p : ℕ) (sp : Point) : Type 0 where
   pub place : p ≤ sp.place
   pub jump : Onward sp.jump
 
-pub arrive-ahead : (n p : ℕ) (j : Jump) → Onward j → Ahead n p (arrive n p j)
+pub arrive-ahead : (n p : ℕ) (j : Option Jump) → Onward j → Ahead n p (arrive n p j)
 unfolding arrive
-arrive-ahead n p NoJump h = record { list = refl; place = omega arith; jump = tt }
-arrive-ahead n p (JumpFrom at to) h =
-    by (eqb p at)
-    (λ t. let e = eqb-true p at t in rw t (record { list = refl; place = omega arith; jump = tt }))
+arrive-ahead n p None h = record { list = refl; place = omega arith; jump = tt }
+arrive-ahead n p (Some j) h =
+    by (eqb p j.at)
+    (λ t. let e = eqb-true p j.at t in rw t (record { list = refl; place = omega arith; jump = tt }))
     (λ f. rw f (record { list = refl; place = omega arith; jump = h }))
 
 pub further : (n p q : ℕ) (sp : Point) → q ≤ p → Ahead n p sp → Ahead n q sp
@@ -84,7 +84,7 @@ prim-ahead n p (Some q) a to v h = h
 branch-ahead : (x : Option Bool) (t f : ℕ) (sp : Point) (v : Volatile) → Onward sp.jump → AheadIf sp.list (suc sp.place) (run_branch x t f sp v).next
 unfolding run_branch AheadIf
 branch-ahead (Some true) t f sp v h =
-    let p = suc sp.place in arrive-ahead sp.list p (JumpFrom (p + t) (p + t + f)) (omega arith)
+    let p = suc sp.place in arrive-ahead sp.list p (Some (jump_at (p + t) (p + t + f))) (omega arith)
 branch-ahead (Some false) t f sp v h = further _ _ _ _ (omega arith) (arrive-ahead sp.list (suc sp.place + t) sp.jump h)
 branch-ahead None t f sp v h = unfold AheadIf in (prim-ahead _ _ None (fails v.rest) _ v (further _ _ _ _ (omega arith) (arrive-ahead sp.list (suc sp.place + (t + f)) sp.jump h)))
 

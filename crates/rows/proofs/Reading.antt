@@ -12,17 +12,18 @@ use lib.ListN.{length, get_or, take, drop, set}
 use lib.Seq.{drop-drop, get_or-drop, take-suc-set}
 use borrow.Author.Tests.{eq-eqb, ne_eqb, ltb-true}
 use Rattle.words.specs.Pairs.{joined, low_of}
-use Rattle.model.specs.Codec.{Row, word, wide, ◌⊗◌, marked, maybe, pad, rows_at}
-use Rattle.model.specs.Parts.{any, bit, variable_row, timer_is, timer_row, slot_is, slot_row, jump_of, jump_row, pending_is, pending_row}
+use Rattle.model.specs.Codec.{as_row, Row, word, wide, ◌⊗◌, marked, maybe, pad, rows_at}
+use Rattle.model.specs.Parts.{any, bit, variable_row, timer_is, timer_row, slot_is, slot_row, jump_is, jump_row, pending_is, pending_row}
 use Rattle.model.specs.Lists.{all}
 use Rattle.model.specs.World.{is_one}
 use Rattle.model.specs.Store.{variable_of, text_short}
 use Rattle.model.specs.declared.Jump.{Jump}
-use Rattle.model.specs.declared.Jump.TheVariants.{NoJump, JumpFrom}
+use Rattle.model.specs.Steps.{jump_at}
 use Rattle.model.specs.declared.VarValue.TheVariants.{Int, Text}
 use Rattle.model.proofs.Bools.{both}
 use Rattle.rows.specs.Places.{row_at, table_at}
 use Rattle.rows.specs.Rows.{bool_row, variable_code_row, of_option64, of_option32, option64_row, option32_row}
+use Rattle.std.specs.Prelude.{Option}
 
 -- ROWS ------------------------------------------------------------------------------------------------------------------------------
 module _ (w : List ℕ) where
@@ -94,18 +95,19 @@ slot_is_lem w k a b c d p q r s =
     (pair_is w any (any ⊗ wide) (k + 1) (k + 2) b (c, d) (omega arith) q (pair_is w any wide (k + 2) (k + 3) c d (omega arith) r s)))
 
 module _ (w : List ℕ) (k m a b : ℕ) (p : m ≡ row_at any w k) (q : a ≡ row_at any w (k + 1)) (r : b ≡ row_at any w (k + 2)) where
-  behind-mark : marked m (a, b) ≡ row_at (maybe (any ⊗ any)) w k
-  behind-mark = marked-is w (any ⊗ any) k (k + 1) m (a, b) refl p (pair_is w any any (k + 1) (k + 2) a b (omega arith) q r)
-
-  pub no_jump : m ≡ 0 → NoJump ≡ row_at jump_row w k
+  behind-mark : marked m (jump_at a b) ≡ row_at jump_row w k
   unfolding row_at
-  no_jump z = ap jump_of (absent m (a, b) z ∙ behind-mark)
+  behind-mark =
+      marked-is w (as_row jump_is (any ⊗ any)) k (k + 1) m (jump_at a b) refl p
+      (ap jump_is.to (pair_is w any any (k + 1) (k + 2) a b (omega arith) q r))
 
-  pub jump-is : (m ≡ 0 → ⊥) → JumpFrom a b ≡ row_at jump_row w k
-  unfolding row_at
-  jump-is z = ap jump_of (given m (a, b) z ∙ behind-mark)
+  pub no_jump : m ≡ 0 → None ≡ row_at jump_row w k
+  no_jump z = absent m (jump_at a b) z ∙ behind-mark
 
-pub pending-is : (w : List ℕ) (k s d r l p : ℕ) (j : Jump) (b t n : ℕ)
+  pub jump-is : (m ≡ 0 → ⊥) → Some (jump_at a b) ≡ row_at jump_row w k
+  jump-is z = given m (jump_at a b) z ∙ behind-mark
+
+pub pending-is : (w : List ℕ) (k s d r l p : ℕ) (j : Option Jump) (b t n : ℕ)
     → s ≡ row_at wide w k → d ≡ row_at wide w (k + 2) → r ≡ row_at any w (k + 4) → l ≡ row_at any w (k + 5) → p ≡ row_at any w (k + 6)
     → j ≡ row_at jump_row w (k + 7) → b ≡ row_at any w (k + 10) → t ≡ row_at any w (k + 11) → n ≡ row_at wide w (k + 12)
     → record { rule = r; point = record { list = l; place = p; jump = j }; due = d; budget = b; trigger = t; seq = s; number = n } ≡ row_at pending_row w k

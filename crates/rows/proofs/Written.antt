@@ -9,7 +9,7 @@ use Rattle.words.specs.Pairs.{low_of, high_of}
 use Rattle.model.specs.Codec.{word, wide, put_maybe}
 use Rattle.model.specs.Parts.{any, timer_row, slot_row, jump_row, pending_row}
 use Rattle.model.specs.declared.Jump.{Jump}
-use Rattle.model.specs.declared.Jump.TheVariants.{NoJump, JumpFrom}
+use Rattle.model.specs.Steps.{jump_at}
 use Rattle.model.specs.declared.VarValue.TheVariants.{Int, Text}
 use Rattle.model.specs.declared.Variable.{Variable}
 use Rattle.model.specs.declared.NamedTimer.{NamedTimer}
@@ -22,6 +22,7 @@ use Rattle.rows.specs.declared.OptionU64.{OptionU64}
 use Rattle.rows.specs.Places.{laid}
 use Rattle.rows.specs.Rows.{bool_row, variable_code_row, point_row, option64_row, option32_row}
 use Rattle.rows.proofs.Writing.{lays, and-then, Long}
+use Rattle.std.specs.Prelude.{Option, None, Some}
 
 module _ (w w₁ : List ℕ) (k : ℕ) where
   pub one-put : (x : Bool) → x ≡ true → w₁ ≡ laid w k (any.put 1) → w₁ ≡ laid w k (bool_row.put x)
@@ -36,7 +37,7 @@ module _ (w w₁ : List ℕ) (k : ℕ) where
   pub none-32 : (n : ℕ) (x : OptionU32) → x.present ≡ false → w₁ ≡ laid w k (replicate 2 0) → w₁ ≡ laid w k ((option32_row n).put x)
   none-32 n x h e = rw h e
 
-  pub no_jump : (x : Jump) → x ≡ NoJump → w₁ ≡ laid w k (replicate 3 0) → w₁ ≡ laid w k (jump_row.put x)
+  pub no_jump : (x : Option Jump) → x ≡ None → w₁ ≡ laid w k (replicate 3 0) → w₁ ≡ laid w k (jump_row.put x)
   no_jump x h e = rw h e
 
 module _ (w w₁ w₂ : List ℕ) (k : ℕ) where
@@ -64,7 +65,7 @@ module _ (w w₁ w₂ : List ℕ) (k : ℕ) where
         → w₃ ≡ laid w₂ (k + 2) (wide.put v) → w₃ ≡ laid w k (variable_code_row.put x)
     text-put x v p h e f g = rw p (three x.name 1 v h e f g)
 
-    pub jump-put : (x : Jump) (a b : ℕ) → x ≡ JumpFrom a b → k + 3 ≤ length w → w₁ ≡ laid w k (any.put 1) → w₂ ≡ laid w₁ (k + 1) (any.put a)
+    pub jump-put : (x : Option Jump) (a b : ℕ) → x ≡ Some (jump_at a b) → k + 3 ≤ length w → w₁ ≡ laid w k (any.put 1) → w₂ ≡ laid w₁ (k + 1) (any.put a)
         → w₃ ≡ laid w₂ (k + 2) (any.put b) → w₃ ≡ laid w k (jump_row.put x)
     jump-put x a b p h e f g =
         rw p
@@ -79,9 +80,9 @@ module _ (w w₁ w₂ : List ℕ) (k : ℕ) where
           (λ m. lays w₂ w₃ w₄ (k + 2) (k + 3) (any.put x.period) (wide.put x.due) (omega arith) (omega arith) e₃ e₄))
 
 -- a jump takes three words
-jump-long : (j : Jump) → length (jump_row.put j) ≡ 3
-jump-long NoJump = refl
-jump-long (JumpFrom a b) = refl
+jump-long : (j : Option Jump) → length (jump_row.put j) ≡ 3
+jump-long None = refl
+jump-long (Some j) = refl
 
 pub point-put : (w w₁ w₂ w₃ : List ℕ) (k : ℕ) (x : Point) → k + 5 ≤ length w → w₁ ≡ laid w k (any.put x.list) → w₂ ≡ laid w₁ (k + 1) (any.put x.place)
     → w₃ ≡ laid w₂ (k + 2) (jump_row.put x.jump) → w₃ ≡ laid w k (point_row.put x)
@@ -134,9 +135,9 @@ slot-long = record { long = λ x. refl }
 pub pending-long : Long pending_row
 pending-long = record { long = λ x. by_jump x.point.jump (x.budget ∷ (x.trigger ∷ (low_of x.number ∷ (high_of x.number ∷ (0 ∷ []))))) }
   where
-    by_jump : (j : Jump) (l : List ℕ) → suc (suc (suc (suc (suc (suc (suc (length (jump_row.put j ++ l)))))))) ≡ 10 + length l
-    by_jump NoJump l = omega arith
-    by_jump (JumpFrom a b) l = omega arith
+    by_jump : (j : Option Jump) (l : List ℕ) → suc (suc (suc (suc (suc (suc (suc (length (jump_row.put j ++ l)))))))) ≡ 10 + length l
+    by_jump None l = omega arith
+    by_jump (Some j) l = omega arith
 
 pub any-long : Long any
 any-long = record { long = λ x. refl }

@@ -118,16 +118,16 @@ pub fn put_slot(s: &mut [u32], k: usize, x: EverySlot)
     put_wide(s, k + 3, x.due);
 }
 
-pub fn put_jump(s: &mut [u32], k: usize, x: Jump)
+pub fn put_jump(s: &mut [u32], k: usize, x: Option<Jump>)
     requires { k + 3 ≤ length s.old }
     ensures { s.new ≡ laid s.old k (jump_row.put x) }
 {
     match x {
-        Jump::NoJump => clear(s, k, 3),
-        Jump::JumpFrom(at, to) => {
+        None => clear(s, k, 3),
+        Some(j) => {
             put_word(s, k, 1);
-            put_word(s, k + 1, at);
-            put_word(s, k + 2, to);
+            put_word(s, k + 1, j.at);
+            put_word(s, k + 2, j.to);
         }
     }
 }

@@ -114,7 +114,7 @@ pub fn slot_at(s: &[u32], k: usize) -> EverySlot
     }
 }
 
-pub fn jump_at(s: &[u32], k: usize) -> Jump
+pub fn jump_at(s: &[u32], k: usize) -> Option<Jump>
     requires { k ≤ 65534 }
     ensures { result ≡ row_at jump_row s.now k }
 {
@@ -122,9 +122,9 @@ pub fn jump_at(s: &[u32], k: usize) -> Jump
     let at = word_at(s, k + 1);
     let to = word_at(s, k + 2);
     if mark == 0 {
-        Jump::NoJump
+        None
     } else {
-        Jump::JumpFrom(at, to)
+        Some(Jump { at, to })
     }
 }
 

@@ -4,7 +4,7 @@ ghost use Rattle.model.specs.Parts.{timer_row, slot_row, pending_row};
 ghost use Rattle.rows.specs.Places.{table_at};
 
 use crate::read;
-use model::{EverySlot, Jump, NamedTimer, Pending, Point};
+use model::{EverySlot, NamedTimer, Pending, Point};
 
 pub fn timers_at(s: &[u32], k: usize, n: usize) -> [NamedTimer; 16]
     requires { (k ≤ 16384) × (n ≤ 16) }
@@ -50,7 +50,7 @@ pub fn pendings_at(s: &[u32], k: usize, n: usize) -> [Pending; 32]
         point: Point {
             list: 0,
             place: 0,
-            jump: Jump::NoJump,
+            jump: None,
         },
         due: 0,
         budget: 0,

@@ -71,7 +71,7 @@ as-roomy s p = record { fits = λ b h. p.fits (s.from b) h }
 
 pub pending-roomy : Roomy pending_row
 pending-roomy =
-    as-roomy pending_is (⊗-roomy wide-roomy (⊗-roomy wide-roomy (⊗-roomy any-roomy (⊗-roomy any-roomy (⊗-roomy any-roomy (⊗-roomy (as-roomy jump_is (maybe-roomy (⊗-roomy any-roomy any-roomy))) (⊗-roomy any-roomy (⊗-roomy any-roomy (⊗-roomy wide-roomy (pad-roomy 1))))))))))
+    as-roomy pending_is (⊗-roomy wide-roomy (⊗-roomy wide-roomy (⊗-roomy any-roomy (⊗-roomy any-roomy (⊗-roomy any-roomy (⊗-roomy (maybe-roomy (as-roomy jump_is (⊗-roomy any-roomy any-roomy))) (⊗-roomy any-roomy (⊗-roomy any-roomy (⊗-roomy wide-roomy (pad-roomy 1))))))))))
 
 pub timer-good : (name due : ℕ) → name < 4294967296 → due < 18446744073709551616 → timer_row.good (record { name = name; due = due }) ≡ true
 timer-good name due a b = join (le-leb name 4294967295 (omega arith)) (lt-ltb due 18446744073709551616 (omega arith))
