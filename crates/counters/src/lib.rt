@@ -1,35 +1,51 @@
-// The 12 counters of a store, the Rust's `EngineCounters` without the one that nothing counts, as one record. A counter is named by its place. Document 01: the
-// counters are one record, lent and changed in place (`bump`). A caller that has the record by value counts by `with_bump`.
+// The 12 counters of a store, the Rust's `EngineCounters` without the one that nothing counts, as one record. Document 01: the counters are one record, lent and
+// changed in place (`bump`).
 #![tactic(auto)]
 
 ghost use Rattle.std.specs.Prelude.{◌≡◌};
-ghost use Rattle.counters.specs.Counters.{counters_of, raised_at};
+ghost use Rattle.words.specs.Saturating.{max32, saturating_add};
+ghost use Rattle.counters.specs.Counters.{counters_of, place_of_counter, raised_at};
 
-use words::saturating_add_u32 as add;
+// The name of a counter, in the order of the record.
+#[derive(Clone, Copy, PartialEq, Eq)]
+pub enum Counter {
+    ActivationsTotal,
+    ActivationsDry,
+    SuppressedCooldown,
+    SuppressedDisabled,
+    ConditionsRejected,
+    PartialOutcomes,
+    EffectsEmitted,
+    ActionsFailed,
+    ContinuationsScheduled,
+    ContinuationsFired,
+    ContinuationsDropped,
+    TicksTimeUnsynced,
+}
 
-pub const ACTIVATIONS_TOTAL: u32 = 0;
+pub const ACTIVATIONS_TOTAL: Counter = Counter::ActivationsTotal;
 
-pub const ACTIVATIONS_DRY: u32 = 1;
+pub const ACTIVATIONS_DRY: Counter = Counter::ActivationsDry;
 
-pub const SUPPRESSED_COOLDOWN: u32 = 2;
+pub const SUPPRESSED_COOLDOWN: Counter = Counter::SuppressedCooldown;
 
-pub const SUPPRESSED_DISABLED: u32 = 3;
+pub const SUPPRESSED_DISABLED: Counter = Counter::SuppressedDisabled;
 
-pub const CONDITIONS_REJECTED: u32 = 4;
+pub const CONDITIONS_REJECTED: Counter = Counter::ConditionsRejected;
 
-pub const PARTIAL_OUTCOMES: u32 = 5;
+pub const PARTIAL_OUTCOMES: Counter = Counter::PartialOutcomes;
 
-pub const EFFECTS_EMITTED: u32 = 6;
+pub const EFFECTS_EMITTED: Counter = Counter::EffectsEmitted;
 
-pub const ACTIONS_FAILED: u32 = 7;
+pub const ACTIONS_FAILED: Counter = Counter::ActionsFailed;
 
-pub const CONTINUATIONS_SCHEDULED: u32 = 8;
+pub const CONTINUATIONS_SCHEDULED: Counter = Counter::ContinuationsScheduled;
 
-pub const CONTINUATIONS_FIRED: u32 = 9;
+pub const CONTINUATIONS_FIRED: Counter = Counter::ContinuationsFired;
 
-pub const CONTINUATIONS_DROPPED: u32 = 10;
+pub const CONTINUATIONS_DROPPED: Counter = Counter::ContinuationsDropped;
 
-pub const TICKS_TIME_UNSYNCED: u32 = 11;
+pub const TICKS_TIME_UNSYNCED: Counter = Counter::TicksTimeUnsynced;
 
 #[derive(Clone, Copy)]
 pub struct Counters {
@@ -47,41 +63,33 @@ pub struct Counters {
     pub ticks_time_unsynced: u32,
 }
 
-// The counter at place `which` goes up by `by`, and stops at 2^32 - 1. A place past the last changes nothing.
-fn count(c: Counters, which: u32, by: u32) -> Counters
-    ensures { counters_of result ≡ raised_at which by (counters_of c) }
+// Up by `by`, at most to 2^32 - 1.
+#[tactic(auto, unfolding(words::specs::Saturating::saturating_add))]
+fn raise(counter: &mut u32, by: u32)
+    ensures { counter.new ≡ saturating_add max32 counter.old by }
 {
-    let mut d = c;
-    match which {
-        ACTIVATIONS_TOTAL => d.activations_total = add(c.activations_total, by),
-        ACTIVATIONS_DRY => d.activations_dry = add(c.activations_dry, by),
-        SUPPRESSED_COOLDOWN => d.suppressed_cooldown = add(c.suppressed_cooldown, by),
-        SUPPRESSED_DISABLED => d.suppressed_disabled = add(c.suppressed_disabled, by),
-        CONDITIONS_REJECTED => d.conditions_rejected = add(c.conditions_rejected, by),
-        PARTIAL_OUTCOMES => d.partial_outcomes = add(c.partial_outcomes, by),
-        EFFECTS_EMITTED => d.effects_emitted = add(c.effects_emitted, by),
-        ACTIONS_FAILED => d.actions_failed = add(c.actions_failed, by),
-        CONTINUATIONS_SCHEDULED => d.continuations_scheduled = add(c.continuations_scheduled, by),
-        CONTINUATIONS_FIRED => d.continuations_fired = add(c.continuations_fired, by),
-        CONTINUATIONS_DROPPED => d.continuations_dropped = add(c.continuations_dropped, by),
-        TICKS_TIME_UNSYNCED => d.ticks_time_unsynced = add(c.ticks_time_unsynced, by),
-        _ => (),
+    *counter = counter.saturating_add(by);
+}
+
+impl Counters {
+    // A counter goes up by `by`, and stops at 2^32 - 1.
+    #[tactic(auto, unfolding(crate::specs::Counters::counters_of))]
+    pub fn bump(&mut self, which: Counter, by: u32)
+        ensures { counters_of self.new ≡ raised_at (place_of_counter which) by (counters_of self.old) }
+    {
+        match which {
+            Counter::ActivationsTotal => raise(&mut self.activations_total, by),
+            Counter::ActivationsDry => raise(&mut self.activations_dry, by),
+            Counter::SuppressedCooldown => raise(&mut self.suppressed_cooldown, by),
+            Counter::SuppressedDisabled => raise(&mut self.suppressed_disabled, by),
+            Counter::ConditionsRejected => raise(&mut self.conditions_rejected, by),
+            Counter::PartialOutcomes => raise(&mut self.partial_outcomes, by),
+            Counter::EffectsEmitted => raise(&mut self.effects_emitted, by),
+            Counter::ActionsFailed => raise(&mut self.actions_failed, by),
+            Counter::ContinuationsScheduled => raise(&mut self.continuations_scheduled, by),
+            Counter::ContinuationsFired => raise(&mut self.continuations_fired, by),
+            Counter::ContinuationsDropped => raise(&mut self.continuations_dropped, by),
+            Counter::TicksTimeUnsynced => raise(&mut self.ticks_time_unsynced, by),
+        }
     }
-    d
-}
-
-// The same on a record that is lent.
-pub fn bump(c: &mut Counters, which: u32, by: u32)
-    ensures { counters_of c.new ≡ raised_at which by (counters_of c.old) }
-{
-    *c = count(*c, which, by);
-}
-
-// The record by value, counted through `bump`.
-pub fn with_bump(c: Counters, which: u32, by: u32) -> Counters
-    ensures { counters_of result ≡ raised_at which by (counters_of c) }
-{
-    let mut d = c;
-    bump(&mut d, which, by);
-    d
 }
