@@ -14,7 +14,7 @@
 #![tactic(auto)]
 
 ghost use Rattle.std.specs.Prelude.{◌≡◌, ◌+◌, ◌≤◌, length};
-ghost use Rattle.counters.specs.Counters.{counters_of};
+ghost use Rattle.counters.specs.Counters.{counters_of, place_of_counter};
 ghost use Rattle.model.specs.Codec.{words_of};
 ghost use Rattle.model.specs.Parts.{any};
 ghost use Rattle.model.specs.State.{with_rest, bump_by, with_prev_week_min};
@@ -22,7 +22,7 @@ ghost use Rattle.rows.specs.Options.{option32};
 ghost use Rattle.rows.specs.Places.{table_at, laid};
 ghost use Rattle.state.specs.Meaning.{Sound, Means, meaning, base};
 
-use counters::Counters;
+use counters::{Counter, Counters};
 use model::{EverySlot, NamedTimer};
 use rows::OptionU32;
 
@@ -96,14 +96,14 @@ fn put_counters(s: &mut [u32], k: usize, c: Counters)
     }
 }
 
-// The counter at place `which` goes up by `by`: the 12 words are read into the record, which is lent, and written back.
-pub fn bump(v: &mut [u32], which: u32, by: u32)
+// A counter goes up by `by`: the 12 words are read into the record, which is lent, and written back.
+pub fn bump(v: &mut [u32], which: Counter, by: u32)
     requires { Sound v.old }
-    ensures { Means v.new (base v.old) (with_rest (bump_by which by (meaning v.old).rest) (meaning v.old)) }
+    ensures { Means v.new (base v.old) (with_rest (bump_by (place_of_counter which) by (meaning v.old).rest) (meaning v.old)) }
 {
-    let c = counters_at(v, place::COUNTERS);
-    let d = counters::with_bump(c, which, by);
-    put_counters(v, place::COUNTERS, d);
+    let mut c = counters_at(v, place::COUNTERS);
+    c.bump(which, by);
+    put_counters(v, place::COUNTERS, c);
 }
 
 // The minute of the week at the tick before.

@@ -7,4 +7,4 @@ pub put_counters-requires : goal.put_counters-requires
 put_counters-requires c = omega (arith, c.requires.long)
 
 pub returns : goal.returns
-returns c = bumped _ _ _ _ _ _ c.requires c.counters_at-c.ensures c.with_bump-d.ensures c.put_counters.ensures
+returns c = bumped _ _ _ _ _ _ c.requires c.counters_at-c.ensures c.bump.ensures c.put_counters.ensures
