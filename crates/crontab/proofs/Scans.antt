@@ -13,9 +13,10 @@ use lib.Seq.{drop-cons, drop-drop}
 use Rattle.model.specs.Lists.{all}
 use Rattle.model.specs.Digits.{is_digit, value_from}
 use Rattle.model.specs.Crontab.{until, skip, is_blank, number_of, field, behind_first}
-use Rattle.decimal.specs.declared.Argument.{Argument}
-use Rattle.decimal.specs.declared.Argument.TheVariants.{NoNumber, TooLarge, Number}
-use Rattle.decimal.specs.Numbers.{argument_of, pick_argument}
+use Rattle.std.specs.Prelude.{Result, Ok, Err}
+use Rattle.decimal.specs.declared.NotANumber.{NotANumber}
+use Rattle.decimal.specs.declared.NotANumber.TheVariants.{NoNumber, TooLarge}
+use Rattle.decimal.specs.Numbers.{argument_of}
 use Rattle.crontab.specs.Scanned.{one_of, small, part, Behind, StartsField}
 
 -- THE NEXT SEPARATOR. The invariant of its loop at i: `i + until p (drop i l) ≡ at + until p (drop at l)`.
@@ -94,23 +95,22 @@ number-some [] h = absurd (h refl)
 number-some (b ∷ bs) h = refl
 
 -- a number below 100, or 100 for another and for none
-abbrev pub small_of : Argument → ℕ
-small_of NoNumber = 100
-small_of TooLarge = 100
-small_of (Number n) = n
+abbrev pub small_of : Result ℕ NotANumber → ℕ
+small_of (Ok n) = n
+small_of (Err e) = 100
 
 pub small-read : (l : List ℕ) → (length l ≡ 0 → ⊥) → small_of (argument_of 99 l) ≡ small (number_of l)
 unfolding argument_of
 small-read l h = rw (number-some l h) (go (all is_digit l) (leb (value_from 0 l) 99) refl)
   where
     go : (a b : Bool) → leb (value_from 0 l) 99 ≡ b
-        → small_of (pick_argument a (pick_argument b (Number (value_from 0 l)) TooLarge) NoNumber) ≡ small (cond a (Some (value_from 0 l)) None)
+        → small_of (cond a (cond b (Ok (value_from 0 l)) (Err TooLarge)) (Err NoNumber)) ≡ small (cond a (Some (value_from 0 l)) None)
     go true true e = omega (arith, leb-true (value_from 0 l) 99 e)
     go true false e = omega (arith, leb-false (value_from 0 l) 99 e)
     go false b e = refl
 
 -- what `decimal` read
-pub read_small : (l : List ℕ) (a : Argument) (n : ℕ) → (length l ≡ 0 → ⊥) → a ≡ argument_of 99 l → small_of a ≡ n → n ≡ small (number_of l)
+pub read_small : (l : List ℕ) (a : Result ℕ NotANumber) (n : ℕ) → (length l ≡ 0 → ⊥) → a ≡ argument_of 99 l → small_of a ≡ n → n ≡ small (number_of l)
 read_small l a n h e q = sym q ∙ ap small_of e ∙ small-read l h
 
 pub field-starts : (l : List ℕ) (k at left : ℕ) → left ≤ 0 → at ≤ length l → field left (drop at l) ≡ field k l → StartsField l k at

@@ -3,8 +3,6 @@ ghost use Rattle.std.specs.Prelude.{◌≡◌, ◌≤◌, ◌+◌, length, drop}
 ghost use Rattle.model.specs.Crontab.{until, skip, is_blank, number_of};
 ghost use Rattle.crontab.specs.Scanned.{one_of, small, Behind};
 
-use decimal::Argument;
-
 // Whether a byte is one of two.
 fn is_one(x: u8, a: u8, b: u8) -> bool
     ensures { result ≡ one_of a b x }
@@ -55,12 +53,11 @@ pub fn next_field(s: &[u8], at: usize) -> usize
 pub fn number(s: &[u8]) -> u32
     ensures { result ≡ small (number_of s.now) }
 {
-    if s.len() == 0 {
+    if s.is_empty() {
         return 100;
     }
     match decimal::read(s, 99) {
-        Argument::NoNumber => 100,
-        Argument::TooLarge => 100,
-        Argument::Number(n) => n as u32,
+        Ok(n) => n as u32,
+        Err(_) => 100,
     }
 }

@@ -1,5 +1,5 @@
 -- Texts that are to be decimal numbers.
-use Rattle.std.specs.Prelude.{ℕ, Bool, cond, List, leb, Option, None, Some, Result, Ok, Err}
+use Rattle.std.specs.Prelude.{ℕ, cond, List, leb, Option, None, Some, Result, Ok, Err}
 use Rattle.words.specs.Saturating.{max64}
 use Rattle.model.specs.Lists.{all}
 use Rattle.model.specs.Digits.{is_digit, value_from}

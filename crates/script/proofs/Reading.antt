@@ -10,8 +10,9 @@ use lib.ListN.{length, get_or, take, drop, set, replicate, length-set, length-dr
 use lib.Seq.{take-suc-set, drop-set-lt, drop-drop, drop-cons, drop-append-le, take_all, take_at, length-take-le}
 use Rattle.words.specs.Saturating.{max32}
 use Rattle.script.specs.Words.{words_of, uncommented, past_space, past_word, past_words}
-use Rattle.decimal.specs.declared.Argument.{Argument}
-use Rattle.decimal.specs.declared.Argument.TheVariants.{NoNumber, TooLarge, Number}
+use Rattle.std.specs.Prelude.{Result, Ok, Err}
+use Rattle.decimal.specs.declared.NotANumber.{NotANumber}
+use Rattle.decimal.specs.declared.NotANumber.TheVariants.{NoNumber, TooLarge}
 use Rattle.decimal.specs.Numbers.{argument_of}
 use Rattle.script.specs.Table.{Row, rows, row_of, no_param, most_of, Tail, Nothing, Words, Text}
 use Rattle.script.specs.Script.{Parsed, plain, command, Line, Blank, Command, Bad, Wrong, NoSuchCall, Missing, ListTooLong, TooManyWords, Stops, Goes, numbers_from, line_with, at_end, with_list, tailed, ending, parse_call, call_named, comment_of, behind_name, called_by, parse, Listed, listed, list_from, stopped}
@@ -25,11 +26,11 @@ module _ (s : List ℕ) (at call i p : ℕ) where
   unfolding numbers_from
   missing w = λ ps ns. rw w refl
 
-  given : (from to : ℕ) → WordAt s at from to → (a : Argument) → argument_of (most_of p) (part s from to) ≡ a → Takes s at call i p (taken_of call i to a)
+  given : (from to : ℕ) → WordAt s at from to → (a : Result ℕ NotANumber) → argument_of (most_of p) (part s from to) ≡ a → Takes s at call i p (taken_of call i to a)
   unfolding numbers_from
-  given from to w NoNumber h = λ ps ns. rw (w.word, h) refl
-  given from to w TooLarge h = λ ps ns. rw (w.word, h) refl
-  given from to w (Number n) h = record { takes = λ ps ns. rw (add-one, w.word, h) refl; left = w.left; within = w.within }
+  given from to w (Err NoNumber) h = λ ps ns. rw (w.word, h) refl
+  given from to w (Err TooLarge) h = λ ps ns. rw (w.word, h) refl
+  given from to w (Ok n) h = record { takes = λ ps ns. rw (add-one, w.word, h) refl; left = w.left; within = w.within }
 
   pub taken : (from to : ℕ) (r : Taken) → WordAt s at from to → r ≡ taken_of call i to (argument_of (most_of p) (part s from to)) → Takes s at call i p r
   taken from to r w h = rw h (given from to w (argument_of (most_of p) (part s from to)) refl)
@@ -103,11 +104,11 @@ module _ (s : List ℕ) (at call n room : ℕ) where
     unfolding list_from
     list_full h = rw (w.word, le-ltb n room h)
 
-    list-item : n < room → (a : Argument) → argument_of max32 (part s from to) ≡ a → ListStep s at call n room (step_of call n to a)
+    list-item : n < room → (a : Result ℕ NotANumber) → argument_of max32 (part s from to) ≡ a → ListStep s at call n room (step_of call n to a)
     unfolding list_from
-    list-item h NoNumber e = rw (w.word, lt-ltb n room h, e)
-    list-item h TooLarge e = rw (w.word, lt-ltb n room h, e)
-    list-item h (Number v) e =
+    list-item h (Err NoNumber) e = rw (w.word, lt-ltb n room h, e)
+    list-item h (Err TooLarge) e = rw (w.word, lt-ltb n room h, e)
+    list-item h (Ok v) e =
         record { takes = rw (add-one, w.word, lt-ltb n room h, e); fits = h; behind = omega (arith, w.behind, w.some); within = w.within }
 
     pub list-word : n < room → (r : Step) → r ≡ step_of call n to (argument_of max32 (part s from to)) → ListStep s at call n room r
@@ -134,7 +135,7 @@ module _ (whole rest : Listed) (before after : List ℕ) (n : ℕ) (f : Filled w
         list = sym (rw (m, w, ← f.kept) (take-append-drop n after));
       }
 
-  pub filled_more : (call v : ℕ) (rest' : Listed) → rest ≡ listed call n (Number v) rest' → n < length after
+  pub filled_more : (call v : ℕ) (rest' : Listed) → rest ≡ listed call n (Ok v) rest' → n < length after
       → Filled whole rest' before (set after n v) (n + 1)
   filled_more call v rest' e h =
       record {

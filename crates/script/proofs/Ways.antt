@@ -7,8 +7,9 @@ use Prim.Native.Nat.{ℕ, zero, suc, ◌≤◌, zero-le}
 use lib.Dec.{eqb}
 use lib.ListN.{length, get_or, take, drop, take-append-drop}
 use Rattle.script.specs.Words.{words_of, up_to, uncommented, is_space, past_space, past_word, past_words}
-use Rattle.decimal.specs.declared.Argument.{Argument}
-use Rattle.decimal.specs.declared.Argument.TheVariants.{NoNumber, TooLarge, Number}
+use Rattle.std.specs.Prelude.{Result, Ok, Err}
+use Rattle.decimal.specs.declared.NotANumber.{NotANumber}
+use Rattle.decimal.specs.declared.NotANumber.TheVariants.{NoNumber, TooLarge}
 use Rattle.decimal.specs.Numbers.{argument_of}
 use Rattle.script.specs.Table.{Row, row_of, most_of, no_param, Tail, Nothing, Words, Text}
 use Rattle.script.specs.Script.{Parsed, plain, command, Blank, Bad, Wrong, NoSuchCall, Missing, NotDecimal, OutOfRange, TooManyWords, with_number, numbers_from, Listed, list_from, line_with, at_end, with_list, tailed, ending, going_on, parse_call, call_named, behind_name, called_by, parse_words, parse}
@@ -109,12 +110,12 @@ module _ (Q : Parsed → Type 0) (bad : (w : Wrong) → Q (plain (Bad w))) (k : 
   way-numbers call i (p ∷ ps) taken [] f = bad (Missing call i)
   way-numbers call i (p ∷ ps) taken (w ∷ ws) f = go (argument_of (most_of p) w) refl (λ n. way-numbers call (suc i) ps (taken ++ n ∷ []) ws)
     where
-      go : (a : Argument) → argument_of (most_of p) w ≡ a
+      go : (a : Result ℕ NotANumber) → argument_of (most_of p) w ≡ a
           → ((n : ℕ) → ((ns : List ℕ) (us : List (List ℕ)) → InRange ps ns → Q (k ((taken ++ n ∷ []) ++ ns) us)) → Q (going_on (numbers_from call (suc i) ps (taken ++ n ∷ []) ws) k))
           → Q (going_on (with_number call i a (λ n. numbers_from call (suc i) ps (taken ++ n ∷ []) ws)) k)
-      go NoNumber e h = bad (NotDecimal call i)
-      go TooLarge e h = bad (OutOfRange call i)
-      go (Number n) e h =
+      go (Err NoNumber) e h = bad (NotDecimal call i)
+      go (Err TooLarge) e h = bad (OutOfRange call i)
+      go (Ok n) e h =
           h n
           (λ ns us r.
           subst (λ (z : List ℕ). Q (k z us)) (sym (append_assoc taken (n ∷ []) ns))

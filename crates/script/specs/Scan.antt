@@ -1,8 +1,9 @@
 -- What the parts of the parser find in a line.
 use Rattle.std.specs.Prelude.{ℕ, ◌+◌, ◌-◌, ◌≤◌, ◌<◌, ◌≡◌, false, List, [], ◌∷◌, ◌++◌, length, get_or, take, drop}
 use Rattle.std.specs.Prelude.{Option, None, Some}
-use Rattle.decimal.specs.declared.Argument.{Argument}
-use Rattle.decimal.specs.declared.Argument.TheVariants.{NoNumber, TooLarge, Number}
+use Rattle.std.specs.Prelude.{Result, Ok, Err}
+use Rattle.decimal.specs.declared.NotANumber.{NotANumber}
+use Rattle.decimal.specs.declared.NotANumber.TheVariants.{NoNumber, TooLarge}
 use Rattle.script.specs.Words.{words_of, is_space, past_space, past_word, past_words}
 use Rattle.script.specs.Table.{Tail, Nothing, Words, Text}
 use Rattle.script.specs.Script.{Parsed, Stops, Goes, numbers_from, Listed, listed, list_from, stopped, Line, Wrong, NotDecimal, OutOfRange, WordNotDecimal, WordOutOfRange}
@@ -67,10 +68,10 @@ pub record Parses (p : Parsed) (before after : List ℕ) (r : Line) : Type 0 whe
 
 -- NUMBERS ------------------------------------------------------------------------------------------------------------------------------
 -- the next word as parameter i of a call, number p
-abbrev pub taken_of : ℕ → ℕ → ℕ → Argument → Taken
-taken_of call i next NoNumber = Refused (NotDecimal call i)
-taken_of call i next TooLarge = Refused (OutOfRange call i)
-taken_of call i next (Number n) = Taking n next
+abbrev pub taken_of : ℕ → ℕ → ℕ → Result ℕ NotANumber → Taken
+taken_of call i next (Err NoNumber) = Refused (NotDecimal call i)
+taken_of call i next (Err TooLarge) = Refused (OutOfRange call i)
+taken_of call i next (Ok n) = Taking n next
 
 -- parameter p of a call, its number i, as it was taken from the words at `at`, behind other numbers and before other parameters
 pub record TakesNumber (s : List ℕ) (at call i p n next : ℕ) : Type 0 where
@@ -103,7 +104,7 @@ last_of Text end len = len
 -- LISTS --------------------------------------------------------------------------------------------------------------------------------
 -- word n of a list as it was taken from the words at `at`
 pub record TakesItem (s : List ℕ) (at call n room v next : ℕ) : Type 0 where
-  pub takes : list_from call room n (words_of (drop at s)) ≡ listed call n (Number v) (list_from call room (n + 1) (words_of (drop next s)))
+  pub takes : list_from call room n (words_of (drop at s)) ≡ listed call n (Ok v) (list_from call room (n + 1) (words_of (drop next s)))
   pub fits : n < room
   pub behind : at < next
   pub within : next ≤ length s
@@ -113,10 +114,10 @@ ListStep s at call n room End = list_from call room n (words_of (drop at s)) ≡
 ListStep s at call n room (Stop w) = list_from call room n (words_of (drop at s)) ≡ stopped (Some w)
 ListStep s at call n room (Item v next) = TakesItem s at call n room v next
 
-abbrev pub step_of : ℕ → ℕ → ℕ → Argument → Step
-step_of call n next NoNumber = Stop (WordNotDecimal call n)
-step_of call n next TooLarge = Stop (WordOutOfRange call n)
-step_of call n next (Number v) = Item v next
+abbrev pub step_of : ℕ → ℕ → ℕ → Result ℕ NotANumber → Step
+step_of call n next (Err NoNumber) = Stop (WordNotDecimal call n)
+step_of call n next (Err TooLarge) = Stop (WordOutOfRange call n)
+step_of call n next (Ok v) = Item v next
 
 abbrev pub end_with : Option Wrong → ℕ → Ended
 end_with None n = Count n

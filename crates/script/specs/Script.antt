@@ -3,8 +3,9 @@ use Rattle.std.specs.Prelude.{ℕ, suc, Bool, true, false, ◌&&◌, List, [], �
 use Rattle.std.specs.Prelude.{Option, None, Some}
 use Rattle.words.specs.Saturating.{max32}
 use Rattle.model.specs.Lists.{position}
-use Rattle.decimal.specs.declared.Argument.{Argument}
-use Rattle.decimal.specs.declared.Argument.TheVariants.{NoNumber, TooLarge, Number}
+use Rattle.std.specs.Prelude.{Result, Ok, Err}
+use Rattle.decimal.specs.declared.NotANumber.{NotANumber}
+use Rattle.decimal.specs.declared.NotANumber.TheVariants.{NoNumber, TooLarge}
 use Rattle.decimal.specs.Numbers.{argument_of}
 use Rattle.script.specs.Words.{words_of, uncommented, past_words}
 use Rattle.script.specs.Table.{Row, row_of, names_of, most_of, Tail, Nothing, Words, Text}
@@ -37,10 +38,10 @@ pub data Numbered : Type 0 where
   Goes : List ℕ → List (List ℕ) → Numbered
 
 -- the number that parameter i was given
-abbrev pub with_number : ℕ → ℕ → Argument → (ℕ → Numbered) → Numbered
-with_number call i NoNumber k = Stops (NotDecimal call i)
-with_number call i TooLarge k = Stops (OutOfRange call i)
-with_number call i (Number n) k = k n
+abbrev pub with_number : ℕ → ℕ → Result ℕ NotANumber → (ℕ → Numbered) → Numbered
+with_number call i (Err NoNumber) k = Stops (NotDecimal call i)
+with_number call i (Err TooLarge) k = Stops (OutOfRange call i)
+with_number call i (Ok n) k = k n
 
 -- from number i on, behind those that are taken
 unfoldable pub numbers_from : ℕ → ℕ → List ℕ → List ℕ → List (List ℕ) → Numbered
@@ -58,10 +59,10 @@ pub record Listed : Type 0 where
 abbrev pub stopped : Option Wrong → Listed
 stopped w = record { words = []; wrong = w }
 
-abbrev pub listed : ℕ → ℕ → Argument → Listed → Listed
-listed call i NoNumber rest = stopped (Some (WordNotDecimal call i))
-listed call i TooLarge rest = stopped (Some (WordOutOfRange call i))
-listed call i (Number n) rest = record { words = n ∷ rest.words; wrong = rest.wrong }
+abbrev pub listed : ℕ → ℕ → Result ℕ NotANumber → Listed → Listed
+listed call i (Err NoNumber) rest = stopped (Some (WordNotDecimal call i))
+listed call i (Err TooLarge) rest = stopped (Some (WordOutOfRange call i))
+listed call i (Ok n) rest = record { words = n ∷ rest.words; wrong = rest.wrong }
 
 -- the words of a list from number i on, where there is room for `room` in all; they are numbered as in document 01, from 0
 unfoldable pub list_from : ℕ → ℕ → ℕ → List (List ℕ) → Listed

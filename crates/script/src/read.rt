@@ -9,7 +9,7 @@ ghost use Rattle.script.specs.Print.{largest_of};
 ghost use Rattle.script.specs.Scan.{part, Takes, TakesThem, taken_of, ListStep, step_of, ListEnds, last_of, Parses};
 
 use crate::{Ended, Got, Line, Step, Tail, Taken, Word, Wrong, calls, scan};
-use decimal::Argument;
+use decimal::NotANumber;
 
 // A word that is to be parameter i of a call.
 fn number_at(text: &[u8], from: usize, to: usize, call: u32, i: u32) -> Taken
@@ -18,9 +18,9 @@ fn number_at(text: &[u8], from: usize, to: usize, call: u32, i: u32) -> Taken
 {
     let most = calls::largest(call, i);
     match decimal::read(&text[from..to], most) {
-        Argument::NoNumber => Taken::Refused(Wrong::NotDecimal { call, param: i }),
-        Argument::TooLarge => Taken::Refused(Wrong::OutOfRange { call, param: i }),
-        Argument::Number(n) => Taken::Taking(n, to),
+        Err(NotANumber::NoNumber) => Taken::Refused(Wrong::NotDecimal { call, param: i }),
+        Err(NotANumber::TooLarge) => Taken::Refused(Wrong::OutOfRange { call, param: i }),
+        Ok(n) => Taken::Taking(n, to),
     }
 }
 
@@ -62,9 +62,9 @@ fn item_at(text: &[u8], from: usize, to: usize, call: u32, n: usize) -> Step
     ensures { result ≡ step_of call n to (argument_of max32 (part text.now from to)) }
 {
     match decimal::read(&text[from..to], 4294967295) {
-        Argument::NoNumber => Step::Stop(Wrong::WordNotDecimal { call, word: n }),
-        Argument::TooLarge => Step::Stop(Wrong::WordOutOfRange { call, word: n }),
-        Argument::Number(v) => Step::Item(v as u32, to),
+        Err(NotANumber::NoNumber) => Step::Stop(Wrong::WordNotDecimal { call, word: n }),
+        Err(NotANumber::TooLarge) => Step::Stop(Wrong::WordOutOfRange { call, word: n }),
+        Ok(v) => Step::Item(v as u32, to),
     }
 }
 

@@ -6,13 +6,13 @@ use Rattle.decimal.proofs.DigitLaws.{taken-most}
 use Rattle.script.proofs.read.item_at.Goals as goal
 
 pub overflow_cast-result : goal.overflow_cast-result
-overflow_cast-result c = omega (arith, taken-most max32 _ _ (sym c.read.ensures ∙ c.in-Number.is))
+overflow_cast-result c = omega (arith, taken-most max32 _ _ (sym c.read.ensures ∙ c.in-Ok.is))
 
-pub returns-in-NoNumber : goal.returns-in-NoNumber
-returns-in-NoNumber c = rw (← c.read.ensures, c.in-NoNumber.is)
+pub returns-in-Err-NoNumber : goal.returns-in-Err-NoNumber
+returns-in-Err-NoNumber c = rw (← c.read.ensures, c.in-Err-NoNumber.is, c.in-Err-NoNumber.field-0-is)
 
-pub returns-in-TooLarge : goal.returns-in-TooLarge
-returns-in-TooLarge c = rw (← c.read.ensures, c.in-TooLarge.is)
+pub returns-in-Err-TooLarge : goal.returns-in-Err-TooLarge
+returns-in-Err-TooLarge c = rw (← c.read.ensures, c.in-Err-TooLarge.is, c.in-Err-TooLarge.field-0-is)
 
-pub returns-in-Number : goal.returns-in-Number
-returns-in-Number c = rw (← c.read.ensures, c.in-Number.is)
+pub returns-in-Ok : goal.returns-in-Ok
+returns-in-Ok c = rw (← c.read.ensures, c.in-Ok.is)
