@@ -1,53 +1,25 @@
--- A loop that leaves at the first element that passes: at place k, some of those left passes where some of all does. Assumes nothing.
-use mathlib.Core.Path.{◌≡◌, refl, sym, ◌∙◌}
-use mathlib.Core.Bool.{Bool, true, false}
-use mathlib.Core.List.{List}
-use Prim.Native.Nat.{ℕ, zero, suc, ◌+◌, ◌≤◌, ◌<◌}
-use native.Mathlib.Nat.{le_of_suc-le-suc, not-suc-le-zero}
+-- `any` over a range of numbers: over the numbers themselves, and over a list by its places. Assumes nothing.
+use mathlib.Core.Path.{◌≡◌, refl, ap, ◌∙◌}
+use mathlib.Core.Bool.{Bool, ◌||◌}
+use mathlib.Core.List.{List, [], ◌∷◌}
+use Prim.Native.Nat.{ℕ, zero, suc, ◌+◌, ◌<◌, ◌≤◌}
 use native.Mathlib.Numerals.{add-one}
 use native.Mathlib.Omega.{arith}
+use Rattle.std.specs.List.{list_any, range_with_len}
 use lib.ListN.{length, drop, get_or, drop_of_length-le}
 use lib.Seq.{drop-cons}
 use Rattle.model.specs.Lists.{any, up_from}
-use Rattle.model.proofs.ListLaws.{length-up_from}
 
-module _ {A : Type 0} (p : A → Bool) (xs : List A) where
-  pub Left : ℕ → Type 0
-  Left k = any p (drop k xs) ≡ any p xs
+pub any_numbers : (p : ℕ → Bool) (i n : ℕ) → list_any p (range_with_len i n) ≡ any p (up_from i n)
+any_numbers p i zero = refl
+any_numbers p i (suc n) = ap (λ (b : Bool). p i || b) (rw add-one (any_numbers p (suc i) n))
 
-  pub starts : Left 0
-  unfolding Left
-  starts = refl
+module _ {A : Type 0} (p : A → Bool) (xs : List A) (d : A) where
+  from_place : (i n : ℕ) → i + n ≡ length xs → list_any (λ k. p (get_or xs k d)) (range_with_len i n) ≡ any p (drop i xs)
+  from_place i zero e = let h : length xs ≤ i = omega arith in rw (drop_of_length-le xs {i = i} h)
+  from_place i (suc n) e =
+      let h : i < length xs = omega arith in
+      rw (drop-cons xs i d h) (ap (λ (b : Bool). p (get_or xs i d) || b) (rw add-one (from_place (suc i) n (omega arith))))
 
-  -- a turn, by the answer r at element k
-  module _ (k : ℕ) (d : A) {x : A} {r : Bool} (l : k < length xs) (inv : Left k) (here : x ≡ get_or xs k d) (is : r ≡ p x) where
-    says : (b : Bool) → r ≡ b → p (get_or xs k d) ≡ b
-    says b h = rw (← here) (sym is ∙ h)
-
-    pub hits : r ≡ true → true ≡ any p xs
-    unfolding Left
-    hits h = rw (drop-cons xs k d l, says true h) at inv
-
-    pub goes : r ≡ false → Left (k + 1)
-    unfolding Left
-    goes h = rw add-one (rw (drop-cons xs k d l, says false h) at inv)
-
-  pub ends : (k : ℕ) → length xs ≤ k → Left k → false ≡ any p xs
-  unfolding Left
-  ends k h inv = rw (drop_of_length-le xs {i = k} h) at inv
-
--- number k of those from i on
-from_at : (i n k d : ℕ) → k < n → i + k ≡ get_or (up_from i n) k d
-from_at i zero k d h = absurd (not-suc-le-zero h)
-from_at i (suc n) zero d h = omega arith
-from_at i (suc n) (suc k) d h = let e : i + suc k ≡ suc i + k = omega arith in e ∙ from_at (suc i) n k d (le_of_suc-le-suc h)
-
--- the n numbers from 0 on, by a count m that is n
-pub below : (n k m : ℕ) → m ≡ n → k < m → k < length (up_from 0 n)
-below n k m e h = let l = length-up_from 0 n in omega arith
-
-pub past : (n k m : ℕ) → m ≡ n → m ≤ k → length (up_from 0 n) ≤ k
-past n k m e h = let l = length-up_from 0 n in omega arith
-
-pub number_at : (n k d m : ℕ) → m ≡ n → k < m → k ≡ get_or (up_from 0 n) k d
-number_at n k d m e h = let z : k ≡ 0 + k = omega arith in z ∙ from_at 0 n k d (omega arith)
+  pub any_places : (n : ℕ) → n ≡ length xs → list_any (λ k. p (get_or xs k d)) (range_with_len 0 n) ≡ any p xs
+  any_places n e = from_place 0 n (omega arith)

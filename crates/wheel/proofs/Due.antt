@@ -7,7 +7,7 @@ use mathlib.Core.Bool.{Bool, true, false≢true}
 use mathlib.Core.List.{List, [], ◌∷◌}
 use Rattle.std.specs.Prelude.{None}
 use lib.Dec.{ltb, leb}
-use lib.ListN.{length, take, get_or, length-map, get_or-map}
+use lib.ListN.{length, get_or, get_or-map}
 use borrow.Author.Tests.{ltb-true}
 use Rattle.model.specs.Flat.{flatten_rules, set_of}
 use Rattle.model.specs.Image.{budget}
@@ -27,7 +27,6 @@ use Rattle.store.proofs.KeptRows.{record-kept}
 use Rattle.image.proofs.Accepted.{budget-fits}
 use Rattle.activate.proofs.FlatRules.{image-accepted}
 use Rattle.wheel.specs.Tick.{HasRecords, fits_set, are_indices, records_in}
-use Rattle.wheel.proofs.Taken.{taken-same, taken-below, taken-past}
 
 -- ---- one of the set
 module _ (img : List ℕ) (c : Pending) (fits : fits_set img c ≡ true) where
@@ -43,35 +42,25 @@ module _ (img : List ℕ) (c : Pending) (fits : fits_set img c ≡ true) where
 
 -- ---- all of some records
 module _ {A : Type 0} (p : A → Bool) where
-  all-at : (l : List A) (k : ℕ) (d : A) → all p l ≡ true → k < length l → p (get_or l k d) ≡ true
+  pub all-at : (l : List A) (k : ℕ) (d : A) → all p l ≡ true → k < length l → p (get_or l k d) ≡ true
   all-at [] k d a h = absurd (not-suc-le-zero h)
   all-at (x ∷ l) zero d a h = (both (p x) (all p l) a).0
   all-at (x ∷ l) (suc k) d a h = all-at l k d (both (p x) (all p l) a).1 (le_of_suc-le-suc h)
-
-  -- of the first n of an array
-  pub taken_at : (l : List A) (n j size : ℕ) (d : A) → length l ≡ size → n ≤ size → all p (take n l) ≡ true → j < n → p (get_or l j d) ≡ true
-  taken_at l n j size d long fits a h = rw (taken-same l n j d h) (all-at (take n l) j d a (taken-below l n j size long fits h))
 
 pub all-due : (p : Pending → Bool) (now : ℕ) (ps : List Pending) → all p ps ≡ true → all p (due_now now ps) ≡ true
 unfolding due_now
 all-due p now ps a = all-sort p due_before (keep (λ (c : Pending). leb c.due now) ps) (all_keep p (λ (c : Pending). leb c.due now) ps a)
 
 -- ---- the records at indices, as the store has them
-module _ (w due : List ℕ) (n j size : ℕ) (long : length due ≡ size) (fits : n ≤ size) where
-  pub index-fits : (d : ℕ) → are_indices (take n due) ≡ true → j < n → get_or due j d < 32
-  index-fits d a h = ltb-true (get_or due j d) 32 (taken_at (λ i. ltb i 32) due n j size d long fits a h)
+module _ (w due : List ℕ) (j : ℕ) (inside : j < length due) where
+  pub index-fits : are_indices due ≡ true → get_or due j 0 < 32
+  index-fits a = ltb-true (get_or due j 0) 32 (all-at (λ i. ltb i 32) due j 0 a inside)
 
-  pub record-fits : (p : Pending → Bool) (d : ℕ) {c : Pending} → all p (records_in w (take n due)) ≡ true → j < n → c ≡ record_in w (get_or due j d) → p c ≡ true
-  record-fits p d a h e = ap p e ∙ taken_at (λ i. p (record_in w i)) due n j size d long fits (sym (all_map (record_in w) p (take n due)) ∙ a) h
+  pub record-fits : (p : Pending → Bool) {c : Pending} → all p (records_in w due) ≡ true → c ≡ record_in w (get_or due j 0) → p c ≡ true
+  record-fits p a e = ap p e ∙ all-at (λ i. p (record_in w i)) due j 0 (sym (all_map (record_in w) p due) ∙ a) inside
 
-  pub record-next : (d : ℕ) {c : Pending} → j < n → c ≡ record_in w (get_or due j d) → c ≡ get_or (records_in w (take n due)) j (record_in w d)
-  record-next d h e = e ∙ ap (record_in w) (taken-same due n j d h) ∙ sym (get_or-map (record_in w) (take n due) j d)
-
-  pub records-below : j < n → j < length (records_in w (take n due))
-  records-below h = let s = length-map (take n due) (record_in w) in omega (arith, taken-below due n j size long fits h)
-
-  pub records-past : n ≤ j → length (records_in w (take n due)) ≤ j
-  records-past h = let s = length-map (take n due) (record_in w) in omega (arith, taken-past due n j size long fits h)
+pub record-next : (w due : List ℕ) (j : ℕ) {c : Pending} → c ≡ record_in w (get_or due j 0) → c ≡ get_or (records_in w due) j (record_in w 0)
+record-next w due j e = e ∙ sym (get_or-map (record_in w) due j 0)
 
 -- at the indices of what is due
 module _ (store v : List ℕ) (now : ℕ) (is : List ℕ) (e : is ≡ due_indices now (meaning v).pending) where

@@ -12,12 +12,12 @@ use Rattle.model.specs.Activate as model
 use Rattle.model.specs.Activate.{Handled, no_outcome, and_then}
 use Rattle.model.specs.Lists.{any, keep, flatten}
 use Rattle.model.specs.State.{Env, Volatile, is_enabled}
-use Rattle.model.specs.Rules.{triggers_of, name_order, rule_named}
+use Rattle.model.specs.Rules.{triggers_of, rule_named}
 use Rattle.model.specs.Wheel.{by_timer, by_every, fires_on, rules_on_timer, activate_if_enabled, activate_each, resume_all}
 use Rattle.model.specs.declared.EverySlot.{EverySlot}
 use Rattle.model.specs.declared.Pending.{Pending}
 use Rattle.activate.specs.Carried.{Carried}
-use Rattle.wheel.specs.Tick.{Fires, on_timer, rules_of_slot}
+use Rattle.wheel.specs.Tick.{Fires, Ordered, on_timer, rules_of_slot}
 
 -- ---- one behind another
 then-assoc : (a : Handled) (k l : Volatile → Handled) → and_then (and_then a k) l ≡ and_then a (λ v. and_then (k v) l)
@@ -106,12 +106,13 @@ module _ (e : Env) (img : List ℕ) (timer i : ℕ) (v : Volatile) {on : Bool} (
   unfolding on_timer
   fires-on h = rw (← is, not-false on h) (one-rule e by_timer i v)
 
-pub timer-rules : (e : Env) (img : List ℕ) (timer : ℕ) {n : ℕ} {x : Carried} {ow ew : List ℕ} {r : Carried} {ow' ew' : List ℕ}
-    → Fires n (activate_each e by_timer (flatten (map (λ i. keep (on_timer img timer) (i ∷ [])) (name_order img)))) x ow ew r ow' ew'
+pub timer-rules : (e : Env) (img order : List ℕ) (timer : ℕ) → Ordered img order → {n : ℕ} {x : Carried} {ow ew : List ℕ} {r : Carried} {ow' ew' : List ℕ}
+    → Fires n (activate_each e by_timer (flatten (map (λ i. keep (on_timer img timer) (i ∷ [])) order))) x ow ew r ow' ew'
     → Fires n (activate_each e by_timer (rules_on_timer img timer)) x ow ew r ow' ew'
 unfolding rules_on_timer on_timer
-timer-rules e img timer {n} {x} {ow} {ew} {r} {ow'} {ew'} f =
-    subst (λ (l : List ℕ). Fires n (activate_each e by_timer l) x ow ew r ow' ew') (sym (keep-each (λ i. any (fires_on timer) (triggers_of img i)) (name_order img))) f
+timer-rules e img order timer o {n} {x} {ow} {ew} {r} {ow'} {ew'} f =
+    let p = λ (i : ℕ). any (fires_on timer) (triggers_of img i) in
+    subst (λ (l : List ℕ). Fires n (activate_each e by_timer l) x ow ew r ow' ew') (sym (keep-each p order) ∙ ap (keep p) o) f
 
 module _ (e : Env) (img : List ℕ) (x : EverySlot) where
   pub slot_of : (i : ℕ) (v : Volatile) → rule_named img x.rule ≡ Some i → activate_each e by_every (rules_of_slot img x) v ≡ activate_if_enabled e by_every i v

@@ -7,7 +7,6 @@ pub mod RuleParts
 pub mod Fires
 pub mod Going
 pub mod Each
-pub mod Taken
 pub mod Names
 pub mod Due
 pub mod WallTurns

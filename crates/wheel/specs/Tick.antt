@@ -49,7 +49,7 @@ HasRecords store v = (changing_in store).pending ≡ (meaning v).pending
 
 -- the rules by name
 abbrev pub Ordered : List ℕ → List ℕ → Type 0
-Ordered image order = take (size_of image rules) order ≡ name_order image
+Ordered image order = order ≡ name_order image
 
 -- a part of a tick came from x to r as the specification says, by n activations or resumptions at most
 pub record Fires (n : ℕ) (h : model-state.Volatile → model.Handled) (x : Carried) (ow ew : List ℕ) (r : Carried) (ow' ew' : List ℕ) : Type 0 where

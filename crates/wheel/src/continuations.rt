@@ -1,6 +1,6 @@
 // The continuations that are due: all of them leave before the first goes on, also where an earlier one disables its rule. They are named by their
 // indices, and each is read when its turn comes, from the store, which has the records as they stood before the tick (document 02, request 3).
-ghost use Rattle.std.specs.Prelude.{◌≡◌, true, ◌≤◌, take};
+ghost use Rattle.std.specs.Prelude.{◌≡◌, true, ◌≤◌, length};
 ghost use Rattle.model.specs.Activate as model;
 ghost use Rattle.model.specs.Lists.{all};
 ghost use Rattle.model.specs.Wheel.{resume_all, fire_continuations};
@@ -50,20 +50,16 @@ fn resume_all(
     effects: &mut [u32],
     v: &mut [u32],
     x: Handled,
-    due: [usize; 32],
-    n: usize,
+    due: &[usize],
 ) -> Handled
-    requires holds { Holds store.now image.now × (n ≤ 32) × (are_indices (take n due) ≡ true) × (all (fits_set image.now) (records_in store.now (take n due)) ≡ true) }
+    requires holds { Holds store.now image.now × (length due.now ≤ 32) × (are_indices due.now ≡ true) × (all (fits_set image.now) (records_in store.now due.now) ≡ true) }
     requires room { Room 32 (carried v.old x) }
-    ensures { Fires 32 (resume_all (tick_env snapshot.now image.now) (records_in store.now (take n due))) (carried v.old x) outcomes.old effects.old (carried v.new result) outcomes.new effects.new }
+    ensures { Fires 32 (resume_all (tick_env snapshot.now image.now) (records_in store.now due.now)) (carried v.old x) outcomes.old effects.old (carried v.new result) outcomes.new effects.new }
 {
     let mut h = x;
-    let mut j = 0;
-    while j < n {
-        let i = due[j];
-        let c = pending_record(store, i);
+    for i in due {
+        let c = pending_record(store, *i);
         h = resume_one(snapshot, image, store, outcomes, effects, v, h, c);
-        j += 1;
     }
     h
 }
@@ -84,16 +80,6 @@ pub fn fire_continuations(
     let time = world::now_ms(snapshot);
     let order = due_now(v, time);
     without_due(v, time);
-    let due = order.indices;
-    resume_all(
-        snapshot,
-        image,
-        store,
-        outcomes,
-        effects,
-        v,
-        x,
-        due,
-        order.count,
-    )
+    let due = &order.indices[..order.count];
+    resume_all(snapshot, image, store, outcomes, effects, v, x, due)
 }

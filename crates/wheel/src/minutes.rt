@@ -53,12 +53,5 @@ pub fn minute_due(base: u64, window: u64, days: u32, minute: u64) -> bool
     requires { minute ≤ 61 * max32 }
     ensures { result ≡ minute_due base window days minute }
 {
-    let mut day = 0;
-    while day < 7 {
-        if day_due(base, window, days, minute, day) {
-            return true;
-        }
-        day += 1;
-    }
-    false
+    (0..7).any(|day| day_due(base, window, days, minute, day))
 }

@@ -21,7 +21,6 @@ use crate::minutes::{WEEK_MINUTES, cyclic_dist, in_window, week_minute};
 use crate::rules::activate_rule;
 use crate::wall::{due_wall_kind, has_wall_triggers};
 use activate::Handled;
-use image::layout::size_of;
 use rows::OptionU32;
 use state::rules::is_enabled;
 use world::{MaybeWall, WallTime};
@@ -110,26 +109,22 @@ fn fire_due_wall_rules(
     effects: &mut [u32],
     v: &mut [u32],
     x: Handled,
-    order: [u32; 64],
+    order: &[u32],
     base: u64,
     window: u64,
 ) -> Handled
-    requires holds { Holds store.now image.now × Ordered image.now order }
+    requires holds { Holds store.now image.now × Ordered image.now order.now }
     requires room { Room 64 (carried v.old x) }
     ensures { Fires 64 (fire_due_wall_rules (tick_env snapshot.now image.now) base window false (name_order image.now)) (carried v.old x) outcomes.old effects.old (carried v.new result) outcomes.new effects.new }
 {
-    let n = size_of(image, 0) as usize;
     let mut h = x;
     let mut missed = false;
-    let mut j = 0;
-    while j < n {
+    for i in order {
         let turn = wall_turn(
-            snapshot, image, store, outcomes, effects, v, h, order[j], base, window, missed,
+            snapshot, image, store, outcomes, effects, v, h, *i, base, window, missed,
         );
-        let next = turn.handled;
-        h = next;
+        h = turn.handled;
         missed = turn.missed;
-        j += 1;
     }
     count_missed(v, missed);
     h
@@ -162,11 +157,11 @@ fn fire_window(
     effects: &mut [u32],
     v: &mut [u32],
     x: Handled,
-    order: [u32; 64],
+    order: &[u32],
     minute: u64,
     window: u64,
 ) -> Handled
-    requires holds { Holds store.now image.now × Ordered image.now order }
+    requires holds { Holds store.now image.now × Ordered image.now order.now }
     requires room { Room 64 (carried v.old x) × (minute < 10080) × (window ≤ 60) }
     ensures { Fires 64 (fire_window (tick_env snapshot.now image.now) minute window) (carried v.old x) outcomes.old effects.old (carried v.new result) outcomes.new effects.new }
 {
@@ -202,10 +197,10 @@ fn fire_wall_at(
     effects: &mut [u32],
     v: &mut [u32],
     x: Handled,
-    order: [u32; 64],
+    order: &[u32],
     w: WallTime,
 ) -> Handled
-    requires holds { Holds store.now image.now × Ordered image.now order }
+    requires holds { Holds store.now image.now × Ordered image.now order.now }
     requires room { Room 64 (carried v.old x) × WallInRange (wall_record w) }
     ensures { Fires 64 (fire_wall_at (Some (wall_record w)) (tick_env snapshot.now image.now)) (carried v.old x) outcomes.old effects.old (carried v.new result) outcomes.new effects.new }
 {
@@ -247,9 +242,9 @@ pub fn fire_wall_schedules(
     effects: &mut [u32],
     v: &mut [u32],
     x: Handled,
-    order: [u32; 64],
+    order: &[u32],
 ) -> Handled
-    requires holds { Holds store.now image.now × Ordered image.now order }
+    requires holds { Holds store.now image.now × Ordered image.now order.now }
     requires room { Room 64 (carried v.old x) × (snapshot_refusal snapshot.now ≡ 0) }
     ensures { Fires 64 (fire_wall_schedules (tick_env snapshot.now image.now)) (carried v.old x) outcomes.old effects.old (carried v.new result) outcomes.new effects.new }
 {

@@ -1,5 +1,5 @@
 // The Every slots that are due: each is due again a period from now, and then their rules start.
-ghost use Rattle.std.specs.Prelude.{◌≤◌, take};
+ghost use Rattle.std.specs.Prelude.{◌≤◌, length};
 ghost use Rattle.model.specs.Wheel.{by_every, activate_each, fire_every};
 ghost use Rattle.activate.specs.Carried.{carried};
 ghost use Rattle.activate.specs.Handled.{Room};
@@ -44,19 +44,15 @@ fn fire_slots(
     effects: &mut [u32],
     v: &mut [u32],
     x: Handled,
-    due: [EverySlot; 64],
-    n: usize,
+    due: &[EverySlot],
 ) -> Handled
-    requires holds { Holds store.now image.now × (n ≤ 64) }
+    requires holds { Holds store.now image.now × (length due.now ≤ 64) }
     requires room { Room 64 (carried v.old x) }
-    ensures { Fires 64 (activate_each (tick_env snapshot.now image.now) by_every (rules_of_slots image.now (take n due))) (carried v.old x) outcomes.old effects.old (carried v.new result) outcomes.new effects.new }
+    ensures { Fires 64 (activate_each (tick_env snapshot.now image.now) by_every (rules_of_slots image.now due.now)) (carried v.old x) outcomes.old effects.old (carried v.new result) outcomes.new effects.new }
 {
     let mut h = x;
-    let mut j = 0;
-    while j < n {
-        let slot = due[j];
-        h = fire_slot(snapshot, image, store, outcomes, effects, v, h, slot);
-        j += 1;
+    for slot in due {
+        h = fire_slot(snapshot, image, store, outcomes, effects, v, h, *slot);
     }
     h
 }
@@ -77,8 +73,6 @@ pub fn fire_every(
     let time = world::now_ms(snapshot);
     let list = due_slots(v, time);
     move_slots(v, time);
-    let due = list.slots;
-    fire_slots(
-        snapshot, image, store, outcomes, effects, v, x, due, list.count,
-    )
+    let due = &list.slots[..list.count];
+    fire_slots(snapshot, image, store, outcomes, effects, v, x, due)
 }

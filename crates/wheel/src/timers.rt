@@ -1,5 +1,5 @@
 // The timers that are due: all of them leave, and then each starts the rules that have it as a trigger, in the order of their names.
-ghost use Rattle.std.specs.Prelude.{◌≡◌, [], ◌∷◌, ◌<◌, ◌≤◌, take};
+ghost use Rattle.std.specs.Prelude.{◌≡◌, [], ◌∷◌, ◌<◌, ◌≤◌, length};
 ghost use Rattle.model.specs.Image.{size_of};
 ghost use Rattle.model.specs.Lists.{any, keep};
 ghost use Rattle.model.specs.Rows.{rules};
@@ -12,7 +12,6 @@ ghost use Rattle.wheel.specs.Tick.{Holds, Ordered, Fires, tick_env, on_timer, ru
 
 use crate::rules::activate_if_enabled;
 use activate::Handled;
-use image::layout::size_of;
 use image::rule::{trigger_at, trigger_count};
 use model::{NamedTimer, Trigger};
 use state::timers::{due_timers, without_due};
@@ -25,10 +24,7 @@ fn is_timer(trigger: Trigger, timer: u32) -> bool
 {
     match trigger {
         Trigger::TimerFires { timer: name } => name == timer,
-        Trigger::Every { period_ms } => false,
-        Trigger::AtTime { hour, minute, days } => false,
-        Trigger::AtSolar { event, offset_ms } => false,
-        Trigger::Other => false,
+        _ => false,
     }
 }
 
@@ -37,15 +33,7 @@ fn fires_on(image: &[u32], i: u32, timer: u32) -> bool
     requires { Accepted image.now × (i < size_of image.now rules) }
     ensures { result ≡ any (fires_on timer) (triggers_of image.now i) }
 {
-    let n = trigger_count(image, i);
-    let mut k = 0;
-    while k < n {
-        if is_timer(trigger_at(image, i, k), timer) {
-            return true;
-        }
-        k += 1;
-    }
-    false
+    (0..trigger_count(image, i)).any(|k| is_timer(trigger_at(image, i, k), timer))
 }
 
 // Rule i, where it has the timer as a trigger.
@@ -78,20 +66,16 @@ fn fire_one_timer(
     effects: &mut [u32],
     v: &mut [u32],
     x: Handled,
-    order: [u32; 64],
+    order: &[u32],
     timer: u32,
 ) -> Handled
-    requires holds { Holds store.now image.now × Ordered image.now order }
+    requires holds { Holds store.now image.now × Ordered image.now order.now }
     requires room { Room 64 (carried v.old x) }
     ensures { Fires 64 (activate_each (tick_env snapshot.now image.now) by_timer (rules_on_timer image.now timer)) (carried v.old x) outcomes.old effects.old (carried v.new result) outcomes.new effects.new }
 {
-    let n = size_of(image, 0) as usize;
     let mut h = x;
-    let mut j = 0;
-    while j < n {
-        let i = order[j];
-        h = fire_rule(snapshot, image, store, outcomes, effects, v, h, i, timer);
-        j += 1;
+    for i in order {
+        h = fire_rule(snapshot, image, store, outcomes, effects, v, h, *i, timer);
     }
     h
 }
@@ -104,22 +88,18 @@ fn fire_due_timers(
     effects: &mut [u32],
     v: &mut [u32],
     x: Handled,
-    order: [u32; 64],
-    due: [NamedTimer; 16],
-    n: usize,
+    order: &[u32],
+    due: &[NamedTimer],
 ) -> Handled
-    requires holds { Holds store.now image.now × Ordered image.now order × (n ≤ 16) }
+    requires holds { Holds store.now image.now × Ordered image.now order.now × (length due.now ≤ 16) }
     requires room { Room 1024 (carried v.old x) }
-    ensures { Fires 1024 (activate_each (tick_env snapshot.now image.now) by_timer (rules_of_timers image.now (take n due))) (carried v.old x) outcomes.old effects.old (carried v.new result) outcomes.new effects.new }
+    ensures { Fires 1024 (activate_each (tick_env snapshot.now image.now) by_timer (rules_of_timers image.now due.now)) (carried v.old x) outcomes.old effects.old (carried v.new result) outcomes.new effects.new }
 {
     let mut h = x;
-    let mut j = 0;
-    while j < n {
-        let t = due[j];
+    for t in due {
         h = fire_one_timer(
             snapshot, image, store, outcomes, effects, v, h, order, t.name,
         );
-        j += 1;
     }
     h
 }
@@ -132,17 +112,15 @@ pub fn fire_timers(
     effects: &mut [u32],
     v: &mut [u32],
     x: Handled,
-    order: [u32; 64],
+    order: &[u32],
 ) -> Handled
-    requires holds { Holds store.now image.now × Ordered image.now order }
+    requires holds { Holds store.now image.now × Ordered image.now order.now }
     requires room { Room 1024 (carried v.old x) }
     ensures { Fires 1024 (fire_timers (tick_env snapshot.now image.now)) (carried v.old x) outcomes.old effects.old (carried v.new result) outcomes.new effects.new }
 {
     let time = world::now_ms(snapshot);
     let list = due_timers(v, time);
     without_due(v, time);
-    let due = list.timers;
-    fire_due_timers(
-        snapshot, image, store, outcomes, effects, v, x, order, due, list.count,
-    )
+    let due = &list.timers[..list.count];
+    fire_due_timers(snapshot, image, store, outcomes, effects, v, x, order, due)
 }

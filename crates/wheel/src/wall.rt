@@ -122,13 +122,7 @@ pub fn due_wall_kind(
 fn is_wall_trigger(trigger: Trigger) -> bool
     ensures { result ≡ is_wall_trigger trigger }
 {
-    match trigger {
-        Trigger::TimerFires { timer } => false,
-        Trigger::Every { period_ms } => false,
-        Trigger::AtTime { hour, minute, days } => true,
-        Trigger::AtSolar { event, offset_ms } => true,
-        Trigger::Other => false,
-    }
+    matches!(trigger, Trigger::AtTime { .. } | Trigger::AtSolar { .. })
 }
 
 // Rule i has a wall trigger.
@@ -136,15 +130,7 @@ fn has_wall_trigger(image: &[u32], i: u32) -> bool
     requires { Accepted image.now × (i < size_of image.now rules) }
     ensures { result ≡ any is_wall_trigger (triggers_of image.now i) }
 {
-    let n = trigger_count(image, i);
-    let mut k = 0;
-    while k < n {
-        if is_wall_trigger(trigger_at(image, i, k)) {
-            return true;
-        }
-        k += 1;
-    }
-    false
+    (0..trigger_count(image, i)).any(|k| is_wall_trigger(trigger_at(image, i, k)))
 }
 
 // Rule i is enabled and has one.
@@ -160,13 +146,5 @@ pub fn has_wall_triggers(image: &[u32], v: &[u32]) -> bool
     requires { Accepted image.now × Sound v.now }
     ensures { result ≡ has_wall_triggers image.now (meaning v.now).rest }
 {
-    let n = size_of(image, 0);
-    let mut i = 0;
-    while i < n {
-        if enabled_wall(image, v, i) {
-            return true;
-        }
-        i += 1;
-    }
-    false
+    (0..size_of(image, 0)).any(|i| enabled_wall(image, v, i))
 }

@@ -1,44 +1,22 @@
 -- `wheel::slots::fire_slots` meets its contract. Assumes nothing.
 use native.Mathlib.Omega.{arith}
-use borrow.Kind.Array.{e_struct, good_length}
-use Rattle.model.specs.contracts.EverySlot.{the_type}
-use Rattle.model.proofs.EverySlot.TheLaws.{the_laws, the_copy}
-use Rattle.wheel.proofs.Fires.{same-state}
+use mathlib.Core.Path.{refl}
 use Rattle.wheel.proofs.Going.{room-here}
 use Rattle.wheel.proofs.Loops.{starting-starts, starting-goes, starting-ends}
-use Rattle.wheel.proofs.Taken.{taken-same, taken-below, taken-past}
 use Rattle.wheel.proofs.slots.fire_slots.Goals as goal
 
-pub loop-j-init : goal.loop-j-init
-loop-j-init c =
-    (omega arith, good_length (e_struct the_type the_laws the_copy) 64 c.args.due _ c.well_formed.1.1.1.1.1.1.1.0, starting-starts _ _ _ _ _ _ _ _ c.requires.room.sound)
+pub loop-slot-init : goal.loop-slot-init
+loop-slot-init c = starting-starts _ _ _ _ _ _ _ _ c.requires.room.sound
 
 pub fire_slot-h-requires : goal.fire_slot-h-requires
 fire_slot-h-requires c =
     record {
       holds = c.requires.holds.0;
-      room = room-here _ _ _ _ _ _ _ _ _ _ c.loop-j.invariant.2 64 (omega (arith, c.loop-j-test.true, c.requires.holds.1)) c.requires.room;
+      room = room-here _ _ _ _ _ _ _ _ _ _ c.loop-slot.invariant 64 (omega (arith, c.loop-slot-test.true, c.requires.holds.1)) c.requires.room;
     }
 
-pub loop-j-smaller : goal.loop-j-smaller
-loop-j-smaller c = omega arith
-
-pub loop-j-preserved : goal.loop-j-preserved
-loop-j-preserved c =
-    (omega (arith, c.loop-j-test.true), c.loop-j.invariant.1, starting-goes _ _ _ _ _ c.loop-j.invariant.2 _ _ (taken-below _ _ _ 64 c.loop-j.invariant.1 c.requires.holds.1 c.loop-j-test.true) (taken-same _ _ _ _ c.loop-j-test.true) c.fire_slot-h.ensures)
-
-pub shape_of-outcomes : goal.shape_of-outcomes
-shape_of-outcomes c =
-    c.loop-j.invariant.2.long_outcomes
-
-pub shape_of-effects : goal.shape_of-effects
-shape_of-effects c =
-    c.loop-j.invariant.2.long_effects
-
-pub shape_of-v : goal.shape_of-v
-shape_of-v c =
-    same-state c.requires.room.sound c.loop-j.invariant.2.within.sound
+pub loop-slot-preserved : goal.loop-slot-preserved
+loop-slot-preserved c = starting-goes _ _ _ _ _ c.loop-slot.invariant _ _ c.loop-slot-test.true refl c.fire_slot-h.ensures
 
 pub returns : goal.returns
-returns c =
-    starting-ends _ _ _ _ _ c.loop-j.invariant.2 64 (taken-past _ _ _ 64 c.loop-j.invariant.1 c.requires.holds.1 c.loop-j-test.false) (omega (arith, c.loop-j.invariant.0, c.requires.holds.1))
+returns c = starting-ends _ _ _ _ _ c.loop-slot.invariant 64 c.loop-slot-test.false (omega (arith, c.loop-slot.auto, c.requires.holds.1))

@@ -1,6 +1,8 @@
 -- `wheel::tick::service_tick` meets its contract. Assumes nothing.
 use native.Mathlib.Omega.{arith}
-use mathlib.Core.Path.{◌∙◌}
+use mathlib.Core.Path.{ap, ◌∙◌}
+use Prim.Native.Nat.{ℕ}
+use lib.ListN.{take}
 use Rattle.activate.proofs.Continues.{room-less}
 use Rattle.activate.proofs.FlatRules.{image-accepted}
 use Rattle.wheel.specs.Tick.{tick_env}
@@ -9,14 +11,17 @@ use Rattle.wheel.proofs.Names.{few-rules}
 use Rattle.wheel.proofs.Ticks.{first-room, room-for-timers, room-for-slots, room-for-wall, whole-tick}
 use Rattle.wheel.proofs.tick.service_tick.Goals as goal
 
-pub name_order-order-requires : goal.name_order-order-requires
-name_order-order-requires c =
+pub name_order-all-requires : goal.name_order-all-requires
+name_order-all-requires c =
     let ok = c.requires.holds.accepted in
     let a = image-accepted _ ok in
     record {
       sized = (a.least, a.most);
       rules_bound = few-rules _ ok;
     }
+
+pub size_of-requires : goal.size_of-requires
+size_of-requires c = let a = image-accepted _ c.requires.holds.accepted in (a.least, a.most)
 
 pub fire_continuations-resumed-requires : goal.fire_continuations-resumed-requires
 fire_continuations-resumed-requires c =
@@ -25,12 +30,9 @@ fire_continuations-resumed-requires c =
       v_value = (c.requires.state.stored, room-less 32 1184 _ (omega arith) (first-room c.args.v.now c.requires.state));
     }
 
-pub fire_timers-timed-requires : goal.fire_timers-timed-requires
-fire_timers-timed-requires c =
-    record {
-      holds = (c.requires.holds, c.name_order-order.ensures);
-      room = room-less 1024 1152 _ (omega arith) (room-for-timers (first-room c.args.v.now c.requires.state) c.fire_continuations-resumed.ensures.within);
-    }
+pub fire_timers-timed-requires-clause-room : goal.fire_timers-timed-requires-clause-room
+fire_timers-timed-requires-clause-room c =
+    room-less 1024 1152 _ (omega arith) (room-for-timers (first-room c.args.v.now c.requires.state) c.fire_continuations-resumed.ensures.within)
 
 pub fire_every-repeated-requires : goal.fire_every-repeated-requires
 fire_every-repeated-requires c =
@@ -42,7 +44,7 @@ fire_every-repeated-requires c =
 pub fire_wall_schedules-requires : goal.fire_wall_schedules-requires
 fire_wall_schedules-requires c =
     record {
-      holds = (c.requires.holds, c.name_order-order.ensures);
+      holds = (c.requires.holds, ap (λ (n : ℕ). take n c.name_order-all.result) c.size_of.ensures ∙ c.name_order-all.ensures);
       room = (room-for-wall (first-room c.args.v.now c.requires.state) c.fire_continuations-resumed.ensures.within c.fire_timers-timed.ensures.within c.fire_every-repeated.ensures.within, c.requires.world);
     }
 

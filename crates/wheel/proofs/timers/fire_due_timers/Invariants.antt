@@ -1,16 +1,10 @@
 -- `wheel::timers::fire_due_timers` meets its contract. Assumes nothing.
-use Prim.Native.Nat.{◌≤◌, ◌-◌}
-use mathlib.Core.Path.{◌≡◌}
-use lib.ListN.{length, take}
 use Rattle.model.specs.Wheel.{by_timer}
 use Rattle.activate.specs.Carried.{carried}
 use Rattle.wheel.specs.Tick.{tick_env, rules_of_timer}
 use Rattle.wheel.proofs.Loops.{Starting}
 use Rattle.wheel.proofs.timers.fire_due_timers.Given as goal
 
-abbrev pub invariant-loop-j : goal.invariant-loop-j
-invariant-loop-j l =
-    (l.j ≤ l.n) × (length l.due ≡ 16) × Starting 64 (tick_env l.snapshot l.image) by_timer (rules_of_timer l.image) (take l.n l.due) (carried l.initial.v l.initial.h) l.initial.outcomes l.initial.effects l.j (carried l.v l.h) l.outcomes l.effects
-
-abbrev pub decreases-loop-j : goal.decreases-loop-j
-decreases-loop-j l = l.n - l.j
+abbrev pub invariant-loop-t : goal.invariant-loop-t
+invariant-loop-t l =
+    Starting 64 (tick_env l.snapshot l.image) by_timer (rules_of_timer l.image) l.due (carried l.initial.v l.initial.h) l.initial.outcomes l.initial.effects l.t-index (carried l.v l.h) l.outcomes l.effects

@@ -1,4 +1,6 @@
 -- `wheel::timers::fire_timers` meets its contract. Assumes nothing.
+use native.Mathlib.Omega.{arith}
+use lib.Seq.{length-take-le}
 use Rattle.activate.specs.Carried.{carried}
 use Rattle.wheel.proofs.Fired.{timers-room, timers-fire}
 use Rattle.wheel.proofs.timers.fire_timers.Goals as goal
@@ -6,7 +8,7 @@ use Rattle.wheel.proofs.timers.fire_timers.Goals as goal
 pub fire_due_timers-requires : goal.fire_due_timers-requires
 fire_due_timers-requires c =
     record {
-      holds = (c.requires.holds.0, c.requires.holds.1, c.due_timers-list.ensures.1);
+      holds = (c.requires.holds.0, c.requires.holds.1, omega (arith, length-take-le c.due_timers-list.result.count c.due_timers-list.result.timers, c.due_timers-list.ensures.1));
       room = timers-room c.args.snapshot.now c.args.image.now _ c.now_ms-time.ensures (carried c.args.v.now c.args.x) _ c.without_due.ensures 1024 c.requires.room;
     }
 

@@ -1,35 +1,19 @@
 -- `wheel::wall::has_wall_trigger` meets its contract. Assumes nothing.
-use native.Mathlib.Omega.{arith}
+use mathlib.Core.Path.{refl, ◌∙◌}
+use native.Mathlib.Nat.{sub-zero}
+use lib.ListN.{get_or}
+use Rattle.std.proofs.Common.{rules}
+use Rattle.std.proofs.lemmas.Iterator.{YieldsList-from_range}
+use Rattle.std.proofs.lemmas.Iterator.Search.{any_from_yields_List}
+use Rattle.model.specs.Rules.{triggers_of}
+use Rattle.model.specs.Wheel.{is_wall_trigger}
 use Rattle.model.specs.declared.Trigger.TheVariants.{Other}
-use Rattle.wheel.proofs.AnyOf.{starts, hits, goes, ends}
+use Rattle.wheel.proofs.AnyOf.{any_places}
 use Rattle.wheel.proofs.wall.has_wall_trigger.Goals as goal
 
-pub trigger_count-n-requires : goal.trigger_count-n-requires
-trigger_count-n-requires c = (c.requires.0.least, c.requires.0.most)
-
-pub loop-k-init : goal.loop-k-init
-loop-k-init c = (omega arith, c.trigger_count-n.ensures, starts _ _)
-
-pub trigger_at-requires : goal.trigger_at-requires
-trigger_at-requires c = record {
-  accepted = c.requires.0;
-  i_bound = c.requires.1;
-  k_in_bounds = omega (arith, c.loop-k-test.true, c.loop-k.invariant.1);
-}
-
-pub returns-then-is_wall_trigger : goal.returns-then-is_wall_trigger
-returns-then-is_wall_trigger c =
-    hits _ _ _ Other (omega (arith, c.loop-k-test.true, c.loop-k.invariant.1)) c.loop-k.invariant.2 c.trigger_at.ensures c.is_wall_trigger.ensures c.if-is_wall_trigger.true
-
-pub overflow_add-k : goal.overflow_add-k
-overflow_add-k c = omega arith
-
-pub loop-k-smaller : goal.loop-k-smaller
-loop-k-smaller c = omega arith
-
-pub loop-k-preserved : goal.loop-k-preserved
-loop-k-preserved c =
-    (omega arith, c.loop-k.invariant.1, goes _ _ _ Other (omega (arith, c.loop-k-test.true, c.loop-k.invariant.1)) c.loop-k.invariant.2 c.trigger_at.ensures c.is_wall_trigger.ensures c.if-is_wall_trigger.false)
-
 pub returns : goal.returns
-returns c = ends _ _ _ (omega (arith, c.loop-k-test.false, c.loop-k.invariant.1)) c.loop-k.invariant.2
+returns c =
+    let ts = triggers_of c.args.image.now c.args.i in
+    let n = c.trigger_count.result in
+    any_from_yields_List (λ k. is_wall_trigger (get_or ts k Other)) _ _ _ c.any.ensures.ran (YieldsList-from_range 0 n n refl (sub-zero n)) (λ k b q h. search rules)
+    ∙ any_places is_wall_trigger ts Other n c.trigger_count.ensures
