@@ -9,14 +9,14 @@ use Rattle.store.proofs.FlatForm.{steps-few}
 use Rattle.store.proofs.SetRules as laws
 use Rattle.store.proofs.hold.image_holds.Goals as goal
 
-pub returns-then-refusal-ne0 : goal.returns-then-refusal-ne0
-returns-then-refusal-ne0 c = laws.tables-refused c.args.store.now c.args.image.now c.refusal.result c.refusal.ensures c.if-refusal-ne0.true
+pub returns-then-refusal-ne0-clause-holds : goal.returns-then-refusal-ne0-clause-holds
+returns-then-refusal-ne0-clause-holds c = laws.tables-refused c.args.store.now c.args.image.now c.refusal.result c.refusal.ensures c.if-refusal-ne0.true
 
 pub few_enough-requires : goal.few_enough-requires
 few_enough-requires c = sized c.args.image.now (sym c.refusal.ensures ∙ c.if-refusal-ne0.false)
 
-pub returns-then-not-few_enough : goal.returns-then-not-few_enough
-returns-then-not-few_enough c =
+pub returns-then-not-few_enough-clause-holds : goal.returns-then-not-few_enough-clause-holds
+returns-then-not-few_enough-clause-holds c =
     laws.counts-refused c.args.store.now c.args.image.now (sym c.refusal.ensures ∙ c.if-refusal-ne0.false)
     (sym c.few_enough.ensures ∙ not-true c.few_enough.result c.if-not-few_enough.true-raw)
 
@@ -33,7 +33,14 @@ same_flat-requires c =
       steps_len_bound = steps-few c.args.store.now c.requires.0 _ _ c.word_at.ensures refl;
     }
 
-pub returns : goal.returns
-returns c =
+pub returns-clause-holds : goal.returns-clause-holds
+returns-clause-holds c =
     laws.image_holds c.args.store.now c.args.image.now (sym c.refusal.ensures ∙ c.if-refusal-ne0.false) c.requires.0 c.requires.1
     (sym c.few_enough.ensures ∙ not-false c.few_enough.result c.if-not-few_enough.false-raw) _ _ _ c.word_at.ensures refl c.same_flat.ensures
+
+pub returns-clause-accepted : goal.returns-clause-accepted
+returns-clause-accepted c = λ t. (laws.loads-and-kept c.args.store.now c.args.image.now _ (returns-clause-holds c) t).0
+
+pub returns-clause-kept : goal.returns-clause-kept
+returns-clause-kept c =
+    λ t. let (ok, form) = laws.loads-and-kept c.args.store.now c.args.image.now _ (returns-clause-holds c) t in laws.kept _ _ c.requires.0 c.requires.1 ok form
