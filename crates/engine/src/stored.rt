@@ -7,12 +7,11 @@ ghost use Rattle.model.specs.Store.{read, rule_count};
 ghost use Rattle.model.specs.Calls.{enable, deadline, counters, rule_in};
 ghost use Rattle.model.specs.OnWords.{call_on};
 ghost use Rattle.state.specs.Meaning.{AllNumbered, state_words};
-ghost use Rattle.rows.specs.Options.{option64};
 ghost use Rattle.engine.specs.Seen.{seen, refusal_of};
 ghost use Rattle.engine.specs.Answers.{shown, shown_counters, deadline_is};
 
 use crate::{Answer, Counted};
-use rows::{OptionU64, read};
+use rows::read;
 use state::place::WORDS;
 use store::set::{image_in, is_loaded};
 use store::table;
@@ -61,13 +60,13 @@ pub fn rule_in(store: &[u32], name: u32) -> Option<u32>
     image::rule::rule_named(image_in(store), name)
 }
 
-fn deadline_answer(t: OptionU64) -> Answer
-    ensures { result ≡ deadline_is (option64 t) }
+fn deadline_answer(t: Option<u64>) -> Answer
+    ensures { result ≡ deadline_is t }
 {
-    if t.present {
-        return Answer::Due(t.value);
+    match t {
+        Some(time) => Answer::Due(time),
+        None => Answer::NoDeadline,
     }
-    Answer::NoDeadline
 }
 
 // The next deadline.

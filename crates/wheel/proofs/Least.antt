@@ -1,8 +1,10 @@
--- The least of some times, looked through from the last. Assumes nothing.
+-- The least of some times: of a table's rows, and of several lists. Assumes nothing.
 use mathlib.Core.Path.{◌≡◌, refl, sym, ap, ◌∙◌}
 use mathlib.Core.Bool.{Bool, true, false}
-use mathlib.Core.List.{List, [], ◌∷◌, ◌++◌, map, append_assoc}
-use Rattle.std.specs.Prelude.{Some}
+use mathlib.Core.List.{List, [], ◌∷◌, ◌++◌, map, append_assoc, append-nil}
+use Rattle.std.specs.Prelude.{Option, None, Some}
+use Rattle.std.specs.List.{reduce, fold, flat_map, range_with_len}
+use Rattle.std.specs.Option.{option_to_list}
 use Prim.Native.Nat.{ℕ, zero, suc, ◌+◌, ◌-◌, ◌*◌, ◌≤◌, ◌<◌, min}
 use native.Mathlib.Omega.{arith}
 use lib.ListN.{length, take, drop, get_or, drop_of_length-le}
@@ -26,42 +28,51 @@ use Rattle.state.proofs.Frame.{part-is, table-lent}
 use Rattle.state.proofs.Records.{pending-laws}
 use Rattle.state.proofs.Tables.{rows_long}
 use Rattle.state.proofs.Typed.{holds_rows, holds_fits}
-use Rattle.rows.specs.Options.{option64}
-use Rattle.rows.specs.declared.OptionU64.{OptionU64}
-use Rattle.wheel.specs.Deadline.{row_times, LeastWith, AcceptedIf, store_of, Poll}
+use Rattle.wheel.specs.Deadline.{row_times, store_of, Poll}
+use Rattle.wheel.proofs.Places.{map-places}
 
--- the earlier of two
-module _ (time : ℕ) (best : OptionU64) where
-  pub stays : best.present ≡ true → best.value < time → option64 best ≡ least_of time (option64 best)
-  stays h l = let e : min time best.value ≡ best.value = omega arith in rw (h, e)
+-- THE LEAST ------------------------------------------------------------------------------------------------------------------------------
+two : (x y : ℕ) (o : Option ℕ) → least_of x (least_of y o) ≡ least_of (min x y) o
+two x y None = refl
+two x y (Some z) = let e : min x (min y z) ≡ min (min x y) z = omega arith in ap Some e
 
-  pub earlier-than : best.present ≡ true → time ≤ best.value → Some time ≡ least_of time (option64 best)
-  earlier-than h l = let e : min time best.value ≡ time = omega arith in rw (h, e)
+folded : (x : ℕ) (xs : List ℕ) → Some (fold min x xs) ≡ least (x ∷ xs)
+folded x [] = refl
+folded x (y ∷ xs) = folded (min x y) xs ∙ sym (two x y (least xs))
 
-  pub only : best.present ≡ false → Some time ≡ least_of time (option64 best)
-  only h = rw h
+pub reduced : (xs : List ℕ) → reduce min xs ≡ least xs
+reduced [] = refl
+reduced (x ∷ xs) = folded x xs
 
--- THE ROWS OF A TABLE ----------------------------------------------------------------------------------------------------------------------
-module _ (width at : ℕ) (t : List ℕ) (best : OptionU64) where
-  -- those from row i on were looked at
-  pub Seen : ℕ → OptionU64 → Type 0
-  Seen i next = (others : List ℕ) → option64 best ≡ least others → option64 next ≡ least (map (wide_of at) (drop i (rows_in width t)) ++ others)
+-- a list behind one whose least is known
+behind : (zs xs ys : List ℕ) → least xs ≡ least ys → least (zs ++ xs) ≡ least (zs ++ ys)
+behind [] xs ys e = e
+behind (z ∷ zs) xs ys e = ap (least_of z) (behind zs xs ys e)
 
-  pub seen_none : Fits width t → Seen (get_or t 0 0) best
-  unfolding Seen
-  seen_none fits = λ others e. let z : drop (get_or t 0 0) (rows_in width t) ≡ [] = drop_of_length-le (rows_in width t) {i = get_or t 0 0} (omega (arith, rows_long width t fits)) in rw z e
+in_front : (x : ℕ) (o : Option ℕ) (ys : List ℕ) → least (option_to_list (least_of x o) ++ ys) ≡ least_of x (least (option_to_list o ++ ys))
+in_front x None ys = refl
+in_front x (Some y) ys = sym (two x y (least ys))
 
-  pub seen_more : (i : ℕ) (next r : OptionU64) {time : ℕ} → Fits width t → 0 < i → i ≤ get_or t 0 0 → Seen i next → time ≡ wide_in width t (i - 1) at → option64 r ≡ least_of time (option64 next) → Seen (i - 1) r
-  unfolding Seen
-  seen_more i next r fits h f inv read is = λ others e.
-      let one : suc (i - 1) ≡ i = omega arith in
-      let rest : drop (i - 1) (rows_in width t) ≡ get_or (rows_in width t) (i - 1) [] ∷ drop i (rows_in width t) =
-      drop-cons (rows_in width t) (i - 1) [] (omega (arith, rows_long width t fits)) ∙ rw one in
-      is ∙ rw (rest, read, ← inv others e)
+known : (xs ys : List ℕ) → least (option_to_list (least xs) ++ ys) ≡ least (xs ++ ys)
+known [] ys = refl
+known (x ∷ xs) ys = in_front x (least xs) ys ∙ ap (least_of x) (known xs ys)
 
-  pub seen_all : (i : ℕ) (next : OptionU64) → Seen i next → i ≤ 0 → LeastWith (row_times width at t) best next
-  unfolding Seen
-  seen_all i next inv h = let z : i ≡ 0 = omega arith in rw z at inv
+-- the least of four lists, by that of each
+pub of-four : (a b c d : List ℕ) → reduce min (flat_map option_to_list (least a ∷ least b ∷ least c ∷ least d ∷ [])) ≡ least (((a ++ b) ++ c) ++ d)
+of-four a b c d =
+    let o = option_to_list (least d) ++ [] in
+    let e : least o ≡ least d = known d [] ∙ ap least (append-nil d) in
+    let f : least (option_to_list (least c) ++ o) ≡ least (c ++ d) = known c o ∙ behind c _ _ e in
+    let g : least (option_to_list (least b) ++ (option_to_list (least c) ++ o)) ≡ least (b ++ (c ++ d)) = known b (option_to_list (least c) ++ o) ∙ behind b _ _ f in
+    reduced (flat_map option_to_list (least a ∷ least b ∷ least c ∷ least d ∷ []))
+    ∙ known a (option_to_list (least b) ++ (option_to_list (least c) ++ o)) ∙ behind a _ _ g
+    ∙ ap least (sym (append_assoc (a ++ b) c d ∙ append_assoc a b (c ++ d)))
+
+-- of a table's rows
+pub of-rows : (width at n : ℕ) (t : List ℕ) → Fits width t → n ≡ get_or t 0 0 → reduce min (map (λ i. wide_in width t i at) (range_with_len 0 n)) ≡ least (row_times width at t)
+of-rows width at n t fits e =
+    let l = rows_long width t fits in
+    reduced (map (λ i. wide_in width t i at) (range_with_len 0 n)) ∙ ap least (map-places (wide_of at) (rows_in width t) [] n (e ∙ sym l))
 
 -- the words of part t, as they are lent
 abbrev lent : ℕ → List ℕ → List ℕ
@@ -121,32 +132,17 @@ module _ (w : List ℕ) (s : Sound w) where
       lent-times pending_row pending-laws pending_part 32 (omega arith) refl w s 2 (λ (x : Pending). x.due) (λ x. joined_words x.due) ∙ sym (times-numbered (base_in (cut part_sizes w)) (stored_in (cut part_sizes w)) (records_in (cut part_sizes w)))
 
   pub next-is :
-      (image : List ℕ) (loaded : Bool) (last : ℕ) (poll slot timer r : OptionU64) → Poll image loaded w last poll → LeastWith (row_times 5 3 (lent slots_part w)) poll slot
-      → LeastWith (row_times 3 1 (lent timers_part w)) slot timer → LeastWith (row_times 15 2 (lent pending_part w)) timer r
-      → (flat : List (List FlatStep)) → option64 r ≡ next_deadline (store_of image loaded flat w last)
+      (image : List ℕ) (loaded : Bool) (last : ℕ) (poll slot timer pending : Option ℕ) → Poll image loaded w last poll → slot ≡ least (row_times 5 3 (lent slots_part w))
+      → timer ≡ least (row_times 3 1 (lent timers_part w)) → pending ≡ least (row_times 15 2 (lent pending_part w))
+      → (flat : List (List FlatStep)) → reduce min (flat_map option_to_list (pending ∷ timer ∷ slot ∷ poll ∷ [])) ≡ next_deadline (store_of image loaded flat w last)
   unfolding next_deadline
-  next-is image loaded last poll slot timer r a b c d flat =
+  next-is image loaded last poll slot timer pending a b c d flat =
       let store = store_of image loaded flat w last in
       let ps = map (λ (x : Pending). x.due) (meaning w).pending in
       let ts = map (λ (x : NamedTimer). x.due) (meaning w).rest.timers in
       let xs = map (λ (x : EverySlot). x.due) (meaning w).rest.every in
       let p = wall_poll store store.loaded in
-      let b' : LeastWith xs poll slot = rw slot-times at b in
-      let c' : LeastWith ts slot timer = rw timer-times at c in
-      let d' : LeastWith ps timer r = rw record-times at d in
-      d' (ts ++ (xs ++ p)) (c' (xs ++ p) (b' p (a flat))) ∙ ap least (sym (append_assoc (ps ++ ts) xs p ∙ append_assoc ps ts (xs ++ p)))
-
-pub accepted-if : (loaded : Bool) (image : List ℕ) → loaded ≡ true → AcceptedIf loaded image → Accepted image
-accepted-if true image h a = a
-accepted-if false image h a = let z : ◌≡◌ {A = ℕ} 0 1 = cc in absurd (omega arith)
-
--- the wall poll
-module _ (image : List ℕ) (v : List ℕ) (last : ℕ) where
-  pub polls : (loaded : Bool) {has : Bool} (time : ℕ) → loaded ≡ true → has ≡ has_wall_triggers image (meaning v).rest → has ≡ true → time ≡ saturating_add max64 last 1000 → Poll image loaded v last (record { present = true; value = time })
-  polls loaded time l is h e = λ flat. rw (l, ← is, h, e)
-
-  pub no-poll : (loaded : Bool) {has : Bool} → loaded ≡ true → has ≡ has_wall_triggers image (meaning v).rest → has ≡ false → Poll image loaded v last (record { present = false; value = 0 })
-  no-poll loaded l is h = λ flat. rw (l, ← is, h)
-
-  pub unloaded : (loaded : Bool) → loaded ≡ false → Poll image loaded v last (record { present = false; value = 0 })
-  unloaded loaded l = λ flat. rw l
+      let b' : slot ≡ least xs = b ∙ ap least slot-times in
+      let c' : timer ≡ least ts = c ∙ ap least timer-times in
+      let d' : pending ≡ least ps = d ∙ ap least record-times in
+      rw (b', c', d', a flat) (of-four ps ts xs p)

@@ -1,5 +1,5 @@
 -- Laws that belong to no one function.
-pub mod AnyOf
+pub mod Places
 pub mod Windows
 pub mod DueKind
 pub mod Least

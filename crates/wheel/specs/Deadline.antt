@@ -1,5 +1,5 @@
 -- The next deadline.
-use Rattle.std.specs.Prelude.{ℕ, ◌≡◌, Bool, true, false, List, ◌++◌, map}
+use Rattle.std.specs.Prelude.{ℕ, ◌≡◌, Bool, true, false, List, map}
 use Rattle.std.specs.Prelude.{Option, None, Some}
 use Rattle.model.specs.State.{RuleSet, Store}
 use Rattle.model.specs.Steps.{FlatStep}
@@ -7,16 +7,10 @@ use Rattle.model.specs.Wheel.{least, wall_poll}
 use Rattle.image.specs.Accepted.{Accepted}
 use Rattle.state.specs.Cuts.{rows_in, wide_of}
 use Rattle.state.specs.Meaning.{meaning}
-use Rattle.rows.specs.Options.{option64}
-use Rattle.rows.specs.declared.OptionU64.{OptionU64}
 
 -- the times at word `at` of a table's rows
 abbrev pub row_times : ℕ → ℕ → List ℕ → List ℕ
 row_times width at p = map (wide_of at) (rows_in width p)
-
--- the least of these times and of those whose least was known
-abbrev pub LeastWith : List ℕ → OptionU64 → OptionU64 → Type 0
-LeastWith times best r = (others : List ℕ) → option64 best ≡ least others → option64 r ≡ least (times ++ others)
 
 -- a store of these parts
 abbrev pub set_if : Bool → List ℕ → List (List FlatStep) → Option RuleSet
@@ -30,6 +24,6 @@ abbrev pub AcceptedIf : Bool → List ℕ → Type 0
 AcceptedIf false image = Unit
 AcceptedIf true image = Accepted image
 
-abbrev pub Poll : List ℕ → Bool → List ℕ → ℕ → OptionU64 → Type 0
+abbrev pub Poll : List ℕ → Bool → List ℕ → ℕ → Option ℕ → Type 0
 Poll image loaded v last r =
-    (flat : List (List FlatStep)) → let s = store_of image loaded flat v last in option64 r ≡ least (wall_poll s s.loaded)
+    (flat : List (List FlatStep)) → let s = store_of image loaded flat v last in r ≡ least (wall_poll s s.loaded)

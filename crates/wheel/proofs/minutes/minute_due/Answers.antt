@@ -4,7 +4,7 @@ use Rattle.std.proofs.Common.{rules}
 use Rattle.std.proofs.lemmas.Iterator.{YieldsList-from_range}
 use Rattle.std.proofs.lemmas.Iterator.Search.{any_from_yields_List}
 use Rattle.wheel.specs.Wall.{day_due}
-use Rattle.wheel.proofs.AnyOf.{any_numbers}
+use Rattle.wheel.proofs.Places.{any-numbers}
 use Rattle.wheel.proofs.Windows.{of-days}
 use Rattle.wheel.proofs.minutes.minute_due.Goals as goal
 
@@ -12,4 +12,4 @@ pub returns : goal.returns
 returns c =
     let a = c.args in
     let p = day_due a.base a.window a.days a.minute in
-    of-days _ _ _ _ (any_from_yields_List p _ _ _ c.any.ensures.ran (YieldsList-from_range 0 7 7 refl refl) (λ d b q h. search rules) ∙ any_numbers p 0 7)
+    of-days _ _ _ _ (any_from_yields_List p _ _ _ c.any.ensures.ran (YieldsList-from_range 0 7 7 refl refl) (λ d b q h. search rules) ∙ any-numbers p 0 7)

@@ -8,7 +8,7 @@ use Rattle.std.proofs.lemmas.Iterator.Search.{any_from_yields_List}
 use Rattle.model.specs.Rules.{triggers_of}
 use Rattle.model.specs.Wheel.{is_wall_trigger}
 use Rattle.model.specs.declared.Trigger.TheVariants.{Other}
-use Rattle.wheel.proofs.AnyOf.{any_places}
+use Rattle.wheel.proofs.Places.{any-places}
 use Rattle.wheel.proofs.wall.has_wall_trigger.Goals as goal
 
 pub returns : goal.returns
@@ -16,4 +16,4 @@ returns c =
     let ts = triggers_of c.args.image.now c.args.i in
     let n = c.trigger_count.result in
     any_from_yields_List (λ k. is_wall_trigger (get_or ts k Other)) _ _ _ c.any.ensures.ran (YieldsList-from_range 0 n n refl (sub-zero n)) (λ k b q h. search rules)
-    ∙ any_places is_wall_trigger ts Other n c.trigger_count.ensures
+    ∙ any-places is_wall_trigger ts Other n c.trigger_count.ensures
