@@ -2,7 +2,7 @@
 use mathlib.Core.Path.{◌≡◌, refl, sym, ap, ◌∙◌}
 use mathlib.Core.Bool.{Bool, false}
 use mathlib.Core.List.{List, [], ◌∷◌, map}
-use Rattle.std.specs.Prelude.{Option, Some}
+use Rattle.std.specs.Prelude.{Option, None, Some}
 use Prim.Native.Nat.{ℕ, zero, suc, ◌+◌, ◌-◌, ◌≤◌}
 use native.Mathlib.Nat.{le_of_suc-le-suc, not-suc-le-zero}
 use native.Mathlib.Omega.{arith}
@@ -14,17 +14,15 @@ use Rattle.model.specs.Snapshot.{snapshot_refusal}
 use Rattle.model.specs.State.{RuleSet, Volatile, Store}
 use Rattle.model.specs.Store.{rule_count, read}
 use Rattle.model.specs.Wheel.{week_minute}
-use Rattle.model.specs.World.{World, SunTimes, is_one, world_of}
+use Rattle.model.specs.World.{World, is_one, world_of}
+use Rattle.model.specs.declared.SunTimes.{SunTimes}
 use Rattle.rows.specs.Places.{table_at}
 use Rattle.store.specs.Places.{state_place}
 use Rattle.store.specs.Set.{loaded_in}
 use Rattle.store.specs.Volatile.{changing_in}
 use Rattle.store.proofs.Parts.{bits_at}
 use Rattle.store.proofs.Stored.{from-read, volatile-read}
-use Rattle.world.specs.Values.{wall_record, wall_option}
-use Rattle.world.specs.declared.MaybeWall.{MaybeWall}
-use Rattle.world.specs.declared.MaybeWall.TheVariants as wall
-use Rattle.world.specs.declared.WallTime.{WallTime}
+use Rattle.model.specs.declared.WallTime.{WallTime}
 use Rattle.next.specs.NextStart.{next_from, next_of_set, next_start, start_values}
 use Rattle.next.specs.declared.NextStart.{NextStart}
 use Rattle.next.specs.declared.NextStart.TheVariants.{NoStart, ClockUnknown}
@@ -73,12 +71,12 @@ module _ (w : List ℕ) (s : Store) (e : read w ≡ Some s) where
         ∙ sym (ap (λ (o : Option RuleSet). next_of_set o s.vol.rest.enabled sun t) l.is)
 
 -- THE CLOCK -------------------------------------------------------------------------------------------------------------------------------
-module _ (s : Store) (w : World) (clock : MaybeWall) (is : wall_option clock ≡ w.wall) where
-  pub unknown-clock : clock ≡ wall.Absent → ClockUnknown ≡ next_start s w
+module _ (s : Store) (w : World) (clock : Option WallTime) (is : clock ≡ w.wall) where
+  pub unknown-clock : clock ≡ None → ClockUnknown ≡ next_start s w
   unfolding next_start
   unknown-clock e = rw (← is, e)
 
-  pub known-clock : (time : WallTime) (sun : Option SunTimes) (t : ℕ) (r : NextStart) → clock ≡ wall.Known time → sun ≡ w.sun → t ≡ week_minute (wall_record time)
+  pub known-clock : (time : WallTime) (sun : Option SunTimes) (t : ℕ) (r : NextStart) → clock ≡ Some time → sun ≡ w.sun → t ≡ week_minute time
       → r ≡ next_of_set s.loaded s.vol.rest.enabled sun t → r ≡ next_start s w
   unfolding next_start
   known-clock time sun t r e q f says = rw (← is, e, ← q, ← f) says

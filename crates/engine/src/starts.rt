@@ -6,7 +6,6 @@ ghost use Rattle.model.specs.Snapshot.{snapshot_refusal};
 ghost use Rattle.model.specs.State.{Store};
 ghost use Rattle.model.specs.Store.{read};
 ghost use Rattle.model.specs.World.{is_one, world_of};
-ghost use Rattle.world.specs.Values.{sun_option};
 ghost use Rattle.next.specs.NextStart.{next_of_set, next_start};
 
 use crate::stored;
@@ -14,7 +13,6 @@ use next::NextStart;
 use store::set::{image_in, is_loaded};
 use store::table;
 use wheel::minutes::week_minute;
-use world::{MaybeSun, MaybeWall};
 
 // The bits of the loaded rules, a word each.
 fn bits_in(store: &[u32]) -> &[u32]
@@ -27,9 +25,9 @@ fn bits_in(store: &[u32]) -> &[u32]
 }
 
 // From minute t of the week on: without a set nothing starts.
-fn next_from(store: &[u32], sun: MaybeSun, t: u32) -> NextStart
+fn next_from(store: &[u32], sun: Option<model::SunTimes>, t: u32) -> NextStart
     requires { (present (read store.now) ≡ true) × (t < 10080) }
-    ensures { (s : Store) → read store.now ≡ Some s → result ≡ next_of_set s.loaded s.vol.rest.enabled (sun_option sun) t }
+    ensures { (s : Store) → read store.now ≡ Some s → result ≡ next_of_set s.loaded s.vol.rest.enabled sun t }
 {
     if !is_loaded(store) {
         return NextStart::NoStart;
@@ -45,7 +43,7 @@ pub fn next_start(store: &[u32], snapshot: &[u32]) -> NextStart
     ensures { (s : Store) → read store.now ≡ Some s → result ≡ next_start s (world_of snapshot.now) }
 {
     match world::wall(snapshot) {
-        MaybeWall::Known(w) => next_from(store, world::sun(snapshot), week_minute(w)),
-        MaybeWall::Absent => NextStart::ClockUnknown,
+        Some(w) => next_from(store, world::sun(snapshot), week_minute(w)),
+        None => NextStart::ClockUnknown,
     }
 }

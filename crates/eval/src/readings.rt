@@ -3,12 +3,10 @@ ghost use Rattle.std.specs.Prelude.{◌≡◌, pos};
 ghost use Rattle.std.specs.Prelude.{Some};
 ghost use Rattle.model.specs.Eval.{from_bool, number};
 ghost use Rattle.model.specs.declared.Reading.TheVariants as reading;
-ghost use Rattle.world.specs.Values.{word_option};
 ghost use Rattle.eval.specs.Answers.{number_of};
 ghost use Rattle.eval.specs.Equals.{Reads};
 
 use crate::Number;
-use world::{MaybeGroup, MaybeInput, MaybeLamp, MaybeWord};
 
 pub fn from_word(w: u32) -> Number
     ensures { number_of result ≡ Some (pos w) }
@@ -27,12 +25,12 @@ pub fn from_bool(b: bool) -> Number
 }
 
 // A word that may be missing.
-pub fn from_maybe(w: MaybeWord) -> Number
-    ensures { number_of result ≡ number (word_option w) }
+pub fn from_maybe(w: Option<u32>) -> Number
+    ensures { number_of result ≡ number w }
 {
     match w {
-        MaybeWord::Known(n) => from_word(n),
-        MaybeWord::Absent => Number::Unevaluable,
+        Some(n) => from_word(n),
+        None => Number::Unevaluable,
     }
 }
 
@@ -40,11 +38,11 @@ pub fn lamp_level(snapshot: &[u32], adapter: u32, id: u32) -> Number
     ensures { Reads snapshot.now (reading.LampLevel adapter id) result }
 {
     match world::lamp(snapshot, adapter, id) {
-        MaybeLamp::Known(l) => {
+        Some(l) => {
             let x = l.level;
             from_maybe(x)
         }
-        MaybeLamp::Absent => Number::Unevaluable,
+        None => Number::Unevaluable,
     }
 }
 
@@ -52,11 +50,11 @@ pub fn lamp_cct(snapshot: &[u32], adapter: u32, id: u32) -> Number
     ensures { Reads snapshot.now (reading.LampCct adapter id) result }
 {
     match world::lamp(snapshot, adapter, id) {
-        MaybeLamp::Known(l) => {
+        Some(l) => {
             let x = l.cct_kelvin;
             from_maybe(x)
         }
-        MaybeLamp::Absent => Number::Unevaluable,
+        None => Number::Unevaluable,
     }
 }
 
@@ -64,8 +62,8 @@ pub fn lamp_is_on(snapshot: &[u32], adapter: u32, id: u32) -> Number
     ensures { Reads snapshot.now (reading.LampIsOn adapter id) result }
 {
     match world::lamp(snapshot, adapter, id) {
-        MaybeLamp::Known(l) => from_bool(l.is_on),
-        MaybeLamp::Absent => Number::Unevaluable,
+        Some(l) => from_bool(l.is_on),
+        None => Number::Unevaluable,
     }
 }
 
@@ -73,11 +71,11 @@ pub fn lamp_last_level(snapshot: &[u32], adapter: u32, id: u32) -> Number
     ensures { Reads snapshot.now (reading.LampLastLevel adapter id) result }
 {
     match world::lamp(snapshot, adapter, id) {
-        MaybeLamp::Known(l) => {
+        Some(l) => {
             let x = l.last_level;
             from_maybe(x)
         }
-        MaybeLamp::Absent => Number::Unevaluable,
+        None => Number::Unevaluable,
     }
 }
 
@@ -85,8 +83,8 @@ pub fn group_any_on(snapshot: &[u32], adapter: u32, id: u32) -> Number
     ensures { Reads snapshot.now (reading.GroupAnyOn adapter id) result }
 {
     match world::group(snapshot, adapter, id) {
-        MaybeGroup::Known(g) => from_bool(g.any_on),
-        MaybeGroup::Absent => Number::Unevaluable,
+        Some(g) => from_bool(g.any_on),
+        None => Number::Unevaluable,
     }
 }
 
@@ -94,8 +92,8 @@ pub fn group_all_off(snapshot: &[u32], adapter: u32, id: u32) -> Number
     ensures { Reads snapshot.now (reading.GroupAllOff adapter id) result }
 {
     match world::group(snapshot, adapter, id) {
-        MaybeGroup::Known(g) => from_bool(g.all_off),
-        MaybeGroup::Absent => Number::Unevaluable,
+        Some(g) => from_bool(g.all_off),
+        None => Number::Unevaluable,
     }
 }
 
@@ -103,8 +101,8 @@ pub fn group_member_count(snapshot: &[u32], adapter: u32, id: u32) -> Number
     ensures { Reads snapshot.now (reading.GroupMemberCount adapter id) result }
 {
     match world::group(snapshot, adapter, id) {
-        MaybeGroup::Known(g) => from_word(g.member_count),
-        MaybeGroup::Absent => Number::Unevaluable,
+        Some(g) => from_word(g.member_count),
+        None => Number::Unevaluable,
     }
 }
 
@@ -112,11 +110,11 @@ pub fn input_occupied(snapshot: &[u32], adapter: u32, address: u32, instance: u3
     ensures { Reads snapshot.now (reading.InputOccupied adapter address instance) result }
 {
     match world::input(snapshot, adapter, address, instance) {
-        MaybeInput::Known(n) => {
+        Some(n) => {
             let x = n.occupied;
             from_maybe(x)
         }
-        MaybeInput::Absent => Number::Unevaluable,
+        None => Number::Unevaluable,
     }
 }
 
@@ -124,11 +122,11 @@ pub fn input_light(snapshot: &[u32], adapter: u32, address: u32, instance: u32) 
     ensures { Reads snapshot.now (reading.InputLight adapter address instance) result }
 {
     match world::input(snapshot, adapter, address, instance) {
-        MaybeInput::Known(n) => {
+        Some(n) => {
             let x = n.light;
             from_maybe(x)
         }
-        MaybeInput::Absent => Number::Unevaluable,
+        None => Number::Unevaluable,
     }
 }
 
@@ -136,11 +134,11 @@ pub fn input_position(snapshot: &[u32], adapter: u32, address: u32, instance: u3
     ensures { Reads snapshot.now (reading.InputPosition adapter address instance) result }
 {
     match world::input(snapshot, adapter, address, instance) {
-        MaybeInput::Known(n) => {
+        Some(n) => {
             let x = n.position;
             from_maybe(x)
         }
-        MaybeInput::Absent => Number::Unevaluable,
+        None => Number::Unevaluable,
     }
 }
 
@@ -148,10 +146,10 @@ pub fn input_last_event_age(snapshot: &[u32], adapter: u32, address: u32, instan
     ensures { Reads snapshot.now (reading.InputLastEventAge adapter address instance) result }
 {
     match world::input(snapshot, adapter, address, instance) {
-        MaybeInput::Known(n) => {
+        Some(n) => {
             let x = n.last_event_age_ms;
             from_maybe(x)
         }
-        MaybeInput::Absent => Number::Unevaluable,
+        None => Number::Unevaluable,
     }
 }

@@ -4,21 +4,19 @@ ghost use Rattle.model.specs.Arith.{has_day};
 ghost use Rattle.model.specs.Eval.{solar_of, minute_in_range};
 ghost use Rattle.model.specs.declared.Reading.TheVariants as reading;
 ghost use Rattle.image.specs.Sized.{Sized};
-ghost use Rattle.world.specs.Values.{sun_record};
 ghost use Rattle.eval.specs.Equals.{Reads, SunIsUp, Resolves, BoundAt};
 
 use crate::compare::verdict;
 use crate::readings::{from_bool, from_word};
 use crate::{Minute, Number, Verdict};
 use model::TimeBound;
-use world::{MaybeSun, MaybeWall, SunTimes};
 
 pub fn time_now(snapshot: &[u32]) -> Number
     ensures { Reads snapshot.now reading.TimeNow result }
 {
     match world::wall(snapshot) {
-        MaybeWall::Known(w) => from_word(w.minutes_of_day),
-        MaybeWall::Absent => Number::Unevaluable,
+        Some(w) => from_word(w.minutes_of_day),
+        None => Number::Unevaluable,
     }
 }
 
@@ -26,8 +24,8 @@ pub fn time_hour(snapshot: &[u32]) -> Number
     ensures { Reads snapshot.now reading.TimeHour result }
 {
     match world::wall(snapshot) {
-        MaybeWall::Known(w) => from_word(w.minutes_of_day / 60),
-        MaybeWall::Absent => Number::Unevaluable,
+        Some(w) => from_word(w.minutes_of_day / 60),
+        None => Number::Unevaluable,
     }
 }
 
@@ -35,8 +33,8 @@ pub fn time_minute(snapshot: &[u32]) -> Number
     ensures { Reads snapshot.now reading.TimeMinute result }
 {
     match world::wall(snapshot) {
-        MaybeWall::Known(w) => from_word(w.minutes_of_day % 60),
-        MaybeWall::Absent => Number::Unevaluable,
+        Some(w) => from_word(w.minutes_of_day % 60),
+        None => Number::Unevaluable,
     }
 }
 
@@ -44,8 +42,8 @@ pub fn time_weekday(snapshot: &[u32]) -> Number
     ensures { Reads snapshot.now reading.TimeWeekday result }
 {
     match world::wall(snapshot) {
-        MaybeWall::Known(w) => from_word(w.weekday),
-        MaybeWall::Absent => Number::Unevaluable,
+        Some(w) => from_word(w.weekday),
+        None => Number::Unevaluable,
     }
 }
 
@@ -53,8 +51,8 @@ pub fn sun_rise(snapshot: &[u32]) -> Number
     ensures { Reads snapshot.now reading.SunRise result }
 {
     match world::sun(snapshot) {
-        MaybeSun::Known(t) => from_word(t.sunrise_min),
-        MaybeSun::Absent => Number::Unevaluable,
+        Some(t) => from_word(t.sunrise_min),
+        None => Number::Unevaluable,
     }
 }
 
@@ -62,8 +60,8 @@ pub fn sun_set(snapshot: &[u32]) -> Number
     ensures { Reads snapshot.now reading.SunSet result }
 {
     match world::sun(snapshot) {
-        MaybeSun::Known(t) => from_word(t.sunset_min),
-        MaybeSun::Absent => Number::Unevaluable,
+        Some(t) => from_word(t.sunset_min),
+        None => Number::Unevaluable,
     }
 }
 
@@ -78,11 +76,11 @@ pub fn sun_is_up(snapshot: &[u32]) -> Verdict
     ensures { SunIsUp snapshot.now result }
 {
     match world::wall(snapshot) {
-        MaybeWall::Known(w) => match world::sun(snapshot) {
-            MaybeSun::Known(t) => verdict(is_day(t.sunrise_min, t.sunset_min, w.minutes_of_day)),
-            MaybeSun::Absent => Verdict::Unevaluable,
+        Some(w) => match world::sun(snapshot) {
+            Some(t) => verdict(is_day(t.sunrise_min, t.sunset_min, w.minutes_of_day)),
+            None => Verdict::Unevaluable,
         },
-        MaybeWall::Absent => Verdict::Unevaluable,
+        None => Verdict::Unevaluable,
     }
 }
 
@@ -117,8 +115,8 @@ pub fn minute_in_range(t: u64, start: u64, end: u64) -> bool
 }
 
 // The minute of sunrise 0 or sunset 1, with an offset in milliseconds.
-pub fn solar_minute(sun: SunTimes, event: u32, offset_ms: u32) -> u32
-    ensures { result ≡ solar_of (sun_record sun) event offset_ms }
+pub fn solar_minute(sun: model::SunTimes, event: u32, offset_ms: u32) -> u32
+    ensures { result ≡ solar_of sun event offset_ms }
 {
     if event == 0 {
         return words::solar_minute(sun.sunrise_min, offset_ms);
@@ -132,8 +130,8 @@ pub fn resolve_time_bound(snapshot: &[u32], bound: TimeBound) -> Minute
     match bound {
         TimeBound::Clock { hour, minute } => Minute::At(hour as u64 * 60 + minute as u64),
         TimeBound::Solar { event, offset_ms } => match world::sun(snapshot) {
-            MaybeSun::Known(t) => Minute::At(solar_minute(t, event, offset_ms) as u64),
-            MaybeSun::Absent => Minute::Unevaluable,
+            Some(t) => Minute::At(solar_minute(t, event, offset_ms) as u64),
+            None => Minute::Unevaluable,
         },
         TimeBound::NoBound => Minute::Unevaluable,
     }

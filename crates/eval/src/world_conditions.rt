@@ -3,7 +3,6 @@ ghost use Rattle.std.specs.Prelude.{◌≡◌};
 ghost use Rattle.model.specs.declared.Condition.TheVariants as condition;
 ghost use Rattle.image.specs.Sized.{Sized};
 ghost use Rattle.state.specs.Meaning.{Sound, meaning};
-ghost use Rattle.world.specs.Values.{word_option};
 ghost use Rattle.eval.specs.Answers.{number_of, verdict_of, light_is};
 ghost use Rattle.eval.specs.Equals.{Decides, Evaluates, EvaluatesAny, LevelIs};
 
@@ -12,19 +11,18 @@ use crate::readings::{from_word, input_light, input_occupied, lamp_cct};
 use crate::time::{bound_at, has_day, sun_is_up};
 use crate::values::value_at;
 use crate::{Number, Verdict};
-use world::{MaybeDevice, MaybeGroup, MaybeHclTarget, MaybeLamp, MaybeWall, MaybeWord};
 
 pub fn time_in_range(snapshot: &[u32], image: &[u32], start: u32, end: u32) -> Verdict
     requires { Sized image.now }
     ensures { EvaluatesAny snapshot.now image.now (condition.TimeInRange start end) result }
 {
     match world::wall(snapshot) {
-        MaybeWall::Known(w) => in_range(
+        Some(w) => in_range(
             w.minutes_of_day,
             bound_at(snapshot, image, start),
             bound_at(snapshot, image, end),
         ),
-        MaybeWall::Absent => Verdict::Unevaluable,
+        None => Verdict::Unevaluable,
     }
 }
 
@@ -32,8 +30,8 @@ pub fn day_in(snapshot: &[u32], days: u32) -> Verdict
     ensures { Decides snapshot.now (condition.DayIn days) result }
 {
     match world::wall(snapshot) {
-        MaybeWall::Known(w) => verdict(has_day(days, w.weekday)),
-        MaybeWall::Absent => Verdict::Unevaluable,
+        Some(w) => verdict(has_day(days, w.weekday)),
+        None => Verdict::Unevaluable,
     }
 }
 
@@ -51,8 +49,8 @@ pub fn lamp_is(snapshot: &[u32], adapter: u32, id: u32, on: u32) -> Verdict
     ensures { Decides snapshot.now (condition.LampIs adapter id on) result }
 {
     match world::lamp(snapshot, adapter, id) {
-        MaybeLamp::Known(l) => verdict(same(l.is_on, on)),
-        MaybeLamp::Absent => Verdict::Unevaluable,
+        Some(l) => verdict(same(l.is_on, on)),
+        None => Verdict::Unevaluable,
     }
 }
 
@@ -62,16 +60,16 @@ fn level_is(
     image: &[u32],
     v: &[u32],
     cmp: u32,
-    level: MaybeWord,
+    level: Option<u32>,
     value: u32,
 ) -> Verdict
     requires sized { Sized image.now }
     requires sound { Sound v.now }
-    ensures { LevelIs snapshot.now image.now (meaning v.now).rest cmp (word_option level) value result }
+    ensures { LevelIs snapshot.now image.now (meaning v.now).rest cmp level value result }
 {
     match level {
-        MaybeWord::Known(n) => compared(cmp, from_word(n), value_at(snapshot, image, v, value)),
-        MaybeWord::Absent => Verdict::No,
+        Some(n) => compared(cmp, from_word(n), value_at(snapshot, image, v, value)),
+        None => Verdict::No,
     }
 }
 
@@ -89,11 +87,11 @@ pub fn lamp_level_is(
     ensures { Evaluates snapshot.now image.now (meaning v.now).rest (condition.LampLevel adapter id cmp value) result }
 {
     match world::lamp(snapshot, adapter, id) {
-        MaybeLamp::Known(l) => {
+        Some(l) => {
             let level = l.level;
             level_is(snapshot, image, v, cmp, level, value)
         }
-        MaybeLamp::Absent => Verdict::Unevaluable,
+        None => Verdict::Unevaluable,
     }
 }
 
@@ -118,13 +116,13 @@ pub fn group_state(snapshot: &[u32], adapter: u32, id: u32, state: u32) -> Verdi
     ensures { Decides snapshot.now (condition.GroupState adapter id state) result }
 {
     match world::group(snapshot, adapter, id) {
-        MaybeGroup::Known(g) => {
+        Some(g) => {
             if state == 0 {
                 return verdict(g.any_on);
             }
             verdict(g.all_off)
         }
-        MaybeGroup::Absent => Verdict::Unevaluable,
+        None => Verdict::Unevaluable,
     }
 }
 
@@ -175,13 +173,13 @@ pub fn hcl_state(snapshot: &[u32], target: u32, state: u32) -> Verdict
     ensures { Decides snapshot.now (condition.HclState target state) result }
 {
     match world::hcl_target(snapshot, target) {
-        MaybeHclTarget::Known(h) => {
+        Some(h) => {
             if state == 0 {
                 return verdict(h.enabled);
             }
             verdict(h.overridden)
         }
-        MaybeHclTarget::Absent => Verdict::No,
+        None => Verdict::No,
     }
 }
 
@@ -189,8 +187,8 @@ pub fn device_online(snapshot: &[u32], adapter: u32, address: u32) -> Verdict
     ensures { Decides snapshot.now (condition.DeviceOnline adapter address) result }
 {
     match world::device(snapshot, adapter, address) {
-        MaybeDevice::Known(d) => verdict(d.online),
-        MaybeDevice::Absent => Verdict::No,
+        Some(d) => verdict(d.online),
+        None => Verdict::No,
     }
 }
 

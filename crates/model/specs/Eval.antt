@@ -35,7 +35,7 @@ as_int (Some (Text t)) = None
 
 -- `solar_minute` of sunrise 0 or sunset 1
 unfoldable pub solar_of : SunTimes → ℕ → ℕ → ℕ
-solar_of sun event offset = solar_minute (cond (eqb event 0) sun.sunrise sun.sunset) offset
+solar_of sun event offset = solar_minute (cond (eqb event 0) sun.sunrise_min sun.sunset_min) offset
 
 unfoldable pub minute_in_range : ℕ → ℕ → ℕ → Bool
 minute_in_range t start end = cond (leb start end) (leb start t && leb t end) (leb start t || leb t end)
@@ -49,26 +49,26 @@ module _ (e : Env) (s : Rest) where
   sun_is_up = do
     wall ← e.world.wall
     sun ← e.world.sun
-    Some (leb sun.sunrise wall.minute && ltb wall.minute sun.sunset)
+    Some (leb sun.sunrise_min wall.minutes_of_day && ltb wall.minutes_of_day sun.sunset_min)
 
   unfoldable pub eval_reading : reading.Reading → Option ℤ
   eval_reading (reading.LampLevel a i) = do l ← lamp e.world a i; number l.level
-  eval_reading (reading.LampCct a i) = do l ← lamp e.world a i; number l.cct
-  eval_reading (reading.LampIsOn a i) = do l ← lamp e.world a i; Some (from_bool l.on)
-  eval_reading (reading.LampLastLevel a i) = do l ← lamp e.world a i; number l.last
+  eval_reading (reading.LampCct a i) = do l ← lamp e.world a i; number l.cct_kelvin
+  eval_reading (reading.LampIsOn a i) = do l ← lamp e.world a i; Some (from_bool l.is_on)
+  eval_reading (reading.LampLastLevel a i) = do l ← lamp e.world a i; number l.last_level
   eval_reading (reading.GroupAnyOn a i) = do g ← group e.world a i; Some (from_bool g.any_on)
   eval_reading (reading.GroupAllOff a i) = do g ← group e.world a i; Some (from_bool g.all_off)
-  eval_reading (reading.GroupMemberCount a i) = do g ← group e.world a i; Some (pos g.members)
+  eval_reading (reading.GroupMemberCount a i) = do g ← group e.world a i; Some (pos g.member_count)
   eval_reading (reading.InputOccupied a i k) = do n ← input e.world a i k; number n.occupied
   eval_reading (reading.InputLight a i k) = do n ← input e.world a i k; number n.light
   eval_reading (reading.InputPosition a i k) = do n ← input e.world a i k; number n.position
-  eval_reading (reading.InputLastEventAge a i k) = do n ← input e.world a i k; number n.age
-  eval_reading reading.TimeNow = do w ← e.world.wall; Some (pos w.minute)
-  eval_reading reading.TimeHour = do w ← e.world.wall; Some (pos (w.minute / 60))
-  eval_reading reading.TimeMinute = do w ← e.world.wall; Some (pos (w.minute % 60))
+  eval_reading (reading.InputLastEventAge a i k) = do n ← input e.world a i k; number n.last_event_age_ms
+  eval_reading reading.TimeNow = do w ← e.world.wall; Some (pos w.minutes_of_day)
+  eval_reading reading.TimeHour = do w ← e.world.wall; Some (pos (w.minutes_of_day / 60))
+  eval_reading reading.TimeMinute = do w ← e.world.wall; Some (pos (w.minutes_of_day % 60))
   eval_reading reading.TimeWeekday = do w ← e.world.wall; Some (pos w.weekday)
-  eval_reading reading.SunRise = do sun ← e.world.sun; Some (pos sun.sunrise)
-  eval_reading reading.SunSet = do sun ← e.world.sun; Some (pos sun.sunset)
+  eval_reading reading.SunRise = do sun ← e.world.sun; Some (pos sun.sunrise_min)
+  eval_reading reading.SunSet = do sun ← e.world.sun; Some (pos sun.sunset_min)
   eval_reading reading.SunIsUp = do up ← sun_is_up; Some (from_bool up)
   eval_reading (reading.Var name) = as_int (var_named s name)
   -- no event stands behind these calls
@@ -136,10 +136,10 @@ module _ (e : Env) (s : Rest) where
     wall ← e.world.wall
     from ← bound_at start
     to ← bound_at end
-    Some (minute_in_range wall.minute from to)
+    Some (minute_in_range wall.minutes_of_day from to)
   eval_condition (DayIn days) = do wall ← e.world.wall; Some (has_day days wall.weekday)
   eval_condition (SunIs up) = do is ← sun_is_up; Some (equal_b is (is_one up))
-  eval_condition (LampIs a i on) = do l ← lamp e.world a i; Some (equal_b l.on (is_one on))
+  eval_condition (LampIs a i on) = do l ← lamp e.world a i; Some (equal_b l.is_on (is_one on))
   eval_condition (LampLevel a i cmp v) = do l ← lamp e.world a i; level_is cmp l.level v
   eval_condition (LampCct a i cmp v) = do
     left ← eval_reading (reading.LampCct a i)

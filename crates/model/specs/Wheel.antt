@@ -114,7 +114,7 @@ abbrev pub week_minutes : ℕ
 week_minutes = 7 * 24 * 60
 
 unfoldable pub week_minute : WallTime → ℕ
-week_minute w = w.weekday * 1440 + w.minute
+week_minute w = w.weekday * 1440 + w.minutes_of_day
 
 unfoldable pub cyclic_dist : ℕ → ℕ → ℕ
 cyclic_dist from to = (to + week_minutes - from) % week_minutes

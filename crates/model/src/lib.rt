@@ -313,6 +313,63 @@ pub enum Trigger {
     Other,
 }
 
+// What a snapshot says, as in world.rs: document 01, "Snapshot".
+#[derive(Clone, Copy)]
+pub struct WallTime {
+    pub weekday: u32,
+    pub minutes_of_day: u32,
+}
+
+#[derive(Clone, Copy)]
+pub struct SunTimes {
+    pub sunrise_min: u32,
+    pub sunset_min: u32,
+}
+
+#[derive(Clone, Copy)]
+pub struct LampState {
+    pub adapter_id: u32,
+    pub id: u32,
+    pub level: Option<u32>,
+    pub cct_kelvin: Option<u32>,
+    pub is_on: bool,
+    pub last_level: Option<u32>,
+}
+
+#[derive(Clone, Copy)]
+pub struct GroupState {
+    pub adapter_id: u32,
+    pub id: u32,
+    pub any_on: bool,
+    pub all_off: bool,
+    pub member_count: u32,
+}
+
+#[derive(Clone, Copy)]
+pub struct DeviceState {
+    pub adapter_id: u32,
+    pub short_address: u32,
+    pub online: bool,
+}
+
+#[derive(Clone, Copy)]
+pub struct InputState {
+    pub adapter_id: u32,
+    pub short_address: u32,
+    pub instance_number: u32,
+    pub occupied: Option<u32>,
+    pub light: Option<u32>,
+    pub position: Option<u32>,
+    pub last_event_age_ms: Option<u32>,
+}
+
+#[derive(Clone, Copy)]
+pub struct HclTargetState {
+    pub target: u32,
+    pub enabled: bool,
+    pub overridden: bool,
+}
+
 // Where an action stands while it is flattened, without the depth; `limit` is the repeat limit.
 #[derive(Clone, Copy)]
 pub struct FlattenCtx {

@@ -8,7 +8,7 @@ use native.Mathlib.Omega.{arith}
 use lib.Dec.{leb}
 use borrow.Author.Tests.{le-leb, lt-leb}
 use Rattle.model.specs.Rules.{name_of, rule_indices}
-use Rattle.model.specs.World.{SunTimes}
+use Rattle.model.specs.declared.SunTimes.{SunTimes}
 use Rattle.next.specs.NextStart.{NoStart, Start, starts_in, minutes_ahead, name_ahead, start_or_none, next_from}
 use Rattle.next.specs.Distance.{best_of}
 use Rattle.next.specs.declared.Best.{Best}

@@ -12,7 +12,7 @@ use Rattle.model.specs.Eval.{solar_of}
 use Rattle.model.specs.Lists.{any, present}
 use Rattle.model.specs.State.{Env}
 use Rattle.model.specs.Wheel.{WallKind, cyclic_dist, in_window, weekdays, minute_due, solar_due, due_wall_kind, by_time, by_solar, without_sun}
-use Rattle.model.specs.World.{SunTimes}
+use Rattle.model.specs.declared.SunTimes.{SunTimes}
 use Rattle.model.specs.declared.Trigger.{Trigger}
 use Rattle.model.specs.declared.Trigger.TheVariants.{TimerFires, Every, AtTime, AtSolar, Other}
 use Rattle.next.specs.NextStart.{on_days, stands_at, due_in}

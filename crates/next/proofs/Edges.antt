@@ -9,7 +9,7 @@ use Rattle.model.specs.Arith.{has_day}
 use Rattle.model.specs.Eval.{solar_of}
 use Rattle.model.specs.Image.{trailer, first_of, width_of, size_of, word_at}
 use Rattle.model.specs.Rules.{trigger_of, triggers_of}
-use Rattle.model.specs.World.{SunTimes}
+use Rattle.model.specs.declared.SunTimes.{SunTimes}
 use Rattle.model.specs.declared.Trigger.{Trigger}
 use Rattle.model.specs.declared.Trigger.TheVariants.{TimerFires, Every, AtTime, AtSolar, Other}
 use Rattle.next.specs.NextStart.{NextStart, NoStart, Start, first_from, on_days, stands_at, due_in, starts_in, lowest, minutes_ahead, name_ahead, next_from}
@@ -28,7 +28,7 @@ unfolding first_from due_in stands_at on_days has_day
 no-minute = (refl, refl, refl, refl, refl)
 
 -- the sun's own minute, on every day
-of-sun : minutes (Some (record { sunrise = 300; sunset = 1200 })) 301 (AtSolar 0 0) ≡ 1439
+of-sun : minutes (Some (record { sunrise_min = 300; sunset_min = 1200 })) 301 (AtSolar 0 0) ≡ 1439
 unfolding first_from due_in stands_at on_days has_day solar_of solar_minute
 of-sun = refl
 

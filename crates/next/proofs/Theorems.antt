@@ -13,7 +13,9 @@ use Rattle.model.specs.Rows.{rules}
 use Rattle.model.specs.Rules.{name_of, rule_indices}
 use Rattle.model.specs.State.{RuleSet, Store}
 use Rattle.model.specs.Wheel.{week_minute}
-use Rattle.model.specs.World.{World, WallTime, SunTimes}
+use Rattle.model.specs.World.{World}
+use Rattle.model.specs.declared.WallTime.{WallTime}
+use Rattle.model.specs.declared.SunTimes.{SunTimes}
 use Rattle.next.specs.NextStart.{NextStart, NoStart, ClockUnknown, Start, first_from, starts_in, minutes_ahead, name_ahead, start_or_none, next_from, next_of_set, next_start}
 use Rattle.next.proofs.First.{at_least, before, passes}
 use Rattle.next.proofs.Lowest.{Named, none_passes, all-fail, lowest-least, lowest-named}

@@ -10,7 +10,8 @@ use borrow.Author.Tests.{eq-eqb, ne_eqb}
 use Rattle.model.specs.Eval.{solar_of}
 use Rattle.model.specs.Lists.{any}
 use Rattle.model.specs.Rules.{triggers_of}
-use Rattle.model.specs.World.{SunTimes, is_one}
+use Rattle.model.specs.World.{is_one}
+use Rattle.model.specs.declared.SunTimes.{SunTimes}
 use Rattle.model.specs.declared.Trigger.{Trigger}
 use Rattle.model.specs.declared.Trigger.TheVariants.{TimerFires, Every, AtTime, AtSolar, Other}
 use Rattle.next.specs.NextStart.{first_from, on_days, stands_at, due_in, starts_in}

@@ -3,7 +3,7 @@ use Rattle.std.specs.Prelude.{ℕ, ◌+◌, ◌*◌, ◌%◌, min, Bool, cond, �
 use Rattle.std.specs.Prelude.{Option}
 use Rattle.model.specs.Arith.{has_day}
 use Rattle.model.specs.Rules.{name_of, rule_indices}
-use Rattle.model.specs.World.{SunTimes}
+use Rattle.model.specs.declared.SunTimes.{SunTimes}
 use Rattle.next.specs.NextStart.{first_from, starts_in}
 use Rattle.next.specs.declared.Best.{Best}
 

@@ -7,7 +7,8 @@ use Rattle.model.specs.Lists.{any, keep}
 use Rattle.model.specs.Rules.{name_of, triggers_of, rule_indices}
 use Rattle.model.specs.State.{RuleSet, Store}
 use Rattle.model.specs.Wheel.{week_minutes, weekdays, week_minute}
-use Rattle.model.specs.World.{World, SunTimes}
+use Rattle.model.specs.World.{World}
+use Rattle.model.specs.declared.SunTimes.{SunTimes}
 use Rattle.model.specs.declared.Trigger.{Trigger}
 use Rattle.model.specs.declared.Trigger.TheVariants.{TimerFires, Every, AtTime, AtSolar, Other}
 pub use Rattle.next.specs.declared.NextStart.{NextStart}

@@ -10,7 +10,6 @@ ghost use Rattle.model.specs.Rows.{rules};
 ghost use Rattle.model.specs.World.{is_one};
 ghost use Rattle.model.specs.declared.Trigger.TheVariants as trigger;
 ghost use Rattle.image.specs.Accepted.{Accepted};
-ghost use Rattle.world.specs.Values.{sun_option};
 ghost use Rattle.next.specs.NextStart.{on_days, due_in, starts_in, first_from, next_from};
 ghost use Rattle.next.specs.Distance.{day_ahead, better, best_of};
 
@@ -18,7 +17,6 @@ use eval::time::{has_day, solar_minute};
 use image::layout::size_of;
 use image::rule::{name_of, trigger_at, trigger_count};
 use model::Trigger;
-use world::MaybeSun;
 
 #[derive(Clone, Copy)]
 pub enum NextStart {
@@ -84,19 +82,19 @@ fn days_minutes(t: u32, days: u32, minute: u64) -> u32
     best
 }
 
-fn solar_minutes(sun: MaybeSun, t: u32, event: u32, offset_ms: u32) -> u32
+fn solar_minutes(sun: Option<model::SunTimes>, t: u32, event: u32, offset_ms: u32) -> u32
     requires { t < 10080 }
-    ensures { result ≡ first_from (λ m. due_in (sun_option sun) t (trigger.AtSolar event offset_ms) m) 1 10080 }
+    ensures { result ≡ first_from (λ m. due_in sun t (trigger.AtSolar event offset_ms) m) 1 10080 }
 {
     match sun {
-        MaybeSun::Known(s) => days_minutes(t, 127, solar_minute(s, event, offset_ms) as u64),
-        MaybeSun::Absent => NEVER,
+        Some(s) => days_minutes(t, 127, solar_minute(s, event, offset_ms) as u64),
+        None => NEVER,
     }
 }
 
-fn trigger_minutes(sun: MaybeSun, t: u32, trigger: Trigger) -> u32
+fn trigger_minutes(sun: Option<model::SunTimes>, t: u32, trigger: Trigger) -> u32
     requires { t < 10080 }
-    ensures { result ≡ first_from (λ m. due_in (sun_option sun) t trigger m) 1 10080 }
+    ensures { result ≡ first_from (λ m. due_in sun t trigger m) 1 10080 }
 {
     match trigger {
         Trigger::TimerFires { timer } => NEVER,
@@ -112,9 +110,9 @@ fn trigger_minutes(sun: MaybeSun, t: u32, trigger: Trigger) -> u32
 }
 
 // To the first start of rule i, which has none while its bit is not set.
-fn rule_minutes(image: &[u32], bits: &[u32], sun: MaybeSun, t: u32, i: u32) -> u32
+fn rule_minutes(image: &[u32], bits: &[u32], sun: Option<model::SunTimes>, t: u32, i: u32) -> u32
     requires { Accepted image.now × (i < size_of image.now rules) × (t < 10080) }
-    ensures { result ≡ first_from (starts_in image.now (map is_one bits.now) (sun_option sun) t i) 1 10080 }
+    ensures { result ≡ first_from (starts_in image.now (map is_one bits.now) sun t i) 1 10080 }
 {
     if fields::word(bits, i as usize) != 1 {
         return NEVER;
@@ -145,9 +143,9 @@ fn earlier(minutes: u32, name: u32, best: Best) -> Best
 }
 
 // The earliest start of all rules.
-fn earliest(image: &[u32], bits: &[u32], sun: MaybeSun, t: u32) -> Best
+fn earliest(image: &[u32], bits: &[u32], sun: Option<model::SunTimes>, t: u32) -> Best
     requires { Accepted image.now × (t < 10080) }
-    ensures { result ≡ best_of image.now (map is_one bits.now) (sun_option sun) t }
+    ensures { result ≡ best_of image.now (map is_one bits.now) sun t }
 {
     let mut best = Best {
         minutes: NEVER,
@@ -163,9 +161,9 @@ fn earliest(image: &[u32], bits: &[u32], sun: MaybeSun, t: u32) -> Best
 }
 
 // From minute t of the week on, of an accepted image and the words of its rules' bits: 1 is enabled.
-pub fn next_from(image: &[u32], bits: &[u32], sun: MaybeSun, t: u32) -> NextStart
+pub fn next_from(image: &[u32], bits: &[u32], sun: Option<model::SunTimes>, t: u32) -> NextStart
     requires { Accepted image.now × (t < 10080) }
-    ensures { result ≡ next_from image.now (map is_one bits.now) (sun_option sun) t }
+    ensures { result ≡ next_from image.now (map is_one bits.now) sun t }
 {
     let best = earliest(image, bits, sun, t);
     if best.minutes < NEVER {

@@ -14,7 +14,7 @@ use Rattle.model.specs.Rows.{rules}
 use Rattle.model.specs.declared.Trigger.{Trigger}
 use Rattle.model.specs.declared.Trigger.TheVariants.{TimerFires, Every as EveryMs, AtTime, AtSolar, Other}
 use Rattle.model.specs.Rules.{triggers_of, name_order}
-use Rattle.model.specs.World.{WallTime}
+use Rattle.model.specs.declared.WallTime.{WallTime}
 use Rattle.model.specs.Outcome.{Outcome}
 use Rattle.model.specs.declared.Pending.{Pending}
 use Rattle.model.specs.State.{Env, Volatile, with_rest, is_enabled}

@@ -8,7 +8,8 @@ use Rattle.std.specs.Prelude.{Option, None, Some}
 use mathlib.Core.List.{List, [], append-nil}
 use lib.Dec.{leb}
 use Rattle.model.specs.Snapshot.{snapshot_refusal}
-use Rattle.model.specs.World.{WallTime, now_of, world_of}
+use Rattle.model.specs.World.{now_of, world_of}
+use Rattle.model.specs.declared.WallTime.{WallTime}
 use Rattle.model.specs.State.{Env, Volatile, RuleSet, Store}
 use Rattle.model.specs.Activate.{Handled, and_then}
 use Rattle.model.specs.Wheel.{cyclic_dist, in_window, is_set_back, fire_wall_at, fire_wall_schedules, service_tick}

@@ -1,7 +1,7 @@
 -- A tick by its parts: what it does before its wall part, whether its clock was set back, and document 01's wall part.
 use Rattle.std.specs.Prelude.{ℕ, ◌+◌, ◌-◌, ◌%◌, Bool, false}
 use Rattle.std.specs.Prelude.{Option, None, Some}
-use Rattle.model.specs.World.{WallTime}
+use Rattle.model.specs.declared.WallTime.{WallTime}
 use Rattle.model.specs.State.{Env, Volatile, with_rest, with_prev_week_min}
 use Rattle.model.specs.Activate.{Handled, no_outcome, and_then}
 use Rattle.model.specs.Wheel.{fire_continuations, fire_timers, fire_every, week_minutes, week_minute, make_up, is_set_back, without_clock}

@@ -22,7 +22,10 @@ use Rattle.model.specs.declared.Condition.{Condition}
 use Rattle.model.specs.declared.Condition.TheVariants.{TimeInRange, DayIn, SunIs, LampIs, LampLevel, LampCct, GroupState, InputOccupancy, InputLight, HclState, DeviceOnline, RuleEnabled, LastFiredOlderThan, TimerRunning, ControllerActive, VarCompare, NoCondition}
 use Rattle.model.specs.declared.Action.{Action}
 use Rattle.model.specs.declared.Action.TheVariants.{Light, Recall, Apply, Cycle, HclResume, HclHold, HclEnable, HclDisable, FeedbackOn, FeedbackOff, PanelSelect, CancelHold, CatchMovement, TimerStart, TimerRestart, TimerCancel, VarSet, VarAdd, RuleEnable, RuleDisable, MqttPublish, Log, StatCount, Percent, NoAction}
-use Rattle.model.specs.World.{is_one, LampState, DeviceState, HclTargetState, lamp, device, hcl_target}
+use Rattle.model.specs.World.{is_one, lamp, device, hcl_target}
+use Rattle.model.specs.declared.LampState.{LampState}
+use Rattle.model.specs.declared.DeviceState.{DeviceState}
+use Rattle.model.specs.declared.HclTargetState.{HclTargetState}
 use Rattle.model.specs.declared.VarValue.{VarValue}
 use Rattle.model.specs.declared.VarValue.TheVariants.{Int, Text}
 use Rattle.model.specs.State.{Env, Rest, with_prev_week_min, bump_by, is_enabled, last_activation_at, cycle_pos_at, timer_named, cancel_timer, add_timer, var_named, put_var, with_vars}

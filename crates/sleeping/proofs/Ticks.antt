@@ -7,7 +7,7 @@ use Rattle.std.specs.Prelude.{Option, None, Some}
 use borrow.Author.Tests.{not-true}
 use Rattle.model.specs.Lists.{all, any}
 use Rattle.model.specs.Rules.{triggers_of, rule_indices}
-use Rattle.model.specs.World.{WallTime}
+use Rattle.model.specs.declared.WallTime.{WallTime}
 use Rattle.model.specs.declared.Pending.{Pending}
 use Rattle.model.specs.State.{Env, Rest, Volatile, with_rest, is_enabled}
 use Rattle.model.specs.Activate.{Handled, no_outcome, and_then, activate, Auto}

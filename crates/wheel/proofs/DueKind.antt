@@ -11,15 +11,11 @@ use Rattle.model.specs.Eval.{solar_of}
 use Rattle.model.specs.State.{Env}
 use Rattle.model.specs.Wheel as model
 use Rattle.model.specs.Wheel.{by_time, by_solar, minute_due, solar_due, without_sun, due_wall_kind}
-use Rattle.model.specs.World as model-world
 use Rattle.model.specs.declared.Trigger.{Trigger}
 use Rattle.model.specs.declared.Trigger.TheVariants.{TimerFires, Every, AtTime, AtSolar, Other}
 use Rattle.model.proofs.Bools.{or-true, or-false}
 use Rattle.rows.specs.Options.{option32}
-use Rattle.world.specs.Values.{sun_option, sun_record}
-use Rattle.world.specs.declared.MaybeSun.{MaybeSun}
-use Rattle.world.specs.declared.MaybeSun.TheVariants as sun
-use Rattle.world.specs.declared.SunTimes.{SunTimes}
+use Rattle.model.specs.declared.SunTimes.{SunTimes}
 use Rattle.wheel.specs.Wall.{kind_if, wall_kind, missed_too}
 use Rattle.wheel.specs.declared.wall.WallKind.{WallKind}
 
@@ -37,13 +33,6 @@ time_kind due kind rest = elim due [ true ↦ record { kind = Some kind; unsynce
 abbrev solar_kind : Option Bool → model.WallKind → model.WallKind
 solar_kind o rest = elim o [ None ↦ without_sun rest | Some due ↦ time_kind due by_solar rest ]
 
--- the sun that a snapshot knows, and none
-pub known-sun : {m : MaybeSun} {t : SunTimes} {o : Option model-world.SunTimes} → sun_option m ≡ o → m ≡ sun.Known t → o ≡ Some (sun_record t)
-known-sun e h = sym e ∙ rw h
-
-pub unknown-sun : {m : MaybeSun} {o : Option model-world.SunTimes} → sun_option m ≡ o → m ≡ sun.Absent → o ≡ None
-unknown-sun e h = sym e ∙ rw h
-
 -- ONE TRIGGER -------------------------------------------------------------------------------------------------------------------------------
 due-or-not : (b missed : Bool) (kind : ℕ) → wall_kind (kind_if b kind missed) ≡ missed_too missed (time_kind b kind nothing)
 due-or-not true missed kind = rw or-false
@@ -54,11 +43,11 @@ module _ (e : Env) (base window : ℕ) (missed : Bool) where
   unfolding due_wall_kind
   at-time h m days is = ap (λ (b : Bool). wall_kind (kind_if b by_time missed)) is ∙ due-or-not (minute_due base window days (h * 60 + m)) missed by_time
 
-  sun-due : (event offset : ℕ) {sun : model-world.SunTimes} {b : Bool} → e.world.sun ≡ Some sun → b ≡ minute_due base window 127 (solar_of sun event offset) → solar_due e base window event offset ≡ Some b
+  sun-due : (event offset : ℕ) {sun : SunTimes} {b : Bool} → e.world.sun ≡ Some sun → b ≡ minute_due base window 127 (solar_of sun event offset) → solar_due e base window event offset ≡ Some b
   unfolding solar_due
   sun-due event offset h is = rw h (ap Some (sym is))
 
-  pub at-sun : (event offset : ℕ) {sun : model-world.SunTimes} {b : Bool} → e.world.sun ≡ Some sun → b ≡ minute_due base window 127 (solar_of sun event offset) → wall_kind (kind_if b by_solar missed) ≡ missed_too missed (due_wall_kind e base window (AtSolar event offset ∷ []))
+  pub at-sun : (event offset : ℕ) {sun : SunTimes} {b : Bool} → e.world.sun ≡ Some sun → b ≡ minute_due base window 127 (solar_of sun event offset) → wall_kind (kind_if b by_solar missed) ≡ missed_too missed (due_wall_kind e base window (AtSolar event offset ∷ []))
   unfolding due_wall_kind
   at-sun event offset {b = b} h is = due-or-not b missed by_solar ∙ ap (λ (o : Option Bool). missed_too missed (solar_kind o nothing)) (sym (sun-due event offset h is))
 

@@ -15,15 +15,12 @@ use Rattle.model.specs.State.{Env, is_enabled, with_rest, with_prev_week_min, bu
 use Rattle.model.specs.Wheel as wheel
 use Rattle.model.specs.Wheel.{start_wall, due_wall_kind, has_wall_triggers, week_minute, window_of, fire_window, make_up, is_set_back, fire_wall_at, fire_wall_schedules}
 use Rattle.model.specs.World as model-world
+use Rattle.model.specs.declared.WallTime.{WallTime}
 use Rattle.model.specs.World.{world_of}
 use Rattle.state.specs.Meaning.{Means, Sound, meaning, base}
 use Rattle.rows.specs.Options.{option32}
 use Rattle.rows.specs.declared.OptionU32.{OptionU32}
 use Rattle.state.proofs.Follows.{follows}
-use Rattle.world.specs.Values.{wall_option, wall_record}
-use Rattle.world.specs.declared.MaybeWall.{MaybeWall}
-use Rattle.world.specs.declared.MaybeWall.TheVariants as wall
-use Rattle.world.specs.declared.WallTime.{WallTime}
 use Rattle.activate.specs.Handled.{Room}
 use Rattle.activate.specs.Carried.{Carried, carried}
 use Rattle.activate.specs.declared.Handled.{Handled}
@@ -81,7 +78,7 @@ module _ (snapshot image : List ℕ) (from window i : ℕ) (missed : Bool) (v : 
       }
 
 -- ---- the minute is remembered
-module _ (snapshot image : List ℕ) (w : model-world.WallTime) (x : Carried) {v : List ℕ} (value : ℕ) (minute : value ≡ week_minute w) (m : Means v (base x.vol) (remembering value (meaning x.vol))) where
+module _ (snapshot image : List ℕ) (w : WallTime) (x : Carried) {v : List ℕ} (value : ℕ) (minute : value ≡ week_minute w) (m : Means v (base x.vol) (remembering value (meaning x.vol))) where
   abbrev env-at : Env
   env-at = tick_env snapshot image
 
@@ -116,12 +113,12 @@ unfolding without_wall count_missed
 forgets image v w u {has} is a b = rw is at (follows forget w u (base v) (count_missed has (meaning v)) a b)
 
 -- ---- the clock that a snapshot has
-module _ (snapshot image : List ℕ) {o : MaybeWall} (is : wall_option o ≡ (world_of snapshot).wall) where
-  pub with-clock : (w : WallTime) (v : model-state.Volatile) → o ≡ wall.Known w → fire_wall_schedules (tick_env snapshot image) v ≡ fire_wall_at (Some (wall_record w)) (tick_env snapshot image) v
+module _ (snapshot image : List ℕ) {o : Option WallTime} (is : o ≡ (world_of snapshot).wall) where
+  pub with-clock : (w : WallTime) (v : model-state.Volatile) → o ≡ Some w → fire_wall_schedules (tick_env snapshot image) v ≡ fire_wall_at (Some w) (tick_env snapshot image) v
   unfolding fire_wall_schedules tick_env
   with-clock w v h = rw (← is, h)
 
-  pub without-clock : (x : Carried) {w : List ℕ} (ow ew : List ℕ) → o ≡ wall.Absent → Means w (base x.vol) (without_wall image (meaning x.vol)) → Fires 64 (fire_wall_schedules (tick_env snapshot image)) x ow ew (with_vol w x) ow ew
+  pub without-clock : (x : Carried) {w : List ℕ} (ow ew : List ℕ) → o ≡ None → Means w (base x.vol) (without_wall image (meaning x.vol)) → Fires 64 (fire_wall_schedules (tick_env snapshot image)) x ow ew (with_vol w x) ow ew
   unfolding fire_wall_schedules tick_env set_of without_wall
   without-clock x ow ew h m =
       same-part 64 (λ v. no_outcome (without_wall image v)) (fire_wall_schedules (tick_env snapshot image)) (rw (← is, h))

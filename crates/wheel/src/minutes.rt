@@ -3,18 +3,17 @@ ghost use Rattle.std.specs.Prelude.{◌≡◌, ◌*◌, ◌<◌, ◌≤◌};
 ghost use Rattle.words.specs.Saturating.{max32};
 ghost use Rattle.model.specs.Wheel.{week_minute, cyclic_dist, in_window, minute_due};
 ghost use Rattle.world.specs.Ranges.{WallInRange};
-ghost use Rattle.world.specs.Values.{wall_record};
 ghost use Rattle.wheel.specs.Wall.{day_due};
 
-use world::WallTime;
+use model::WallTime;
 
 const DAY_MINUTES: u64 = 1440;
 
 pub const WEEK_MINUTES: u64 = 10080;
 
 pub fn week_minute(w: WallTime) -> u32
-    requires { WallInRange (wall_record w) }
-    ensures { (result ≡ week_minute (wall_record w)) × (result < 10080) }
+    requires { WallInRange w }
+    ensures { (result ≡ week_minute w) × (result < 10080) }
 {
     w.weekday * 1440 + w.minutes_of_day
 }

@@ -11,7 +11,6 @@ ghost use Rattle.image.specs.Accepted.{Accepted};
 ghost use Rattle.state.specs.Meaning.{Sound, Means, meaning, base};
 ghost use Rattle.rows.specs.Options.{option32};
 ghost use Rattle.world.specs.Ranges.{WallInRange};
-ghost use Rattle.world.specs.Values.{wall_record};
 ghost use Rattle.activate.specs.Carried.{carried};
 ghost use Rattle.activate.specs.Handled.{Room};
 ghost use Rattle.wheel.specs.Tick.{Holds, Ordered, Fires, tick_env, count_missed, remembering, without_wall};
@@ -23,7 +22,6 @@ use crate::wall::{due_wall_kind, has_wall_triggers};
 use activate::Handled;
 use rows::OptionU32;
 use state::rules::is_enabled;
-use world::{MaybeWall, WallTime};
 
 // At most so many minutes are made up for.
 const CATCH_UP_MINUTES: u64 = 60;
@@ -200,9 +198,9 @@ fn fire_wall_at(
     order: &[u32],
     w: WallTime,
 ) -> Handled
-    requires holds { Holds store.now image.now × Ordered image.now order.now }
-    requires room { Room 64 (carried v.old x) × WallInRange (wall_record w) }
-    ensures { Fires 64 (fire_wall_at (Some (wall_record w)) (tick_env snapshot.now image.now)) (carried v.old x) outcomes.old effects.old (carried v.new result) outcomes.new effects.new }
+requires holds { Holds store.now image.now × Ordered image.now order.now }
+    requires room { Room 64 (carried v.old x) × WallInRange w }
+    ensures { Fires 64 (fire_wall_at (Some w) (tick_env snapshot.now image.now)) (carried v.old x) outcomes.old effects.old (carried v.new result) outcomes.new effects.new }
 {
     let prev = state::prev_week_min(v);
     let minute = week_minute(w);
@@ -249,10 +247,10 @@ pub fn fire_wall_schedules(
     ensures { Fires 64 (fire_wall_schedules (tick_env snapshot.now image.now)) (carried v.old x) outcomes.old effects.old (carried v.new result) outcomes.new effects.new }
 {
     match world::wall(snapshot) {
-        MaybeWall::Known(w) => fire_wall_at(
+        Some(w) => fire_wall_at(
             snapshot, image, store, outcomes, effects, v, x, order, w,
         ),
-        MaybeWall::Absent => {
+        None => {
             without_clock(image, v);
             x
         }

@@ -16,7 +16,6 @@ use image::rule::{trigger_at, trigger_count};
 use model::Trigger;
 use rows::OptionU32;
 use state::rules::is_enabled;
-use world::MaybeSun;
 
 // The triggers of an outcome.
 const BY_TIME: u32 = 3;
@@ -53,11 +52,11 @@ fn solar_kind(
     ensures { Kind snapshot.now base window missed (trigger.AtSolar event offset_ms ∷ []) result }
 {
     match world::sun(snapshot) {
-        MaybeSun::Known(t) => {
+        Some(t) => {
             let minute = eval::time::solar_minute(t, event, offset_ms) as u64;
             kind_if(minute_due(base, window, 127, minute), BY_SOLAR, missed)
         }
-        MaybeSun::Absent => kind_if(false, 0, true),
+        None => kind_if(false, 0, true),
     }
 }
 

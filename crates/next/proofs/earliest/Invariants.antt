@@ -5,7 +5,6 @@ use Rattle.model.specs.Image.{size_of}
 use Rattle.model.specs.Rows.{rules}
 use Rattle.model.specs.Rules.{name_of, rule_indices}
 use Rattle.model.specs.World.{is_one}
-use Rattle.world.specs.Values.{sun_option}
 use Rattle.next.specs.NextStart.{first_from, starts_in}
 use Rattle.next.specs.Distance.{better}
 use Rattle.next.proofs.Down.{Behind}
@@ -14,7 +13,7 @@ use Rattle.next.proofs.earliest.Given as goal
 abbrev pub invariant-loop-i : goal.invariant-loop-i
 invariant-loop-i l =
     (l.i ≤ size_of l.image rules)
-    × Behind (λ j b. better (first_from (starts_in l.image (map is_one l.bits) (sun_option l.sun) l.t j) 1 10080) (name_of l.image j) b) (record { minutes = 10081; name = 0 }) (rule_indices l.image) l.i l.best
+    × Behind (λ j b. better (first_from (starts_in l.image (map is_one l.bits) l.sun l.t j) 1 10080) (name_of l.image j) b) (record { minutes = 10081; name = 0 }) (rule_indices l.image) l.i l.best
 
 abbrev pub decreases-loop-i : goal.decreases-loop-i
 decreases-loop-i l = l.i

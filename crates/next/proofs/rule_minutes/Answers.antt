@@ -1,7 +1,6 @@
 -- `next::rule_minutes` meets its contract. Assumes nothing.
 use mathlib.Core.Path.{refl, sym, ◌∙◌}
 use native.Mathlib.Omega.{arith}
-use Rattle.world.specs.Values.{sun_option}
 use Rattle.next.proofs.Down.{starts, goes, ends}
 use Rattle.next.proofs.Triggers.{off, on}
 use Rattle.next.proofs.rule_minutes.Goals as goal
@@ -9,7 +8,7 @@ use Rattle.next.proofs.rule_minutes.Goals as goal
 pub returns-then-word-ne1 : goal.returns-then-word-ne1
 returns-then-word-ne1 c =
     let s = c.args in
-    off (sun_option s.sun) s.t s.image.now s.bits.now s.i (λ e. c.if-word-ne1.true (c.word.ensures ∙ e))
+    off s.sun s.t s.image.now s.bits.now s.i (λ e. c.if-word-ne1.true (c.word.ensures ∙ e))
 
 pub trigger_count-k-requires : goal.trigger_count-k-requires
 trigger_count-k-requires c = (c.requires.0.least, c.requires.0.most)

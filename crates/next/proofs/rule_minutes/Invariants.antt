@@ -2,7 +2,6 @@
 use Prim.Native.Nat.{◌≤◌, min}
 use lib.ListN.{length}
 use Rattle.model.specs.Rules.{triggers_of}
-use Rattle.world.specs.Values.{sun_option}
 use Rattle.next.specs.NextStart.{first_from, due_in}
 use Rattle.next.proofs.Down.{Behind}
 use Rattle.next.proofs.rule_minutes.Given as goal
@@ -10,7 +9,7 @@ use Rattle.next.proofs.rule_minutes.Given as goal
 abbrev pub invariant-loop-k : goal.invariant-loop-k
 invariant-loop-k l =
     (l.k ≤ length (triggers_of l.image l.i))
-    × Behind (λ x y. min (first_from (λ m. due_in (sun_option l.sun) l.t x m) 1 10080) y) 10081 (triggers_of l.image l.i) l.k l.best
+    × Behind (λ x y. min (first_from (λ m. due_in l.sun l.t x m) 1 10080) y) 10081 (triggers_of l.image l.i) l.k l.best
 
 abbrev pub decreases-loop-k : goal.decreases-loop-k
 decreases-loop-k l = l.k

@@ -1,5 +1,5 @@
 -- `eval::readings::from_maybe` meets its contract. Assumes nothing.
 use Rattle.eval.proofs.readings.from_maybe.Goals as goal
 
-pub returns-in-Known : goal.returns-in-Known
-returns-in-Known c = rw (c.in-Known.is, c.from_word.ensures)
+pub returns-in-Some : goal.returns-in-Some
+returns-in-Some c = rw (c.in-Some.is, c.from_word.ensures)

@@ -2,10 +2,10 @@
 use Rattle.model.specs.Eval.{eval_reading}
 use Rattle.eval.proofs.readings.group_any_on.Goals as goal
 
-pub returns-in-Known : goal.returns-in-Known
+pub returns-in-Some : goal.returns-in-Some
 unfolding eval_reading
-returns-in-Known c = λ s image flat. rw (← c.group.ensures, c.in-Known.is, c.from_bool.ensures)
+returns-in-Some c = λ s image flat. rw (← c.group.ensures, c.in-Some.is, c.from_bool.ensures)
 
-pub returns-in-Absent : goal.returns-in-Absent
+pub returns-in-None : goal.returns-in-None
 unfolding eval_reading
-returns-in-Absent c = λ s image flat. rw (← c.group.ensures, c.in-Absent.is)
+returns-in-None c = λ s image flat. rw (← c.group.ensures, c.in-None.is)

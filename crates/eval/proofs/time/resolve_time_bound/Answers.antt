@@ -6,13 +6,13 @@ pub returns-in-Clock : goal.returns-in-Clock
 unfolding resolve_time_bound
 returns-in-Clock c = λ image flat s. rw c.in-Clock.is
 
-pub returns-in-Known : goal.returns-in-Known
+pub returns-in-Some : goal.returns-in-Some
 unfolding resolve_time_bound
-returns-in-Known c = λ image flat s. rw (c.in-Solar.is, ← c.sun.ensures, c.in-Known.is, c.solar_minute.ensures)
+returns-in-Some c = λ image flat s. rw (c.in-Solar.is, ← c.sun.ensures, c.in-Some.is, c.solar_minute.ensures)
 
-pub returns-in-Absent : goal.returns-in-Absent
+pub returns-in-None : goal.returns-in-None
 unfolding resolve_time_bound
-returns-in-Absent c = λ image flat s. rw (c.in-Solar.is, ← c.sun.ensures, c.in-Absent.is)
+returns-in-None c = λ image flat s. rw (c.in-Solar.is, ← c.sun.ensures, c.in-None.is)
 
 pub returns-in-NoBound : goal.returns-in-NoBound
 unfolding resolve_time_bound

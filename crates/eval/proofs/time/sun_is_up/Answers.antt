@@ -2,15 +2,15 @@
 use Rattle.model.specs.Eval.{sun_is_up}
 use Rattle.eval.proofs.time.sun_is_up.Goals as goal
 
-pub returns-in-Known-sun : goal.returns-in-Known-sun
+pub returns-in-Some-sun : goal.returns-in-Some-sun
 unfolding sun_is_up
-returns-in-Known-sun c = λ image flat s.
-    rw (← c.wall.ensures, c.in-Known.is, ← c.sun.ensures, c.in-Known-sun.is, c.verdict.ensures, c.is_day.ensures)
+returns-in-Some-sun c = λ image flat s.
+    rw (← c.wall.ensures, c.in-Some.is, ← c.sun.ensures, c.in-Some-sun.is, c.verdict.ensures, c.is_day.ensures)
 
-pub returns-in-Absent-sun : goal.returns-in-Absent-sun
+pub returns-in-None-sun : goal.returns-in-None-sun
 unfolding sun_is_up
-returns-in-Absent-sun c = λ image flat s. rw (← c.wall.ensures, c.in-Known.is, ← c.sun.ensures, c.in-Absent-sun.is)
+returns-in-None-sun c = λ image flat s. rw (← c.wall.ensures, c.in-Some.is, ← c.sun.ensures, c.in-None-sun.is)
 
-pub returns-in-Absent : goal.returns-in-Absent
+pub returns-in-None : goal.returns-in-None
 unfolding sun_is_up
-returns-in-Absent c = λ image flat s. rw (← c.wall.ensures, c.in-Absent.is)
+returns-in-None c = λ image flat s. rw (← c.wall.ensures, c.in-None.is)

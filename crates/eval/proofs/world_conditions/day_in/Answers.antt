@@ -4,10 +4,10 @@ use Rattle.std.specs.Prelude.{Some}
 use Rattle.model.specs.Eval.{eval_condition}
 use Rattle.eval.proofs.world_conditions.day_in.Goals as goal
 
-pub returns-in-Known : goal.returns-in-Known
+pub returns-in-Some : goal.returns-in-Some
 unfolding eval_condition
-returns-in-Known c = λ image flat s. rw (← c.wall.ensures, c.in-Known.is) (c.verdict.ensures ∙ ap Some c.has_day.ensures)
+returns-in-Some c = λ image flat s. rw (← c.wall.ensures, c.in-Some.is) (c.verdict.ensures ∙ ap Some c.has_day.ensures)
 
-pub returns-in-Absent : goal.returns-in-Absent
+pub returns-in-None : goal.returns-in-None
 unfolding eval_condition
-returns-in-Absent c = λ image flat s. rw (← c.wall.ensures, c.in-Absent.is)
+returns-in-None c = λ image flat s. rw (← c.wall.ensures, c.in-None.is)

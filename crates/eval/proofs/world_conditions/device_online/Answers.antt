@@ -2,10 +2,10 @@
 use Rattle.model.specs.Eval.{eval_condition}
 use Rattle.eval.proofs.world_conditions.device_online.Goals as goal
 
-pub returns-in-Known : goal.returns-in-Known
+pub returns-in-Some : goal.returns-in-Some
 unfolding eval_condition
-returns-in-Known c = λ image flat s. rw (← c.device.ensures, c.in-Known.is) c.verdict.ensures
+returns-in-Some c = λ image flat s. rw (← c.device.ensures, c.in-Some.is) c.verdict.ensures
 
-pub returns-in-Absent : goal.returns-in-Absent
+pub returns-in-None : goal.returns-in-None
 unfolding eval_condition
-returns-in-Absent c = λ image flat s. rw (← c.device.ensures, c.in-Absent.is)
+returns-in-None c = λ image flat s. rw (← c.device.ensures, c.in-None.is)

@@ -2,10 +2,10 @@
 use Rattle.model.specs.Eval.{eval_condition}
 use Rattle.eval.proofs.world_conditions.lamp_level_is.Goals as goal
 
-pub returns-in-Known : goal.returns-in-Known
+pub returns-in-Some : goal.returns-in-Some
 unfolding eval_condition
-returns-in-Known c = λ flat. rw (← c.lamp.ensures, c.in-Known.is) (c.level_is.ensures flat)
+returns-in-Some c = λ flat. rw (← c.lamp.ensures, c.in-Some.is) (c.level_is.ensures flat)
 
-pub returns-in-Absent : goal.returns-in-Absent
+pub returns-in-None : goal.returns-in-None
 unfolding eval_condition
-returns-in-Absent c = λ flat. rw (← c.lamp.ensures, c.in-Absent.is)
+returns-in-None c = λ flat. rw (← c.lamp.ensures, c.in-None.is)
