@@ -14,5 +14,5 @@ pub fn refusal(store: &[u32], snapshot: &[u32]) -> u32
     if n != 0 {
         return n;
     }
-    world::refusal(snapshot)
+    model::refusal_number(world::refusal(snapshot))
 }

@@ -113,7 +113,7 @@ pub fn tick(
     if n != 0 {
         return Answer::Refused(n);
     }
-    let m = world::refusal(snapshot);
+    let m = model::refusal_number(world::refusal(snapshot));
     if m != 0 {
         return Answer::Refused(m);
     }
@@ -137,7 +137,7 @@ pub fn run(
     if n != 0 {
         return Answer::Refused(n);
     }
-    let m = world::refusal(snapshot);
+    let m = model::refusal_number(world::refusal(snapshot));
     if m != 0 {
         return Answer::Refused(m);
     }

@@ -27,7 +27,7 @@ fn readable(store: &[u32]) -> bool
 fn given(snapshot: &[u32], image: &[u32], store: &[u32]) -> bool
     ensures { result ≡ answers.given snapshot.now image.now store.now }
 {
-    if world::refusal(snapshot) != 0 {
+    if model::refusal_number(world::refusal(snapshot)) != 0 {
         return false;
     }
     if load::refusal(image) != 0 {

@@ -52,7 +52,7 @@ pub extern "C" fn cerambiu_flat_steps(img: &[u32]) -> usize
 pub extern "C" fn cerambiu_snapshot_refusal(snapshot: &[u32]) -> u32
     ensures { result ≡ snapshot_refusal snapshot.now }
 {
-    world::refusal(snapshot)
+    model::refusal_number(world::refusal(snapshot))
 }
 
 // Whether the words are as many as a store has, and fit its layout.

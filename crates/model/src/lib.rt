@@ -5,7 +5,7 @@
 #![tactic(auto)]
 
 ghost use Rattle.std.specs.Prelude.{◌≡◌};
-ghost use Rattle.model.specs.Refusals.{refusal_code};
+ghost use Rattle.model.specs.Refusals.{refusal_code, refusal_number};
 
 #[derive(Clone, Copy)]
 pub enum Field {
@@ -510,5 +510,15 @@ impl From<Refusal> for u32 {
 
     fn from(refusal: Refusal) -> u32 {
         refusal as u32
+    }
+}
+
+// The same of an answer: 0 where nothing is refused.
+pub fn refusal_number(answer: Result<(), Refusal>) -> u32
+    ensures { result ≡ refusal_number answer }
+{
+    match answer {
+        Ok(()) => 0,
+        Err(refusal) => u32::from(refusal),
     }
 }

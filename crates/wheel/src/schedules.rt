@@ -20,6 +20,7 @@ use crate::minutes::{WEEK_MINUTES, cyclic_dist, in_window, week_minute};
 use crate::rules::activate_rule;
 use crate::wall::{due_wall_kind, has_wall_triggers};
 use activate::Handled;
+use model::WallTime;
 use rows::OptionU32;
 use state::rules::is_enabled;
 
@@ -198,7 +199,7 @@ fn fire_wall_at(
     order: &[u32],
     w: WallTime,
 ) -> Handled
-requires holds { Holds store.now image.now × Ordered image.now order.now }
+    requires holds { Holds store.now image.now × Ordered image.now order.now }
     requires room { Room 64 (carried v.old x) × WallInRange w }
     ensures { Fires 64 (fire_wall_at (Some w) (tick_env snapshot.now image.now)) (carried v.old x) outcomes.old effects.old (carried v.new result) outcomes.new effects.new }
 {
@@ -247,9 +248,7 @@ pub fn fire_wall_schedules(
     ensures { Fires 64 (fire_wall_schedules (tick_env snapshot.now image.now)) (carried v.old x) outcomes.old effects.old (carried v.new result) outcomes.new effects.new }
 {
     match world::wall(snapshot) {
-        Some(w) => fire_wall_at(
-            snapshot, image, store, outcomes, effects, v, x, order, w,
-        ),
+        Some(w) => fire_wall_at(snapshot, image, store, outcomes, effects, v, x, order, w),
         None => {
             without_clock(image, v);
             x

@@ -19,12 +19,12 @@ pub returns-then-m-ne0 : goal.returns-then-m-ne0
 returns-then-m-ne0 c =
     let a = c.args in
     let k = said _ (is_store _ _ c.refusal-n.ensures (omega (arith, c.if-n-ne0.false))) in
-    tick-refused a.snapshot.now (length a.outcomes.now) (length a.effects.now) _ _ _ _ k c.refusal-m.ensures (λ e. omega (arith, e, c.if-m-ne0.true)) c.clear.ensures c.clear-2.ensures
+    tick-refused a.snapshot.now (length a.outcomes.now) (length a.effects.now) _ _ _ _ k (c.refusal_number-m.ensures ∙ c.refusal.ensures) (λ e. omega (arith, e, c.if-m-ne0.true)) c.clear.ensures c.clear-2.ensures
 
 pub tick-requires : goal.tick-requires
 tick-requires c =
     let a = c.args in record {
-      store_value = (is_store _ _ c.refusal-n.ensures (omega (arith, c.if-n-ne0.false)), sym c.refusal-m.ensures ∙ omega (arith, c.if-m-ne0.false));
+      store_value = (is_store _ _ c.refusal-n.ensures (omega (arith, c.if-n-ne0.false)), sym (c.refusal_number-m.ensures ∙ c.refusal.ensures) ∙ omega (arith, c.if-m-ne0.false));
       outcomes_value = (zeros-all _ (length a.outcomes.now) c.clear.ensures, zeros-all _ (length a.effects.now) c.clear-2.ensures);
     }
 

@@ -1,4 +1,5 @@
 -- `wheel::wall::solar_kind` meets its contract. Assumes nothing.
+use mathlib.Core.Path.{sym, ◌∙◌}
 use Rattle.eval.specs.Answers.{env_of}
 use Rattle.wheel.proofs.DueKind.{at-sun, no-sun}
 use Rattle.wheel.proofs.wall.solar_kind.Goals as goal
