@@ -22,7 +22,7 @@ use Rattle.model.specs.Steps.{jump_at}
 use Rattle.model.specs.declared.VarValue.TheVariants.{Int, Text}
 use Rattle.model.proofs.Bools.{both}
 use Rattle.rows.specs.Places.{row_at, table_at}
-use Rattle.rows.specs.Rows.{bool_row, variable_code_row, of_option64, of_option32, option64_row, option32_row}
+use Rattle.rows.specs.Rows.{bool_row, variable_code_row}
 use Rattle.std.specs.Prelude.{Option}
 
 -- ROWS ------------------------------------------------------------------------------------------------------------------------------
@@ -59,23 +59,12 @@ given : {A : Type 0} (m : ℕ) (x : A) → (m ≡ 0 → ⊥) → Some x ≡ mark
 given zero x z = absurd (z refl)
 given (suc m) x z = refl
 
-module _ (w : List ℕ) (k m x : ℕ) (p : m ≡ row_at any w k) where
-  pub none-64 : x ≡ row_at wide w (k + 1) → m ≡ 0 → record { present = false; value = 0 } ≡ row_at option64_row w k
-  unfolding row_at
-  none-64 f z = ap of_option64 (absent m x z ∙ marked-is w wide k (k + 1) m x refl p f)
+module _ {A : Type 0} (r : Row A) (w : List ℕ) (k m : ℕ) (x : A) (p : m ≡ row_at any w k) (q : x ≡ row_at r w (k + 1)) where
+  pub none-is : m ≡ 0 → None ≡ row_at (maybe r) w k
+  none-is z = absent m x z ∙ marked-is w r k (k + 1) m x refl p q
 
-  pub some-64 : x ≡ row_at wide w (k + 1) → (m ≡ 0 → ⊥) → record { present = true; value = x } ≡ row_at option64_row w k
-  unfolding row_at
-  some-64 f z = ap of_option64 (given m x z ∙ marked-is w wide k (k + 1) m x refl p f)
-
-  module _ (n : ℕ) where
-    pub none-32 : x ≡ row_at any w (k + 1) → m ≡ 0 → record { present = false; value = 0 } ≡ row_at (option32_row n) w k
-    unfolding row_at
-    none-32 f z = ap of_option32 (absent m x z ∙ marked-is w (word n) k (k + 1) m x refl p f)
-
-    pub some-32 : x ≡ row_at any w (k + 1) → (m ≡ 0 → ⊥) → record { present = true; value = x } ≡ row_at (option32_row n) w k
-    unfolding row_at
-    some-32 f z = ap of_option32 (given m x z ∙ marked-is w (word n) k (k + 1) m x refl p f)
+  pub some-is : (m ≡ 0 → ⊥) → Some x ≡ row_at (maybe r) w k
+  some-is z = given m x z ∙ marked-is w r k (k + 1) m x refl p q
 
 pub bool_is : (w : List ℕ) (k m : ℕ) → m ≡ row_at any w k → eqb m 1 ≡ row_at bool_row w k
 unfolding row_at

@@ -6,7 +6,7 @@ use Prim.Native.Nat.{ℕ, suc, ◌+◌, ◌≤◌}
 use native.Mathlib.Omega.{arith}
 use lib.ListN.{length, replicate}
 use Rattle.words.specs.Pairs.{low_of, high_of}
-use Rattle.model.specs.Codec.{word, wide, put_maybe}
+use Rattle.model.specs.Codec.{wide, maybe}
 use Rattle.model.specs.Parts.{any, timer_row, slot_row, jump_row, pending_row}
 use Rattle.model.specs.declared.Jump.{Jump}
 use Rattle.model.specs.Steps.{jump_at}
@@ -16,11 +16,8 @@ use Rattle.model.specs.declared.NamedTimer.{NamedTimer}
 use Rattle.model.specs.declared.EverySlot.{EverySlot}
 use Rattle.model.specs.declared.Point.{Point}
 use Rattle.model.specs.declared.Pending.{Pending}
-use Rattle.rows.specs.Options.{optional}
-use Rattle.rows.specs.declared.OptionU32.{OptionU32}
-use Rattle.rows.specs.declared.OptionU64.{OptionU64}
 use Rattle.rows.specs.Places.{laid}
-use Rattle.rows.specs.Rows.{bool_row, variable_code_row, point_row, option64_row, option32_row}
+use Rattle.rows.specs.Rows.{bool_row, variable_code_row, point_row}
 use Rattle.rows.proofs.Writing.{lays, and-then, Long}
 use Rattle.std.specs.Prelude.{Option, None, Some}
 
@@ -31,21 +28,15 @@ module _ (w w₁ : List ℕ) (k : ℕ) where
   pub zero-put : (x : Bool) → x ≡ false → w₁ ≡ laid w k (any.put 0) → w₁ ≡ laid w k (bool_row.put x)
   zero-put x h e = rw h e
 
-  pub none-64 : (x : OptionU64) → x.present ≡ false → w₁ ≡ laid w k (replicate 3 0) → w₁ ≡ laid w k (option64_row.put x)
-  none-64 x h e = rw h e
-
-  pub none-32 : (n : ℕ) (x : OptionU32) → x.present ≡ false → w₁ ≡ laid w k (replicate 2 0) → w₁ ≡ laid w k ((option32_row n).put x)
-  none-32 n x h e = rw h e
-
   pub no_jump : (x : Option Jump) → x ≡ None → w₁ ≡ laid w k (replicate 3 0) → w₁ ≡ laid w k (jump_row.put x)
   no_jump x h e = rw h e
 
 module _ (w w₁ w₂ : List ℕ) (k : ℕ) where
-  pub some-64 : (x : OptionU64) → k + 3 ≤ length w → x.present ≡ true → w₁ ≡ laid w k (any.put 1) → w₂ ≡ laid w₁ (k + 1) (wide.put x.value) → w₂ ≡ laid w k (option64_row.put x)
-  some-64 x h p e f = rw p (lays w w₁ w₂ k (k + 1) (any.put 1) (wide.put x.value) (omega arith) refl e f)
+  pub some-64 : (x : ℕ) → k + 3 ≤ length w → w₁ ≡ laid w k (any.put 1) → w₂ ≡ laid w₁ (k + 1) (wide.put x) → w₂ ≡ laid w k ((maybe wide).put (Some x))
+  some-64 x h e f = lays w w₁ w₂ k (k + 1) (any.put 1) (wide.put x) (omega arith) refl e f
 
-  pub some-32 : (n : ℕ) (x : OptionU32) → k + 2 ≤ length w → x.present ≡ true → w₁ ≡ laid w k (any.put 1) → w₂ ≡ laid w₁ (k + 1) (any.put x.value) → w₂ ≡ laid w k ((option32_row n).put x)
-  some-32 n x h p e f = rw p (lays w w₁ w₂ k (k + 1) (any.put 1) (any.put x.value) (omega arith) refl e f)
+  pub some-32 : (x : ℕ) → k + 2 ≤ length w → w₁ ≡ laid w k (any.put 1) → w₂ ≡ laid w₁ (k + 1) (any.put x) → w₂ ≡ laid w k ((maybe any).put (Some x))
+  some-32 x h e f = lays w w₁ w₂ k (k + 1) (any.put 1) (any.put x) (omega arith) refl e f
 
   pub timer-put : (x : NamedTimer) → k + 3 ≤ length w → w₁ ≡ laid w k (any.put x.name) → w₂ ≡ laid w₁ (k + 1) (wide.put x.due) → w₂ ≡ laid w k (timer_row.put x)
   timer-put x h e f = lays w w₁ w₂ k (k + 1) (any.put x.name) (wide.put x.due) (omega arith) refl e f
@@ -108,20 +99,6 @@ pending-put w w₁ w₂ w₃ w₄ w₅ w₆ w₇ w₈ k x h e₁ e₂ e₃ e₄ 
 -- HOW MANY WORDS ------------------------------------------------------------------------------------------------------------------------
 pub bool-long : Long bool_row
 bool-long = record { long = λ x. refl }
-
-pub option64-long : Long option64_row
-option64-long = record { long = λ x. by-mark x.present x.value }
-  where
-    by-mark : (b : Bool) (n : ℕ) → length (put_maybe wide (optional b n)) ≡ 3
-    by-mark false n = refl
-    by-mark true n = refl
-
-pub option32-long : (m : ℕ) → Long (option32_row m)
-option32-long m = record { long = λ x. by-mark x.present x.value }
-  where
-    by-mark : (b : Bool) (n : ℕ) → length (put_maybe (word m) (optional b n)) ≡ 2
-    by-mark false n = refl
-    by-mark true n = refl
 
 pub variable-long : Long variable_code_row
 variable-long = record { long = λ x. refl }

@@ -1,4 +1,3 @@
 -- What the contracts of `rows` cite.
-pub mod Options
 pub mod Places
 pub mod Rows

@@ -1,16 +1,12 @@
 -- Rows of the layout by the types that the code has for them.
-use Rattle.std.specs.Prelude.{Bool, true, false, [], ◌∷◌, ℕ, get_or, replicate}
-use Rattle.std.specs.Prelude.{Option, None, Some}
+use Rattle.std.specs.Prelude.{Bool, true, [], ◌∷◌, ℕ, get_or, replicate}
 use Rattle.model.specs.Layout.{free}
-use Rattle.model.specs.Codec.{Row, word, wide, ◌⊗◌, maybe}
+use Rattle.model.specs.Codec.{Row, ◌⊗◌}
 use Rattle.model.specs.Parts.{any, bit, variable_row, jump_row}
 use Rattle.model.specs.World.{is_one}
 use Rattle.model.specs.Store.{bit_of, variable_of, variable_row_of}
 use Rattle.model.specs.declared.Point.{Point}
 use Rattle.model.specs.declared.Variable.{Variable}
-use Rattle.rows.specs.Options.{option32, option64}
-use Rattle.rows.specs.declared.OptionU32.{OptionU32}
-use Rattle.rows.specs.declared.OptionU64.{OptionU64}
 
 -- a row, by another type
 abbrev pub through : {A B : Type 0} → (A → B) → (B → A) → Row A → Row B
@@ -26,21 +22,6 @@ variable_code_row = through variable_of variable_row_of variable_row
 -- list, place and jump of a pending record
 abbrev pub point_row : Row Point
 point_row = through (λ x. record { list = x.0; place = x.1.0; jump = x.1.1 }) (λ p. (p.list, (p.place, p.jump))) (any ⊗ (any ⊗ jump_row))
-
-abbrev pub of_option64 : Option ℕ → OptionU64
-of_option64 None = record { present = false; value = 0 }
-of_option64 (Some n) = record { present = true; value = n }
-
-abbrev pub of_option32 : Option ℕ → OptionU32
-of_option32 None = record { present = false; value = 0 }
-of_option32 (Some n) = record { present = true; value = n }
-
-abbrev pub option64_row : Row OptionU64
-option64_row = through of_option64 option64 (maybe wide)
-
--- a value of at most n
-abbrev pub option32_row : ℕ → Row OptionU32
-option32_row n = through of_option32 option32 (maybe (word n))
 
 -- the first word of a row of so many words
 abbrev pub first_word : ℕ → Row ℕ

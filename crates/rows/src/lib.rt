@@ -17,16 +17,3 @@ pub const TIMER_WORDS: usize = 3;
 pub const SLOT_WORDS: usize = 5;
 
 pub const PENDING_WORDS: usize = 15;
-
-// The Rust's `Option<u32>` and `Option<u64>`.
-#[derive(Clone, Copy)]
-pub struct OptionU32 {
-    pub present: bool,
-    pub value: u32,
-}
-
-#[derive(Clone, Copy)]
-pub struct OptionU64 {
-    pub present: bool,
-    pub value: u64,
-}

@@ -1,11 +1,10 @@
 // One row written at a place: the words from there on are those that say it, and all others stand.
 ghost use Rattle.std.specs.Prelude.{◌≡◌, ◌+◌, ◌≤◌, ◌<◌, length, replicate};
-ghost use Rattle.model.specs.Codec.{wide};
+ghost use Rattle.model.specs.Codec.{wide, maybe};
 ghost use Rattle.model.specs.Parts.{any, timer_row, slot_row, jump_row, pending_row};
 ghost use Rattle.rows.specs.Places.{laid};
-ghost use Rattle.rows.specs.Rows.{bool_row, option64_row, option32_row, variable_code_row, point_row};
+ghost use Rattle.rows.specs.Rows.{bool_row, variable_code_row, point_row};
 
-use crate::{OptionU32, OptionU64};
 use model::{EverySlot, Jump, NamedTimer, Pending, Point, VarValue, Variable};
 
 pub fn put_word(s: &mut [u32], k: usize, x: u32)
@@ -58,28 +57,30 @@ pub fn put_bool(s: &mut [u32], k: usize, x: bool)
     put_word(s, k, 0);
 }
 
-pub fn put_option64(s: &mut [u32], k: usize, x: OptionU64)
+pub fn put_option64(s: &mut [u32], k: usize, x: Option<u64>)
     requires { k + 3 ≤ length s.old }
-    ensures { s.new ≡ laid s.old k (option64_row.put x) }
+    ensures { s.new ≡ laid s.old k ((maybe wide).put x) }
 {
-    if !x.present {
-        clear(s, k, 3);
-        return;
+    match x {
+        None => clear(s, k, 3),
+        Some(value) => {
+            put_word(s, k, 1);
+            put_wide(s, k + 1, value);
+        }
     }
-    put_word(s, k, 1);
-    put_wide(s, k + 1, x.value);
 }
 
-pub fn put_option32(s: &mut [u32], k: usize, x: OptionU32)
+pub fn put_option32(s: &mut [u32], k: usize, x: Option<u32>)
     requires { k + 2 ≤ length s.old }
-    ensures { s.new ≡ laid s.old k ((option32_row 0).put x) }
+    ensures { s.new ≡ laid s.old k ((maybe any).put x) }
 {
-    if !x.present {
-        clear(s, k, 2);
-        return;
+    match x {
+        None => clear(s, k, 2),
+        Some(value) => {
+            put_word(s, k, 1);
+            put_word(s, k + 1, value);
+        }
     }
-    put_word(s, k, 1);
-    put_word(s, k + 1, x.value);
 }
 
 pub fn put_variable(s: &mut [u32], k: usize, x: Variable)

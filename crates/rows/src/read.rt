@@ -1,12 +1,11 @@
 // What the words at a place say: one row each. Missing words read as 0.
 ghost use Rattle.std.specs.Prelude.{◌≡◌, true, ◌≤◌};
-ghost use Rattle.model.specs.Codec.{wide};
+ghost use Rattle.model.specs.Codec.{wide, maybe};
 ghost use Rattle.model.specs.Parts.{any, variable_row, timer_row, slot_row, jump_row, pending_row};
 ghost use Rattle.model.specs.Store.{text_short};
 ghost use Rattle.rows.specs.Places.{row_at};
-ghost use Rattle.rows.specs.Rows.{bool_row, option64_row, option32_row, variable_code_row};
+ghost use Rattle.rows.specs.Rows.{bool_row, variable_code_row};
 
-use crate::{OptionU32, OptionU64};
 use model::{EverySlot, Jump, NamedTimer, Pending, Point, VarValue, Variable};
 
 pub fn word_at(s: &[u32], k: usize) -> u32
@@ -30,42 +29,22 @@ pub fn bool_at(s: &[u32], k: usize) -> bool
 }
 
 // A mark, and a value where the mark is not 0.
-pub fn option64_at(s: &[u32], k: usize) -> OptionU64
+pub fn option64_at(s: &[u32], k: usize) -> Option<u64>
     requires { k ≤ 65535 }
-    ensures { result ≡ row_at option64_row s.now k }
+    ensures { result ≡ row_at (maybe wide) s.now k }
 {
     let mark = word_at(s, k);
     let value = wide_at(s, k + 1);
-    if mark == 0 {
-        OptionU64 {
-            present: false,
-            value: 0,
-        }
-    } else {
-        OptionU64 {
-            present: true,
-            value,
-        }
-    }
+    if mark == 0 { None } else { Some(value) }
 }
 
-pub fn option32_at(s: &[u32], k: usize) -> OptionU32
+pub fn option32_at(s: &[u32], k: usize) -> Option<u32>
     requires { k ≤ 65535 }
-    ensures { result ≡ row_at (option32_row 0) s.now k }
+    ensures { result ≡ row_at (maybe any) s.now k }
 {
     let mark = word_at(s, k);
     let value = word_at(s, k + 1);
-    if mark == 0 {
-        OptionU32 {
-            present: false,
-            value: 0,
-        }
-    } else {
-        OptionU32 {
-            present: true,
-            value,
-        }
-    }
+    if mark == 0 { None } else { Some(value) }
 }
 
 // "A text variable keeps its number only": the high word of a text is 0.

@@ -8,6 +8,7 @@ use lib.Dec.{eqb}
 use lib.ListN.{length, get_or, take, drop, set, length-set, length-drop}
 use lib.Seq.{drop-drop}
 use borrow.Author.Tests.{le-leb}
+use Rattle.std.specs.Prelude.{Option}
 use Rattle.words.specs.Saturating.{saturating_add, max32}
 use Rattle.words.proofs.Laws.{add-at-most}
 use Rattle.counters.specs.Counters.{counters_of, raised_at}
@@ -17,14 +18,11 @@ use Rattle.model.specs.Codec.{maybe, rows_at, words_of}
 use Rattle.model.specs.Parts.{any}
 use Rattle.model.specs.State.{with_rest, with_prev_week_min, bump_by}
 use Rattle.model.proofs.Bools.{both, join}
-use Rattle.rows.specs.Options.{option32}
 use Rattle.rows.specs.Places.{laid, row_at, table_at}
-use Rattle.rows.specs.Rows.{option32_row}
-use Rattle.rows.specs.declared.OptionU32.{OptionU32}
 use Rattle.state.specs.Meaning.{place_of, part, week_part, counters_part, meaning, base, Sound, Means}
 use Rattle.state.proofs.Frame.{shaped, part-is, part-long, changed-laid, counters-changed, week-changed}
 use Rattle.state.proofs.Fixed.{one_at, one-read, one_set}
-use Rattle.state.proofs.KeptForRules.{any-option-laws, option-read, option-words, good-32}
+use Rattle.state.proofs.KeptForRules.{any-option-laws, good-32}
 
 -- THE RECORD ----------------------------------------------------------------------------------------------------------------------------------
 module _ (w : List ℕ) where
@@ -111,14 +109,13 @@ bumped w w' c d which by s e f b =
 
 -- THE MINUTE OF THE WEEK ----------------------------------------------------------------------------------------------------------------------
 module _ (w : List ℕ) (s : Sound w) where
-  pub week-at : (x : OptionU32) → x ≡ row_at (option32_row 0) w (place_of week_part) → option32 x ≡ (meaning w).rest.prev_week_min
+  pub week-at : (x : Option ℕ) → x ≡ row_at (maybe any) w (place_of week_part) → x ≡ (meaning w).rest.prev_week_min
   unfolding meaning
-  week-at x e = option-read w (place_of week_part) x e ∙ one_at (maybe any) any-option-laws week_part (omega arith) refl w s
+  week-at x e = e ∙ one_at (maybe any) any-option-laws week_part (omega arith) refl w s
 
-  pub week-set : (w' : List ℕ) (x : OptionU32) → ((j : ℕ) → get_or w' j 0 < 4294967296) → w' ≡ laid w (place_of week_part) ((option32_row 0).put x)
-      → Means w' (base w) (with_rest (with_prev_week_min (option32 x) (meaning w).rest) (meaning w))
-  week-set w' x words d =
-      let e : w' ≡ laid w (place_of week_part) ((maybe any).put (option32 x)) = d ∙ ap (laid w (place_of week_part)) (option-words x) in
-      let g = good-32 w w' (place_of week_part) words (option32 x) e in
-      let c = one_set (maybe any) any-option-laws week_part (omega arith) refl w w' (option32 x) (shaped w s) g e in
-      subst (λ (o : _). Means w' (base w) (with_rest (with_prev_week_min o (meaning w).rest) (meaning w))) (one-read (maybe any) any-option-laws week_part (omega arith) refl (option32 x) g) (week-changed w w' ((maybe any).put (option32 x)) s c)
+  pub week-set : (w' : List ℕ) (x : Option ℕ) → ((j : ℕ) → get_or w' j 0 < 4294967296) → w' ≡ laid w (place_of week_part) ((maybe any).put x)
+      → Means w' (base w) (with_rest (with_prev_week_min x (meaning w).rest) (meaning w))
+  week-set w' x words e =
+      let g = good-32 w w' (place_of week_part) words x e in
+      let c = one_set (maybe any) any-option-laws week_part (omega arith) refl w w' x (shaped w s) g e in
+      subst (λ (o : _). Means w' (base w) (with_rest (with_prev_week_min o (meaning w).rest) (meaning w))) (one-read (maybe any) any-option-laws week_part (omega arith) refl x g) (week-changed w w' ((maybe any).put x) s c)

@@ -2,7 +2,7 @@
 use mathlib.Core.Path.{◌≡◌, refl, sym, ap, subst, ◌∙◌}
 use mathlib.Core.Bool.{Bool, true, false, not, ◌&&◌, ◌||◌}
 use mathlib.Core.List.{List, [], ◌∷◌, map}
-use Rattle.std.specs.Prelude.{Option, None, Some}
+use Rattle.std.specs.Prelude.{Option, None}
 use Prim.Native.Nat.{ℕ, zero, suc, ◌+◌, ◌-◌, ◌*◌, ◌≤◌, ◌<◌}
 use native.Mathlib.Omega.{arith}
 use lib.Dec.{eqb, leb}
@@ -10,7 +10,7 @@ use lib.ListN.{length, get_or, take, drop, set, length-take, get_or-eq_default}
 use lib.Seq.{get_or-take, set_out, take-set-lt, take-take}
 use borrow.Author.Tests.{leb-true}
 use Rattle.model.specs.Layout.{fixed, row_fits, rows_fit, zeros, up_to}
-use Rattle.model.specs.Codec.{Row, word, wide, maybe, rows_at, put_maybe}
+use Rattle.model.specs.Codec.{Row, word, wide, maybe, rows_at}
 use Rattle.model.specs.Parts.{any}
 use Rattle.model.specs.State.{is_enabled, last_activation_at, cycle_pos_at, with_rest, with_enabled, with_last_activation, with_cycle_pos}
 use Rattle.model.specs.Store.{bit_of}
@@ -18,11 +18,8 @@ use Rattle.model.specs.World.{is_one}
 use Rattle.model.proofs.Bools.{both}
 use Rattle.model.proofs.PartsLaws.{any_laws}
 use Rattle.model.proofs.RowLaws.{RowLaws, word_laws, wide_laws, maybe-laws, word_blank, wide-blank}
-use Rattle.rows.specs.Options.{optional, option32, option64}
 use Rattle.rows.specs.Places.{laid, row_at}
-use Rattle.rows.specs.Rows.{bool_row, of_option32, of_option64, option32_row, option64_row}
-use Rattle.rows.specs.declared.OptionU32.{OptionU32}
-use Rattle.rows.specs.declared.OptionU64.{OptionU64}
+use Rattle.rows.specs.Rows.{bool_row}
 use Rattle.state.specs.Meaning.{state_parts, place_of, part, bits_part, activations_part, positions_part, rules_part, unset_from, meaning, base, rules_of, Sound, Means}
 use Rattle.state.proofs.Frame.{Changed, part-long, bits-changed, activations-changed, positions-changed}
 use Rattle.state.proofs.Good.{maybe-roomy, wide-roomy, any-roomy, words-laid, are_words}
@@ -109,26 +106,6 @@ wide-option-laws = maybe-laws wide_laws wide-blank
 pub any-option-laws : RowLaws maybe-any
 any-option-laws = maybe-laws any_laws (word_blank 4294967295)
 
-back-64 : (o : Option ℕ) → option64 (of_option64 o) ≡ o
-back-64 None = refl
-back-64 (Some n) = refl
-
-back-32 : (o : Option ℕ) → option32 (of_option32 o) ≡ o
-back-32 None = refl
-back-32 (Some n) = refl
-
-pub option-read : (w : List ℕ) (k : ℕ) (x : OptionU32) → x ≡ row_at (option32_row 0) w k → option32 x ≡ row_at maybe-any w k
-unfolding row_at
-option-read w k x e = ap option32 e ∙ back-32 (maybe-any.get (drop k w))
-
--- the words of an option do not depend on the bound of its value
-pub option-words : (x : OptionU32) → (option32_row 0).put x ≡ maybe-any.put (option32 x)
-option-words x = by x.present x.value
-  where
-    by : (b : Bool) (n : ℕ) → put_maybe (word 0) (optional b n) ≡ put_maybe any (optional b n)
-    by true n = refl
-    by false n = refl
-
 -- words that were written are words, so that the value has room in them
 module _ (w w' : List ℕ) (k : ℕ) (words : (i : ℕ) → get_or w' i 0 < 4294967296) where
   good-64 : (o : Option ℕ) → w' ≡ laid w k (maybe-wide.put o) → maybe-wide.good o ≡ true
@@ -203,27 +180,26 @@ module _ (w : List ℕ) (s : Sound w) (i : ℕ) where
   unfolding meaning rules_of
   activations-are = refl
 
-  pub activation-at : (x : OptionU64) → i < rules_of w → x ≡ row_at option64_row w (place_of activations_part + i * 3) → option64 x ≡ last_activation_at (meaning w).rest i
+  pub activation-at : (x : Option ℕ) → i < rules_of w → x ≡ row_at maybe-wide w (place_of activations_part + i * 3) → x ≡ last_activation_at (meaning w).rest i
   unfolding last_activation_at row_at
   activation-at x h e =
-      ap option64 e ∙ back-64 (maybe-wide.get (drop (place_of activations_part + i * 3) w))
-      ∙ kept_at maybe-wide wide-option-laws activations_part (omega arith) refl w s i None h ∙ ap (λ (l : List (Option ℕ)). get_or l i None) (sym activations-are)
+      e ∙ kept_at maybe-wide wide-option-laws activations_part (omega arith) refl w s i None h ∙ ap (λ (l : List (Option ℕ)). get_or l i None) (sym activations-are)
 
   pub activation-none : rules_of w ≤ i → None ≡ last_activation_at (meaning w).rest i
   unfolding last_activation_at
   activation-none h =
       at-past (rows_at maybe-wide 64 (part activations_part w)) (rules_of w) i None h ∙ ap (λ (l : List (Option ℕ)). get_or l i None) (sym activations-are)
 
-  pub activation-put : (w' : List ℕ) (x : OptionU64) → i < rules_of w → ((j : ℕ) → get_or w' j 0 < 4294967296) → w' ≡ laid w (place_of activations_part + i * 3) (option64_row.put x)
-      → Means w' (base w) (with_rest (with_last_activation (set (meaning w).rest.last_activation i (option64 x)) (meaning w).rest) (meaning w))
+  pub activation-put : (w' : List ℕ) (x : Option ℕ) → i < rules_of w → ((j : ℕ) → get_or w' j 0 < 4294967296) → w' ≡ laid w (place_of activations_part + i * 3) (maybe-wide.put x)
+      → Means w' (base w) (with_rest (with_last_activation (set (meaning w).rest.last_activation i x) (meaning w).rest) (meaning w))
   activation-put w' x h words e =
-      let g = good-64 w w' (place_of activations_part + i * 3) words (option64 x) e in
-      let p = rows_set maybe-wide activations_part 64 w i (option64 x) in
-      let c = kept-changes maybe-wide wide-option-laws activations_part (omega arith) refl w s i (option64 x) h g w' e in
-      let q : take (rules_of w) (rows_at maybe-wide 64 p) ≡ set (meaning w).rest.last_activation i (option64 x) =
-      kept_set maybe-wide wide-option-laws activations_part (omega arith) refl w s i (option64 x) h g ∙ ap (λ (l : List (Option ℕ)). set l i (option64 x)) (sym activations-are) in
+      let g = good-64 w w' (place_of activations_part + i * 3) words x e in
+      let p = rows_set maybe-wide activations_part 64 w i x in
+      let c = kept-changes maybe-wide wide-option-laws activations_part (omega arith) refl w s i x h g w' e in
+      let q : take (rules_of w) (rows_at maybe-wide 64 p) ≡ set (meaning w).rest.last_activation i x =
+      kept_set maybe-wide wide-option-laws activations_part (omega arith) refl w s i x h g ∙ ap (λ (l : List (Option ℕ)). set l i x) (sym activations-are) in
       subst (λ (l : List (Option ℕ)). Means w' (base w) (with_rest (with_last_activation l (meaning w).rest) (meaning w))) q
-      (activations-changed w w' p s c (kept-unset maybe-wide wide-option-laws activations_part (omega arith) refl w s i (option64 x) h g (unfold rules_of in s.parts.activations)))
+      (activations-changed w w' p s c (kept-unset maybe-wide wide-option-laws activations_part (omega arith) refl w s i x h g (unfold rules_of in s.parts.activations)))
 
   pub activation-past : (o : Option ℕ) → rules_of w ≤ i → Means w (base w) (with_rest (with_last_activation (set (meaning w).rest.last_activation i o) (meaning w).rest) (meaning w))
   activation-past o h =
@@ -236,28 +212,26 @@ module _ (w : List ℕ) (s : Sound w) (i : ℕ) where
   unfolding meaning rules_of
   positions-are = refl
 
-  pub position_at : (x : OptionU32) → i < rules_of w → x ≡ row_at (option32_row 0) w (place_of positions_part + i * 2) → option32 x ≡ cycle_pos_at (meaning w).rest i
+  pub position_at : (x : Option ℕ) → i < rules_of w → x ≡ row_at maybe-any w (place_of positions_part + i * 2) → x ≡ cycle_pos_at (meaning w).rest i
   unfolding cycle_pos_at
   position_at x h e =
-      option-read w (place_of positions_part + i * 2) x e
-      ∙ kept_at maybe-any any-option-laws positions_part (omega arith) refl w s i None h ∙ ap (λ (l : List (Option ℕ)). get_or l i None) (sym positions-are)
+      e ∙ kept_at maybe-any any-option-laws positions_part (omega arith) refl w s i None h ∙ ap (λ (l : List (Option ℕ)). get_or l i None) (sym positions-are)
 
   pub position-none : rules_of w ≤ i → None ≡ cycle_pos_at (meaning w).rest i
   unfolding cycle_pos_at
   position-none h =
       at-past (rows_at maybe-any 64 (part positions_part w)) (rules_of w) i None h ∙ ap (λ (l : List (Option ℕ)). get_or l i None) (sym positions-are)
 
-  pub position-put : (w' : List ℕ) (x : OptionU32) → i < rules_of w → ((j : ℕ) → get_or w' j 0 < 4294967296) → w' ≡ laid w (place_of positions_part + i * 2) ((option32_row 0).put x)
-      → Means w' (base w) (with_rest (with_cycle_pos (set (meaning w).rest.cycle_pos i (option32 x)) (meaning w).rest) (meaning w))
-  position-put w' x h words d =
-      let e : w' ≡ laid w (place_of positions_part + i * 2) (maybe-any.put (option32 x)) = d ∙ ap (laid w (place_of positions_part + i * 2)) (option-words x) in
-      let g = good-32 w w' (place_of positions_part + i * 2) words (option32 x) e in
-      let p = rows_set maybe-any positions_part 64 w i (option32 x) in
-      let c = kept-changes maybe-any any-option-laws positions_part (omega arith) refl w s i (option32 x) h g w' e in
-      let q : take (rules_of w) (rows_at maybe-any 64 p) ≡ set (meaning w).rest.cycle_pos i (option32 x) =
-      kept_set maybe-any any-option-laws positions_part (omega arith) refl w s i (option32 x) h g ∙ ap (λ (l : List (Option ℕ)). set l i (option32 x)) (sym positions-are) in
+  pub position-put : (w' : List ℕ) (x : Option ℕ) → i < rules_of w → ((j : ℕ) → get_or w' j 0 < 4294967296) → w' ≡ laid w (place_of positions_part + i * 2) (maybe-any.put x)
+      → Means w' (base w) (with_rest (with_cycle_pos (set (meaning w).rest.cycle_pos i x) (meaning w).rest) (meaning w))
+  position-put w' x h words e =
+      let g = good-32 w w' (place_of positions_part + i * 2) words x e in
+      let p = rows_set maybe-any positions_part 64 w i x in
+      let c = kept-changes maybe-any any-option-laws positions_part (omega arith) refl w s i x h g w' e in
+      let q : take (rules_of w) (rows_at maybe-any 64 p) ≡ set (meaning w).rest.cycle_pos i x =
+      kept_set maybe-any any-option-laws positions_part (omega arith) refl w s i x h g ∙ ap (λ (l : List (Option ℕ)). set l i x) (sym positions-are) in
       subst (λ (l : List (Option ℕ)). Means w' (base w) (with_rest (with_cycle_pos l (meaning w).rest) (meaning w))) q
-      (positions-changed w w' p s c (kept-unset maybe-any any-option-laws positions_part (omega arith) refl w s i (option32 x) h g (unfold rules_of in s.parts.positions)))
+      (positions-changed w w' p s c (kept-unset maybe-any any-option-laws positions_part (omega arith) refl w s i x h g (unfold rules_of in s.parts.positions)))
 
   pub position_past : (o : Option ℕ) → rules_of w ≤ i → Means w (base w) (with_rest (with_cycle_pos (set (meaning w).rest.cycle_pos i o) (meaning w).rest) (meaning w))
   position_past o h =

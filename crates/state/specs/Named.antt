@@ -1,14 +1,12 @@
 -- Timers, variables and Every slots: what the contracts on them cite.
 use Rattle.std.specs.Prelude.{ℕ, Bool, false, cond, not, ◌&&◌, List, [], ◌∷◌, eqb, leb, length, replicate}
-use Rattle.std.specs.Prelude.{Option, None, Some}
+use Rattle.std.specs.Prelude.{None}
 use Rattle.model.specs.Lists.{present, find}
 use Rattle.model.specs.State.{Rest, Volatile, with_rest, with_enabled, with_last_activation, with_cycle_pos, add_timer, with_vars, var_named, put_var}
 use Rattle.model.specs.declared.EverySlot.{EverySlot}
 use Rattle.model.specs.declared.NamedTimer.{NamedTimer}
 use Rattle.model.specs.declared.VarValue.{VarValue}
 use Rattle.model.specs.declared.Variable.{Variable}
-use Rattle.state.specs.declared.variables.VarFound.{VarFound}
-use Rattle.state.specs.declared.variables.VarFound.TheVariants.{Absent, Found}
 
 abbrev pub timer_has_name : ℕ → NamedTimer → Bool
 timer_has_name name t = eqb t.name name
@@ -38,10 +36,6 @@ lacks_room name v = not (present (var_named v.rest name)) && leb 16 (length v.re
 
 unfoldable pub assigned : ℕ → VarValue → Volatile → Volatile
 assigned name x v = cond (lacks_room name v) v (with_rest (with_vars (put_var name x v.rest.vars) v.rest) v)
-
-abbrev pub found_value : VarFound → Option VarValue
-found_value Absent = None
-found_value (Found x) = Some x
 
 -- rows of variables: name, tag, value. A row set again stays in its place
 abbrev pub has_name : ℕ → ℕ × (ℕ × ℕ) → Bool

@@ -18,13 +18,11 @@ ghost use Rattle.counters.specs.Counters.{counters_of, place_of_counter};
 ghost use Rattle.model.specs.Codec.{words_of};
 ghost use Rattle.model.specs.Parts.{any};
 ghost use Rattle.model.specs.State.{with_rest, bump_by, with_prev_week_min};
-ghost use Rattle.rows.specs.Options.{option32};
 ghost use Rattle.rows.specs.Places.{table_at, laid};
 ghost use Rattle.state.specs.Meaning.{Sound, Means, meaning, base};
 
 use counters::{Counter, Counters};
 use model::{EverySlot, NamedTimer};
-use rows::OptionU32;
 
 pub mod last_number;
 pub mod pending;
@@ -107,16 +105,16 @@ pub fn bump(v: &mut [u32], which: Counter, by: u32)
 }
 
 // The minute of the week at the tick before.
-pub fn prev_week_min(v: &[u32]) -> OptionU32
+pub fn prev_week_min(v: &[u32]) -> Option<u32>
     requires { Sound v.now }
-    ensures { option32 result ≡ (meaning v.now).rest.prev_week_min }
+    ensures { result ≡ (meaning v.now).rest.prev_week_min }
 {
     rows::read::option32_at(v, place::WEEK)
 }
 
-pub fn set_prev_week_min(v: &mut [u32], minute: OptionU32)
+pub fn set_prev_week_min(v: &mut [u32], minute: Option<u32>)
     requires { Sound v.old }
-    ensures { Means v.new (base v.old) (with_rest (with_prev_week_min (option32 minute) (meaning v.old).rest) (meaning v.old)) }
+    ensures { Means v.new (base v.old) (with_rest (with_prev_week_min minute (meaning v.old).rest) (meaning v.old)) }
 {
     rows::put::put_option32(v, place::WEEK, minute);
 }

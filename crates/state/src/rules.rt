@@ -4,12 +4,11 @@ ghost use Rattle.std.specs.Prelude.{◌≡◌, ◌≤◌, set};
 ghost use Rattle.std.specs.Prelude.{Some};
 ghost use Rattle.model.specs.Calls.{flipped};
 ghost use Rattle.model.specs.State.{is_enabled, last_activation_at, cycle_pos_at, with_rest, with_enabled, with_last_activation, with_cycle_pos};
-ghost use Rattle.rows.specs.Options.{option32, option64};
 ghost use Rattle.state.specs.Meaning.{Sound, Means, meaning, base, rules_of};
 ghost use Rattle.state.specs.Named.{unset_rules};
 
 use crate::{pending, place};
-use rows::{ACTIVATION_WORDS, OptionU32, OptionU64, POSITION_WORDS};
+use rows::{ACTIVATION_WORDS, POSITION_WORDS};
 
 // How many rules there are.
 fn rule_count(v: &[u32]) -> usize
@@ -50,23 +49,20 @@ pub fn set_enabled(v: &mut [u32], rule: u32, i: usize, on: bool)
     }
 }
 
-pub fn last_activation(v: &[u32], i: usize) -> OptionU64
+pub fn last_activation(v: &[u32], i: usize) -> Option<u64>
     requires { Sound v.now }
-    ensures { option64 result ≡ last_activation_at (meaning v.now).rest i }
+    ensures { result ≡ last_activation_at (meaning v.now).rest i }
 {
     if i < rule_count(v) {
         return rows::read::option64_at(v, place::ACTIVATIONS + i * ACTIVATION_WORDS);
     }
-    OptionU64 {
-        present: false,
-        value: 0,
-    }
+    None
 }
 
 // What is kept of rule i's last activation.
-pub fn put_last_activation(v: &mut [u32], i: usize, x: OptionU64)
+pub fn put_last_activation(v: &mut [u32], i: usize, x: Option<u64>)
     requires { Sound v.old }
-    ensures { Means v.new (base v.old) (with_rest (with_last_activation (set (meaning v.old).rest.last_activation i (option64 x)) (meaning v.old).rest) (meaning v.old)) }
+    ensures { Means v.new (base v.old) (with_rest (with_last_activation (set (meaning v.old).rest.last_activation i x) (meaning v.old).rest) (meaning v.old)) }
 {
     if i < rule_count(v) {
         rows::put::put_option64(v, place::ACTIVATIONS + i * ACTIVATION_WORDS, x);
@@ -77,30 +73,23 @@ pub fn set_last_activation(v: &mut [u32], i: usize, time: u64)
     requires { Sound v.old }
     ensures { Means v.new (base v.old) (with_rest (with_last_activation (set (meaning v.old).rest.last_activation i (Some time)) (meaning v.old).rest) (meaning v.old)) }
 {
-    let x = OptionU64 {
-        present: true,
-        value: time,
-    };
-    put_last_activation(v, i, x);
+    put_last_activation(v, i, Some(time));
 }
 
-pub fn cycle_pos(v: &[u32], i: usize) -> OptionU32
+pub fn cycle_pos(v: &[u32], i: usize) -> Option<u32>
     requires { Sound v.now }
-    ensures { option32 result ≡ cycle_pos_at (meaning v.now).rest i }
+    ensures { result ≡ cycle_pos_at (meaning v.now).rest i }
 {
     if i < rule_count(v) {
         return rows::read::option32_at(v, place::POSITIONS + i * POSITION_WORDS);
     }
-    OptionU32 {
-        present: false,
-        value: 0,
-    }
+    None
 }
 
 // What is kept of rule i's cycle position.
-pub fn put_cycle_pos(v: &mut [u32], i: usize, x: OptionU32)
+pub fn put_cycle_pos(v: &mut [u32], i: usize, x: Option<u32>)
     requires { Sound v.old }
-    ensures { Means v.new (base v.old) (with_rest (with_cycle_pos (set (meaning v.old).rest.cycle_pos i (option32 x)) (meaning v.old).rest) (meaning v.old)) }
+    ensures { Means v.new (base v.old) (with_rest (with_cycle_pos (set (meaning v.old).rest.cycle_pos i x) (meaning v.old).rest) (meaning v.old)) }
 {
     if i < rule_count(v) {
         rows::put::put_option32(v, place::POSITIONS + i * POSITION_WORDS, x);
@@ -111,11 +100,7 @@ pub fn set_cycle_pos(v: &mut [u32], i: usize, at: u32)
     requires { Sound v.old }
     ensures { Means v.new (base v.old) (with_rest (with_cycle_pos (set (meaning v.old).rest.cycle_pos i (Some at)) (meaning v.old).rest) (meaning v.old)) }
 {
-    let x = OptionU32 {
-        present: true,
-        value: at,
-    };
-    put_cycle_pos(v, i, x);
+    put_cycle_pos(v, i, Some(at));
 }
 
 // There are n rules, and nothing is kept of any.

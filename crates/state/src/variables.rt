@@ -5,7 +5,7 @@ ghost use Rattle.model.specs.Parts.{variable_row};
 ghost use Rattle.model.specs.State.{var_named};
 ghost use Rattle.model.specs.Store.{variable_row_of};
 ghost use Rattle.state.specs.Meaning.{Sound, Means, Holds, Counted, meaning, base};
-ghost use Rattle.state.specs.Named.{variable_has_name, lacks_room, assigned, assign_row, found_value};
+ghost use Rattle.state.specs.Named.{variable_has_name, lacks_room, assigned, assign_row};
 ghost use Rattle.state.specs.Tables.{First};
 
 use crate::place::MAX_VARIABLES;
@@ -15,12 +15,6 @@ use rows::VARIABLE_WORDS;
 
 // The word of a row that is its name.
 const NAME: usize = 0;
-
-#[derive(Clone, Copy)]
-pub enum VarFound {
-    Absent,
-    Found(VarValue),
-}
 
 // The place of the variable of a name, and their number where there is none.
 fn place_of(v: &[u32], name: u32) -> usize
@@ -36,17 +30,17 @@ fn place_of(v: &[u32], name: u32) -> usize
 }
 
 // What the variable of the name holds.
-pub fn variable(v: &[u32], name: u32) -> VarFound
+pub fn variable(v: &[u32], name: u32) -> Option<VarValue>
     requires { Sound v.now }
-    ensures { found_value result ≡ var_named (meaning v.now).rest name }
+    ensures { result ≡ var_named (meaning v.now).rest name }
 {
     let i = place_of(v, name);
     if i < v[place::VARIABLES] as usize {
         let x = rows::read::variable_at(v, place::VARIABLES + 1 + i * VARIABLE_WORDS);
         let value = x.value;
-        return VarFound::Found(value);
+        return Some(value);
     }
-    VarFound::Absent
+    None
 }
 
 // Whether the name is new and 16 variables stand.
