@@ -3,14 +3,13 @@ use Prim.Native.Nat.{ℕ}
 use mathlib.Core.Path.{◌≡◌, sym, ap, ◌∙◌}
 use mathlib.Core.Bool.{Bool, true, false}
 use mathlib.Core.List.{List}
+use Rattle.std.specs.Prelude.{Option, None, Some}
 use lib.Dec.{ltb}
 use Rattle.words.specs.Saturating.{saturating_sub}
 use Rattle.model.specs.Activate as model
 use Rattle.model.specs.Rules.{cooldown_of}
 use Rattle.model.specs.State.{Rest, last_activation_at}
 use Rattle.model.specs.World.{world_of}
-use Rattle.rows.specs.Options.{option64}
-use Rattle.rows.specs.declared.OptionU64.{OptionU64}
 use Rattle.eval.specs.Answers.{verdict_of}
 use Rattle.eval.specs.Equals.{RuleHolds}
 use Rattle.eval.specs.declared.Verdict.{Verdict}
@@ -21,14 +20,14 @@ use Rattle.activate.specs.declared.decide.Decision.{Decision}
 use Rattle.activate.specs.declared.decide.Decision.TheVariants.{Begins, InCooldown, Rejected, Unevaluable}
 
 -- the time since the last activation
-module _ (snapshot image : List ℕ) (i : ℕ) (s : Rest) (last : OptionU64) (h : option64 last ≡ last_activation_at s i) where
-  pub never-active : last.present ≡ false → InCooldownIs snapshot image i s false
+module _ (snapshot image : List ℕ) (i : ℕ) (s : Rest) (last : Option ℕ) (h : last ≡ last_activation_at s i) where
+  pub never-active : last ≡ None → InCooldownIs snapshot image i s false
   unfolding model.in_cooldown
   never-active f flat = rw (← h, f)
 
-  pub last-active : (now age cooldown : ℕ) → last.present ≡ true → now ≡ (world_of snapshot).now → age ≡ saturating_sub now last.value → cooldown ≡ cooldown_of image i → InCooldownIs snapshot image i s (ltb age cooldown)
+  pub last-active : (before now age cooldown : ℕ) → last ≡ Some before → now ≡ (world_of snapshot).now → age ≡ saturating_sub now before → cooldown ≡ cooldown_of image i → InCooldownIs snapshot image i s (ltb age cooldown)
   unfolding model.in_cooldown saturating_sub
-  last-active now age cooldown t n a c flat = rw (← h, t, a, n, c)
+  last-active before now age cooldown t n a c flat = rw (← h, t, a, n, c)
 
 module _ (snapshot image : List ℕ) (i : ℕ) (m : Mode) (s : Rest) (auto : Bool) (h : auto ≡ is_auto m) where
   pub asks-cooldown : (b : Bool) → auto ≡ true → InCooldownIs snapshot image i s b → CooldownHolds snapshot image i m s b

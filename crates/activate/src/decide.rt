@@ -35,11 +35,13 @@ fn in_cooldown(snapshot: &[u32], image: &[u32], v: &[u32], i: u32) -> bool
 {
     let last = state::rules::last_activation(v, i as usize);
     let cooldown = image::rule::cooldown_of(image, i);
-    if last.present {
-        let age = words::saturating_sub_u64(world::now_ms(snapshot), last.value);
-        return age < cooldown as u64;
+    match last {
+        Some(before) => {
+            let age = words::saturating_sub_u64(world::now_ms(snapshot), before);
+            age < cooldown as u64
+        }
+        None => false,
     }
-    false
 }
 
 // Only an automatic activation waits for the cooldown.

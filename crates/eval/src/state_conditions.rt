@@ -6,7 +6,6 @@ ghost use Rattle.model.specs.declared.Condition.TheVariants as condition;
 ghost use Rattle.model.specs.declared.VarValue.TheVariants.{Int, Text};
 ghost use Rattle.image.specs.Sized.{Sized};
 ghost use Rattle.state.specs.Meaning.{Sound, meaning};
-ghost use Rattle.rows.specs.Options.{option64};
 ghost use Rattle.eval.specs.Answers.{text_compared};
 ghost use Rattle.eval.specs.Equals.{Evaluates, EvaluatesIn, EvaluatesKept, ComparesVar, IsOlder};
 
@@ -14,8 +13,6 @@ use crate::compare::{compare_text, compared, verdict};
 use crate::values::value_at;
 use crate::{Number, Verdict};
 use model::VarValue;
-use rows::OptionU64;
-use state::variables::VarFound;
 
 // False for a rule that is not loaded.
 pub fn rule_enabled(image: &[u32], v: &[u32], rule: u32) -> Verdict
@@ -30,14 +27,16 @@ pub fn rule_enabled(image: &[u32], v: &[u32], rule: u32) -> Verdict
 }
 
 // True for a rule that never fired.
-fn older_than(snapshot: &[u32], ms: u32, last: OptionU64) -> bool
-    ensures { IsOlder snapshot.now ms (option64 last) result }
+fn older_than(snapshot: &[u32], ms: u32, last: Option<u64>) -> bool
+    ensures { IsOlder snapshot.now ms last result }
 {
-    if last.present {
-        let age = words::saturating_sub_u64(world::now_ms(snapshot), last.value);
-        return (ms as u64) < age;
+    match last {
+        Some(before) => {
+            let age = words::saturating_sub_u64(world::now_ms(snapshot), before);
+            (ms as u64) < age
+        }
+        None => true,
     }
-    true
 }
 
 // True for a rule that is not loaded.
@@ -114,10 +113,10 @@ pub fn compare_var(
     ensures { Evaluates snapshot.now image.now (meaning v.now).rest (condition.VarCompare name cmp tag operand) result }
 {
     match state::variables::variable(v, name) {
-        VarFound::Found(x) => match x {
+        Some(x) => match x {
             VarValue::Int(n) => compare_int(snapshot, image, v, n, cmp, tag, operand),
             VarValue::Text(t) => verdict(compare_texts(t, cmp, tag, operand)),
         },
-        VarFound::Absent => verdict(cmp == 1),
+        None => verdict(cmp == 1),
     }
 }

@@ -9,7 +9,6 @@ ghost use Rattle.eval.specs.Equals.{ReadsIn, ValueIn, ValueAt};
 
 use crate::{Number, readings, time};
 use model::{Reading, Value, VarValue};
-use state::variables::VarFound;
 
 // What an integer variable holds.
 fn variable(v: &[u32], name: u32) -> Number
@@ -17,11 +16,11 @@ fn variable(v: &[u32], name: u32) -> Number
     ensures { number_of result ≡ as_int (var_named (meaning v.now).rest name) }
 {
     match state::variables::variable(v, name) {
-        VarFound::Found(x) => match x {
+        Some(x) => match x {
             VarValue::Int(n) => Number::Value(words::as_i64(n)),
             VarValue::Text(_) => Number::Unevaluable,
         },
-        VarFound::Absent => Number::Unevaluable,
+        None => Number::Unevaluable,
     }
 }
 

@@ -24,9 +24,6 @@ use Rattle.model.specs.Eval.{value_at}
 use Rattle.model.specs.Actions.{Job, emits, no_effect, fails, hold_or, prim_light, prim_recall, prim_apply, prim_cycle, cycle_effect, level_at, selects, dims, arm_timer, var_set, prim_var_set, var_add, set_rule_bit, run_prim}
 use Rattle.model.specs.declared.Action.TheVariants.{Light, Recall, Apply, Cycle, Percent, PanelSelect, TimerStart, TimerRestart, TimerCancel, VarSet, VarAdd}
 use Rattle.curve.specs.Curve.{level_of}
-use Rattle.state.specs.Named.{found_value}
-use Rattle.state.specs.declared.variables.VarFound.{VarFound}
-use Rattle.state.specs.declared.variables.VarFound.TheVariants.{Absent, Found}
 use Rattle.model.specs.declared.VarValue.{VarValue}
 use Rattle.model.specs.declared.VarValue.TheVariants.{Int, Text}
 
@@ -180,16 +177,16 @@ module _ (e : Env) (j : Job) (s : Rest) where
   panel adapter group v n p = rw p
 
   -- the sum with what a variable holds
-  module _ (name : ℕ) (step : ℤ) (held : VarFound) where
-    pub add-absent : (n : ℕ) → held ≡ Absent → n ≡ bits64 step → var_set e j s name (Int n) ≡ var_add e j s name (Some step) (found_value held)
+  module _ (name : ℕ) (step : ℤ) (held : Option VarValue) where
+    pub add-absent : (n : ℕ) → held ≡ None → n ≡ bits64 step → var_set e j s name (Int n) ≡ var_add e j s name (Some step) held
     add-absent n h b = rw (h, b)
 
     pub add-integer :
-        (x : VarValue) (m : ℕ) (y z : ℤ) (n : ℕ) → held ≡ Found x → x ≡ Int m → y ≡ signed64 m → z ≡ saturating_add_i64 y step → n ≡ bits64 z
-        → var_set e j s name (Int n) ≡ var_add e j s name (Some step) (found_value held)
+        (x : VarValue) (m : ℕ) (y z : ℤ) (n : ℕ) → held ≡ Some x → x ≡ Int m → y ≡ signed64 m → z ≡ saturating_add_i64 y step → n ≡ bits64 z
+        → var_set e j s name (Int n) ≡ var_add e j s name (Some step) held
     add-integer x m y z n h k p q b = rw (h, k, b, q, p)
 
-    pub add-text : (x : VarValue) (t : ℕ) → held ≡ Found x → x ≡ Text t → fails s ≡ var_add e j s name (Some step) (found_value held)
+    pub add-text : (x : VarValue) (t : ℕ) → held ≡ Some x → x ≡ Text t → fails s ≡ var_add e j s name (Some step) held
     add-text x t h k = rw (h, k)
 
   -- from 0 to the group limit

@@ -1,13 +1,7 @@
 -- The place of a Cycle in its list, and its pool word: past the end of the image it is 0, however far past. Assumes nothing.
-use Prim.Native.Nat.{ℕ, ◌+◌, ◌%◌, ◌≤◌, ◌<◌}
-use mathlib.Core.Bool.{true, false}
-use Rattle.std.specs.Prelude.{Option}
-use Rattle.model.specs.Lists.{or_else}
-use Rattle.rows.specs.Options.{option32}
-use Rattle.rows.specs.declared.OptionU32.{OptionU32}
+use Prim.Native.Nat.{ℕ, ◌+◌, ◌≤◌}
 use native.Mathlib.Omega.{arith}
 use native.Mathlib.Decide.{dec_le}
-use native.Mathlib.Nat.{mod-lt, zero-mod}
 use mathlib.Core.Path.{◌≡◌, sym, ap, ◌∙◌}
 use mathlib.Core.List.{List}
 use lib.ListN.{length, get_or-eq_default}
@@ -26,10 +20,3 @@ pool-word img first at i h e =
       | yes k ↦ ap (λ (n : ℕ). word_at img pool n 0) (e ∙ add-within max32 first at k)
       | no k ↦ past img i (omega (arith, add-beyond max32 first at (omega arith))) ∙ sym (past img (first + at) (omega arith))
     ]
-
-pub place-some : (o : OptionU32) (p : Option ℕ) (count : ℕ) → option32 o ≡ p → o.present ≡ true → 0 < count → (o.value % count ≡ or_else 0 p % count) × (o.value % count < count)
-place-some o p count e h c = (ap (λ (x : Option ℕ). or_else 0 x % count) (rw h at e), mod-lt o.value c)
-
-pub place_none : (o : OptionU32) (p : Option ℕ) (count : ℕ) → option32 o ≡ p → o.present ≡ false → 0 < count → (0 ≡ or_else 0 p % count) × (0 < count)
-place_none o p count e h c =
-    (sym (zero-mod count) ∙ ap (λ (x : Option ℕ). or_else 0 x % count) (rw h at e), c)

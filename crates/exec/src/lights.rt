@@ -13,7 +13,6 @@ use crate::answers::{emits, fails, no_effect};
 use crate::{Job, PrimResult};
 use eval::Number;
 use eval::values::value_at;
-use rows::OptionU32;
 
 const LIGHT: u32 = 0;
 
@@ -78,11 +77,10 @@ fn cycle_place(v: &[u32], index: u32, count: u32) -> u32
     requires { Sound v.now × (0 < count) }
     ensures { (result ≡ or_else 0 (cycle_pos_at (meaning v.now).rest index) % count) × (result < count) }
 {
-    let o = state::rules::cycle_pos(v, index as usize);
-    if o.present {
-        return o.value % count;
+    match state::rules::cycle_pos(v, index as usize) {
+        Some(at) => at % count,
+        None => 0,
     }
-    0
 }
 
 // The sum saturates: past the end of the image there is no word, however far.

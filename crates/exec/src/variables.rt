@@ -4,7 +4,6 @@ ghost use Rattle.std.specs.Prelude.{Some};
 ghost use Rattle.model.specs.declared.Action.TheVariants.{VarSet, VarAdd, PanelSelect};
 ghost use Rattle.image.specs.Sized.{Sized};
 ghost use Rattle.state.specs.Meaning.{Sound};
-ghost use Rattle.state.specs.Named.{found_value};
 ghost use Rattle.exec.specs.Done.{action_done};
 ghost use Rattle.exec.specs.Results.{PerformsIn, Assigns, Adds, Selects};
 
@@ -13,7 +12,6 @@ use crate::{Job, PrimResult};
 use eval::Number;
 use eval::values::value_at;
 use model::VarValue;
-use state::variables::VarFound;
 
 const PANEL_SELECT: u32 = 7;
 
@@ -54,13 +52,13 @@ pub fn var_set(
 }
 
 // A number is added to what a variable holds: to 0 where there is none, to no text.
-fn add_to(v: &mut [u32], job: Job, name: u32, step: i64, held: VarFound) -> PrimResult
+fn add_to(v: &mut [u32], job: Job, name: u32, step: i64, held: Option<VarValue>) -> PrimResult
     requires { Sound v.old }
-    ensures { Adds job v.old name (Some step) (found_value held) (action_done v.new result) }
+    ensures { Adds job v.old name (Some step) held (action_done v.new result) }
 {
     match held {
-        VarFound::Absent => assign(v, job, name, VarValue::Int(words::bits_of(step))),
-        VarFound::Found(x) => match x {
+        None => assign(v, job, name, VarValue::Int(words::bits_of(step))),
+        Some(x) => match x {
             VarValue::Int(n) => {
                 let sum = words::saturating_add_i64(words::as_i64(n), step);
                 assign(v, job, name, VarValue::Int(words::bits_of(sum)))

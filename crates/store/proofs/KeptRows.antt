@@ -1,7 +1,7 @@
 -- What a store keeps at a place for a rule, and its pending record of an index. Assumes nothing.
-use mathlib.Core.Path.{◌≡◌, refl, sym, ap, ◌∙◌}
+use mathlib.Core.Path.{◌≡◌, sym, ap, ◌∙◌}
 use mathlib.Core.List.{List}
-use Rattle.std.specs.Prelude.{Option, None, Some}
+use Rattle.std.specs.Prelude.{Option, None}
 use Prim.Native.Nat.{ℕ, ◌+◌, ◌*◌, ◌≤◌, ◌<◌}
 use native.Mathlib.Omega.{arith}
 use lib.ListN.{length, get_or, get_or-eq_default}
@@ -10,30 +10,17 @@ use Rattle.model.specs.Parts.{any, pending_row}
 use Rattle.model.specs.declared.Pending.{Pending}
 use Rattle.model.proofs.PartsLaws.{pending-laws}
 use Rattle.model.proofs.RowLaws.{word_laws, wide_laws, word_blank, wide-blank, maybe-laws}
-use Rattle.rows.specs.Options.{option32, option64}
 use Rattle.rows.specs.Places.{row_at}
-use Rattle.rows.specs.Rows.{of_option32, of_option64, option32_row, option64_row}
-use Rattle.rows.specs.declared.OptionU32.{OptionU32}
-use Rattle.rows.specs.declared.OptionU64.{OptionU64}
 use Rattle.store.specs.Places.{activations_place, positions_place, pending_place}
 use Rattle.store.specs.Volatile.{changing_in, record_in}
 use Rattle.store.proofs.Parts.{activations-at, positions-at, pending-at, table-long}
 use Rattle.store.proofs.RuleSteps.{table-at}
 
-back-64 : (o : Option ℕ) → option64 (of_option64 o) ≡ o
-back-64 None = refl
-back-64 (Some n) = refl
-
-back-32 : (o : Option ℕ) → option32 (of_option32 o) ≡ o
-back-32 None = refl
-back-32 (Some n) = refl
-
 module _ (w : List ℕ) (i : ℕ) where
-  pub activation-read : (x : OptionU64) → i < 64 → x ≡ row_at option64_row w (activations_place + i * 3) → option64 x ≡ get_or (changing_in w).activations i None
+  pub activation-read : (x : Option ℕ) → i < 64 → x ≡ row_at (maybe wide) w (activations_place + i * 3) → x ≡ get_or (changing_in w).activations i None
   unfolding row_at
   activation-read x h e =
-      ap option64 e
-      ∙ back-64 (row_at (maybe wide) w (activations_place + i * 3))
+      e
       ∙ sym (table-at (maybe wide) 64 i w activations_place None h)
       ∙ ap (λ (l : List (Option ℕ)). get_or l i None) (sym (activations-at w))
 
@@ -42,11 +29,10 @@ module _ (w : List ℕ) (i : ℕ) where
       let l = ap length (activations-at w) ∙ table-long (maybe wide) (maybe-laws wide_laws wide-blank) 64 w activations_place in
       sym (get_or-eq_default (changing_in w).activations None (omega arith))
 
-  pub position-read : (x : OptionU32) → i < 64 → x ≡ row_at (option32_row 0) w (positions_place + i * 2) → option32 x ≡ get_or (changing_in w).positions i None
+  pub position-read : (x : Option ℕ) → i < 64 → x ≡ row_at (maybe any) w (positions_place + i * 2) → x ≡ get_or (changing_in w).positions i None
   unfolding row_at
   position-read x h e =
-      ap option32 e
-      ∙ back-32 (row_at (maybe (word 15)) w (positions_place + i * 2))
+      e
       ∙ sym (table-at (maybe (word 15)) 64 i w positions_place None h)
       ∙ ap (λ (l : List (Option ℕ)). get_or l i None) (sym (positions-at w))
 

@@ -2,6 +2,7 @@
 use mathlib.Core.Path.{◌≡◌, refl, sym, ap, ◌∙◌}
 use mathlib.Core.Bool.{Bool, true, false, ◌||◌}
 use mathlib.Core.List.{List, [], ◌∷◌}
+use Rattle.std.specs.Option.{is_some}
 use Rattle.std.specs.Prelude.{Option, None, Some}
 use Prim.Native.Nat.{ℕ, ◌+◌, ◌*◌, ◌≤◌, ◌<◌}
 use native.Mathlib.Numerals.{add-one}
@@ -14,7 +15,6 @@ use Rattle.model.specs.Wheel.{by_time, by_solar, minute_due, solar_due, without_
 use Rattle.model.specs.declared.Trigger.{Trigger}
 use Rattle.model.specs.declared.Trigger.TheVariants.{TimerFires, Every, AtTime, AtSolar, Other}
 use Rattle.model.proofs.Bools.{or-true, or-false}
-use Rattle.rows.specs.Options.{option32}
 use Rattle.model.specs.declared.SunTimes.{SunTimes}
 use Rattle.wheel.specs.Wall.{kind_if, wall_kind, missed_too}
 use Rattle.wheel.specs.declared.wall.WallKind.{WallKind}
@@ -77,11 +77,13 @@ abbrev first_of : Option ℕ → model.WallKind → model.WallKind → model.Wal
 first_of None w rest = record { kind = rest.kind; unsynced = w.unsynced || rest.unsynced }
 first_of (Some kind) w rest = w
 
-chosen : (o : Option ℕ) (kind : ℕ) (w rest : model.WallKind) → o ≡ Some kind → first_of o w rest ≡ w
-chosen o kind w rest e = rw e
+chosen : (o : Option ℕ) (w rest : model.WallKind) → is_some o ≡ true → first_of o w rest ≡ w
+chosen None w rest e = cc
+chosen (Some kind) w rest e = refl
 
-passed : (now b : Bool) (o : Option ℕ) (w rest : model.WallKind) → o ≡ None → b ≡ now || w.unsynced → missed_too b rest ≡ missed_too now (first_of o w rest)
-passed now b o w rest e f = rw (e, f, or_assoc now w.unsynced rest.unsynced)
+passed : (now b : Bool) (o : Option ℕ) (w rest : model.WallKind) → is_some o ≡ false → b ≡ now || w.unsynced → missed_too b rest ≡ missed_too now (first_of o w rest)
+passed now b None w rest e f = rw (f, or_assoc now w.unsynced rest.unsynced)
+passed now b (Some kind) w rest e f = cc
 
 time-first : (b : Bool) (kind : ℕ) (rest : model.WallKind) → time_kind b kind rest ≡ first_of (time_kind b kind nothing).kind (time_kind b kind nothing) rest
 time-first true kind rest = refl
@@ -115,7 +117,7 @@ module _ (e : Env) (base window : ℕ) where
 
     -- a turn, by what trigger k gives
     module _ (missed now : Bool) (k : ℕ) {t : Trigger} (r : WallKind) (l : k < length ts) (inv : Left missed k now) (here : t ≡ get_or ts k Other) (is : wall_kind r ≡ missed_too now (one t)) where
-      kind-is : option32 r.kind ≡ (one t).kind
+      kind-is : r.kind ≡ (one t).kind
       kind-is = ap (λ (w : model.WallKind). w.kind) is
 
       rest : model.WallKind
@@ -127,12 +129,12 @@ module _ (e : Env) (base window : ℕ) where
           let eq : drop k ts ≡ t ∷ drop (k + 1) ts = rw (here, add-one) (drop-cons ts k Other l) in
           ap (missed_too now) (sym (first_then t (drop (k + 1) ts))) ∙ ap (λ (l : List Trigger). missed_too now (due_wall_kind e base window l)) (sym eq) ∙ inv
 
-      pub ends-here : r.kind.present ≡ true → wall_kind r ≡ missed_too missed (due_wall_kind e base window ts)
-      ends-here h = is ∙ ap (missed_too now) (sym (chosen (one t).kind r.kind.value (one t) rest (sym kind-is ∙ rw h))) ∙ turn
+      pub ends-here : is_some r.kind ≡ true → wall_kind r ≡ missed_too missed (due_wall_kind e base window ts)
+      ends-here h = is ∙ ap (missed_too now) (sym (chosen (one t).kind (one t) rest (rw kind-is at h))) ∙ turn
 
-      pub goes : r.kind.present ≡ false → Left missed (k + 1) r.unsynced
+      pub goes : is_some r.kind ≡ false → Left missed (k + 1) r.unsynced
       unfolding Left rest
-      goes h = passed now r.unsynced (one t).kind (one t) rest (sym kind-is ∙ rw h) (ap (λ (w : model.WallKind). w.unsynced) is) ∙ turn
+      goes h = passed now r.unsynced (one t).kind (one t) rest (rw kind-is at h) (ap (λ (w : model.WallKind). w.unsynced) is) ∙ turn
 
     pub ends : (missed now : Bool) (k : ℕ) → length ts ≤ k → Left missed k now → wall_kind (kind_if false 0 now) ≡ missed_too missed (due_wall_kind e base window ts)
     unfolding Left due_wall_kind

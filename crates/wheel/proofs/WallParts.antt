@@ -5,8 +5,6 @@ use mathlib.Core.Path.{◌≡◌, refl, sym, ap, ◌∙◌}
 use mathlib.Core.Bool.{Bool, true, false, not}
 use mathlib.Core.List.{List}
 use Rattle.std.specs.Prelude.{Option, None, Some}
-use borrow.Author.Tests.{not-true, not-false}
-use Rattle.model.specs.Activate as model
 use Rattle.model.specs.Activate.{no_outcome}
 use Rattle.model.specs.Flat.{flatten_rules, set_of}
 use Rattle.model.specs.Rules.{triggers_of}
@@ -18,8 +16,6 @@ use Rattle.model.specs.World as model-world
 use Rattle.model.specs.declared.WallTime.{WallTime}
 use Rattle.model.specs.World.{world_of}
 use Rattle.state.specs.Meaning.{Means, Sound, meaning, base}
-use Rattle.rows.specs.Options.{option32}
-use Rattle.rows.specs.declared.OptionU32.{OptionU32}
 use Rattle.state.proofs.Follows.{follows}
 use Rattle.activate.specs.Handled.{Room}
 use Rattle.activate.specs.Carried.{Carried, carried}
@@ -44,14 +40,6 @@ module _ (s : model-state.Volatile) (r : List ℕ) (base : ℕ) where
   uncounted false h m = m
   uncounted true h m = let z : ◌≡◌ {A = ℕ} 0 1 = cc in absurd (omega arith)
 
--- ---- a rule that is due or not
-module _ (kind : OptionU32) (e : Env) (i : ℕ) (v : model-state.Volatile) where
-  pub not-due : not kind.present ≡ true → start_wall (option32 kind) e i v ≡ no_outcome v
-  not-due h = rw (not-true kind.present h)
-
-  pub is-due : not kind.present ≡ false → start_wall (option32 kind) e i v ≡ model.activate e i kind.value model.Auto v
-  is-due h = rw (not-false kind.present h)
-
 -- ---- a rule's turn
 module _ (snapshot image : List ℕ) (from window i : ℕ) (missed : Bool) (v : List ℕ) (x : Handled) {on : Bool} (is : on ≡ is_enabled (meaning v).rest i) where
   abbrev env : Env
@@ -68,12 +56,12 @@ module _ (snapshot image : List ℕ) (from window i : ℕ) (missed : Bool) (v : 
   due-here w k = k image (set_of image (flatten_rules image)).flat
 
   pub takes-turn : (w : WallKind) {ow ew u : List ℕ} (r : Handled) {ow' ew' : List ℕ} → not on ≡ false → Kind snapshot from window missed (triggers_of image i) w
-      → Fires 1 (start_wall (option32 w.kind) env i) (carried v x) ow ew (carried u r) ow' ew' → Turns env from window i missed (carried v x) ow ew u (record { handled = r; missed = w.unsynced }) ow' ew'
+      → Fires 1 (start_wall w.kind env i) (carried v x) ow ew (carried u r) ow' ew' → Turns env from window i missed (carried v x) ow ew u (record { handled = r; missed = w.unsynced }) ow' ew'
   takes-turn w r h k f =
       let d = due-here w k in
       let m = meaning v in
       record {
-        fires = same-part 1 (start_wall (option32 w.kind) env i) (turn_handled env from window i) (turn_on env from window i missed m is h ∙ ap (λ (o : Option ℕ). start_wall o env i m) (sym (ap (λ (y : wheel.WallKind). y.kind) d))) f;
+        fires = same-part 1 (start_wall w.kind env i) (turn_handled env from window i) (turn_on env from window i missed m is h ∙ ap (λ (o : Option ℕ). start_wall o env i m) (sym (ap (λ (y : wheel.WallKind). y.kind) d))) f;
         missed = ap (λ (y : wheel.WallKind). y.unsynced) d ∙ sym (missed-on env from window i missed m is h);
       }
 
@@ -82,23 +70,24 @@ module _ (snapshot image : List ℕ) (w : WallTime) (x : Carried) {v : List ℕ}
   abbrev env-at : Env
   env-at = tick_env snapshot image
 
-  module _ (prev : OptionU32) (before : option32 prev ≡ (meaning x.vol).rest.prev_week_min) where
-    pub first-minute : (ow ew : List ℕ) → not prev.present ≡ true → Fires 64 (fire_wall_at (Some w) env-at) x ow ew (with_vol v x) ow ew
+  module _ (prev : Option ℕ) (known : prev ≡ (meaning x.vol).rest.prev_week_min) where
+    pub first-minute : (ow ew : List ℕ) → prev ≡ None → Fires 64 (fire_wall_at (Some w) env-at) x ow ew (with_vol v x) ow ew
     first-minute ow ew n =
-        same-part 64 (λ y. no_outcome (remembering value y)) (fire_wall_at (Some w) env-at) (rw (← minute, ← before, not-true prev.present n))
+        same-part 64 (λ y. no_outcome (remembering value y)) (fire_wall_at (Some w) env-at) (rw (← minute, ← known, n))
         (more-part 0 64 (omega arith) (changed (remembering value) x m refl refl ow ew))
 
-    pub set_back : (set : Bool) (ow ew : List ℕ) → not prev.present ≡ false → set ≡ is_set_back prev.value value → set ≡ true → Fires 64 (fire_wall_at (Some w) env-at) x ow ew (with_vol v x) ow ew
-    set_back set ow ew n is b =
-        same-part 64 (λ y. no_outcome (remembering value y)) (fire_wall_at (Some w) env-at) (rw (← minute, ← before, not-false prev.present n, ← is, b))
-        (more-part 0 64 (omega arith) (changed (remembering value) x m refl refl ow ew))
+    module _ (before : ℕ) (n : prev ≡ Some before) where
+      pub set_back : (set : Bool) (ow ew : List ℕ) → set ≡ is_set_back before value → set ≡ true → Fires 64 (fire_wall_at (Some w) env-at) x ow ew (with_vol v x) ow ew
+      set_back set ow ew is b =
+          same-part 64 (λ y. no_outcome (remembering value y)) (fire_wall_at (Some w) env-at) (rw (← minute, ← known, n, ← is, b))
+          (more-part 0 64 (omega arith) (changed (remembering value) x m refl refl ow ew))
 
-    pub catches-up : (set : Bool) (window : ℕ) {r : Carried} {ow ew ow' ew' : List ℕ} → not prev.present ≡ false → set ≡ is_set_back prev.value value → set ≡ false
-        → window ≡ window_of prev.value value → Fires 64 (fire_window env-at value window) (with_vol v x) ow ew r ow' ew' → Fires 64 (fire_wall_at (Some w) env-at) x ow ew r ow' ew'
-    unfolding make_up
-    catches-up set window n is b e f =
-        same-part 64 (λ y. fire_window env-at value window (remembering value y)) (fire_wall_at (Some w) env-at) (rw (e, ← minute, ← before, not-false prev.present n, ← is, b))
-        (after-change (remembering value) x m refl refl 64 (fire_window env-at value window) f)
+      pub catches-up : (set : Bool) (window : ℕ) {r : Carried} {ow ew ow' ew' : List ℕ} → set ≡ is_set_back before value → set ≡ false
+          → window ≡ window_of before value → Fires 64 (fire_window env-at value window) (with_vol v x) ow ew r ow' ew' → Fires 64 (fire_wall_at (Some w) env-at) x ow ew r ow' ew'
+      unfolding make_up
+      catches-up set window is b e f =
+          same-part 64 (λ y. fire_window env-at value window (remembering value y)) (fire_wall_at (Some w) env-at) (rw (e, ← minute, ← known, n, ← is, b))
+          (after-change (remembering value) x m refl refl 64 (fire_window env-at value window) f)
 
 pub remember-room : (x : Carried) {v : List ℕ} (value n : ℕ) → Means v (base x.vol) (remembering value (meaning x.vol)) → Room n x → Room n (with_vol v x)
 remember-room x value n m a = room_after (remembering value) x m refl refl n a

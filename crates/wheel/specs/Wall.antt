@@ -1,5 +1,6 @@
 -- Which wall trigger of a rule is due.
-use Rattle.std.specs.Prelude.{ℕ, ◌+◌, ◌*◌, ◌≡◌, Bool, ◌&&◌, ◌||◌, List}
+use Rattle.std.specs.Prelude.{ℕ, ◌+◌, ◌*◌, ◌≡◌, Bool, cond, ◌&&◌, ◌||◌, List}
+use Rattle.std.specs.Prelude.{None, Some}
 use Rattle.model.specs.Arith.{has_day}
 use Rattle.model.specs.Lists.{any}
 use Rattle.model.specs.Rules.{triggers_of}
@@ -8,7 +9,6 @@ use Rattle.model.specs.Steps.{FlatStep}
 use Rattle.model.specs.Wheel as model
 use Rattle.model.specs.Wheel.{in_window, is_wall_trigger, due_wall_kind}
 use Rattle.model.specs.declared.Trigger.{Trigger}
-use Rattle.rows.specs.Options.{option32}
 use Rattle.eval.specs.Answers.{env_of}
 use Rattle.wheel.specs.declared.wall.WallKind.{WallKind}
 
@@ -17,10 +17,10 @@ unfoldable pub day_due : ℕ → ℕ → ℕ → ℕ → ℕ → Bool
 day_due base window days minute d = has_day days d && in_window base window (d * 1440 + minute)
 
 abbrev pub kind_if : Bool → ℕ → Bool → WallKind
-kind_if due kind unsynced = record { kind = record { present = due; value = kind }; unsynced = unsynced }
+kind_if due kind unsynced = record { kind = cond due (Some kind) None; unsynced = unsynced }
 
 abbrev pub wall_kind : WallKind → model.WallKind
-wall_kind w = record { kind = option32 w.kind; unsynced = w.unsynced }
+wall_kind w = record { kind = w.kind; unsynced = w.unsynced }
 
 -- a sun was missed before, or is now
 abbrev pub missed_too : Bool → model.WallKind → model.WallKind

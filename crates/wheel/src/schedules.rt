@@ -9,7 +9,6 @@ ghost use Rattle.model.specs.Snapshot.{snapshot_refusal};
 ghost use Rattle.model.specs.Wheel.{start_wall, fire_due_wall_rules, window_of, fire_window, is_set_back, fire_wall_at, fire_wall_schedules};
 ghost use Rattle.image.specs.Accepted.{Accepted};
 ghost use Rattle.state.specs.Meaning.{Sound, Means, meaning, base};
-ghost use Rattle.rows.specs.Options.{option32};
 ghost use Rattle.world.specs.Ranges.{WallInRange};
 ghost use Rattle.activate.specs.Carried.{carried};
 ghost use Rattle.activate.specs.Handled.{Room};
@@ -21,7 +20,6 @@ use crate::rules::activate_rule;
 use crate::wall::{due_wall_kind, has_wall_triggers};
 use activate::Handled;
 use model::WallTime;
-use rows::OptionU32;
 use state::rules::is_enabled;
 
 // At most so many minutes are made up for.
@@ -47,18 +45,16 @@ fn start_wall(
     v: &mut [u32],
     x: Handled,
     i: u32,
-    kind: OptionU32,
+    kind: Option<u32>,
 ) -> Handled
     requires holds { Holds store.now image.now × (i < size_of image.now rules) }
     requires room { Room 1 (carried v.old x) }
-    ensures { Fires 1 (start_wall (option32 kind) (tick_env snapshot.now image.now) i) (carried v.old x) outcomes.old effects.old (carried v.new result) outcomes.new effects.new }
+    ensures { Fires 1 (start_wall kind (tick_env snapshot.now image.now) i) (carried v.old x) outcomes.old effects.old (carried v.new result) outcomes.new effects.new }
 {
-    if !kind.present {
-        return x;
+    match kind {
+        Some(kind) => activate_rule(snapshot, image, store, outcomes, effects, v, x, i, kind),
+        None => x,
     }
-    activate_rule(
-        snapshot, image, store, outcomes, effects, v, x, i, kind.value,
-    )
 }
 
 fn wall_turn(
@@ -180,11 +176,7 @@ fn remember(v: &mut [u32], minute: u32)
     requires { Sound v.old }
     ensures { Means v.new (base v.old) (remembering minute (meaning v.old)) }
 {
-    let known = OptionU32 {
-        present: true,
-        value: minute,
-    };
-    state::set_prev_week_min(v, known);
+    state::set_prev_week_min(v, Some(minute));
 }
 
 // The minute of this tick is remembered, and what has become due since the one before starts, unless the clock was set back.
@@ -206,14 +198,12 @@ fn fire_wall_at(
     let prev = state::prev_week_min(v);
     let minute = week_minute(w);
     remember(v, minute);
-    if !prev.present {
-        return x;
-    }
+    let Some(before) = prev else { return x };
     let to = minute as u64;
-    if is_set_back(prev.value, to) {
+    if is_set_back(before, to) {
         return x;
     }
-    let window = window_of(prev.value as u64, to);
+    let window = window_of(before as u64, to);
     fire_window(
         snapshot, image, store, outcomes, effects, v, x, order, to, window,
     )
@@ -226,11 +216,7 @@ fn without_clock(image: &[u32], v: &mut [u32])
 {
     let missed = has_wall_triggers(image, v);
     count_missed(v, missed);
-    let minute = OptionU32 {
-        present: false,
-        value: 0,
-    };
-    state::set_prev_week_min(v, minute);
+    state::set_prev_week_min(v, None);
 }
 
 pub fn fire_wall_schedules(

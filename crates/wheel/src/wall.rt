@@ -14,7 +14,6 @@ use crate::minutes::minute_due;
 use image::layout::size_of;
 use image::rule::{trigger_at, trigger_count};
 use model::Trigger;
-use rows::OptionU32;
 use state::rules::is_enabled;
 
 // The triggers of an outcome.
@@ -25,7 +24,7 @@ const BY_SOLAR: u32 = 4;
 // The kind of the first due trigger, and whether a sun was asked for that is not known.
 #[derive(Clone, Copy)]
 pub struct WallKind {
-    pub kind: OptionU32,
+    pub kind: Option<u32>,
     pub unsynced: bool,
 }
 
@@ -33,10 +32,7 @@ pub struct WallKind {
 fn kind_if(due: bool, kind: u32, unsynced: bool) -> WallKind
     ensures { result ≡ kind_if due kind unsynced }
 {
-    let kind = OptionU32 {
-        present: due,
-        value: kind,
-    };
+    let kind = if due { Some(kind) } else { None };
     WallKind { kind, unsynced }
 }
 
@@ -110,8 +106,7 @@ pub fn due_wall_kind(
         let w = trigger_kind(snapshot, base, window, trigger, unsynced);
         k += 1;
         unsynced = w.unsynced;
-        let kind = w.kind;
-        if kind.present {
+        if w.kind.is_some() {
             return w;
         }
     }

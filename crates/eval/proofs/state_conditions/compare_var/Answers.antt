@@ -11,7 +11,7 @@ use Rattle.eval.proofs.state_conditions.compare_var.Goals as goal
 pub returns-in-Int : goal.returns-in-Int
 unfolding eval_condition
 returns-in-Int c = λ flat.
-    rw (← c.variable.ensures, c.in-Found.is, c.in-Int.is) (c.compare_int.ensures flat)
+    rw (← c.in-Some.ensures, c.in-Int.is) (c.compare_int.ensures flat)
 
 pub returns-in-Text : goal.returns-in-Text
 unfolding eval_condition
@@ -19,8 +19,8 @@ returns-in-Text c = λ flat.
     let a = c.args in
     let e = env_of a.snapshot.now a.image.now flat in
     let text = text-compared e (meaning a.v.now).rest c.in-Text.t a.cmp (is_one a.tag) a.operand in
-    rw (← c.variable.ensures, c.in-Found.is, c.in-Text.is) (c.verdict.ensures ∙ ap Some c.compare_texts.ensures ∙ text)
+    rw (← c.in-Some.ensures, c.in-Text.is) (c.verdict.ensures ∙ ap Some c.compare_texts.ensures ∙ text)
 
-pub returns-in-Absent : goal.returns-in-Absent
+pub returns-in-None : goal.returns-in-None
 unfolding eval_condition
-returns-in-Absent c = λ flat. rw (← c.variable.ensures, c.in-Absent.is) c.verdict-in-Absent.ensures
+returns-in-None c = λ flat. rw (← c.in-None.ensures) c.verdict-in-None.ensures

@@ -2,10 +2,6 @@
 use Rattle.words.specs.Saturating.{saturating_sub}
 use Rattle.eval.proofs.state_conditions.older_than.Goals as goal
 
-pub returns-then-last : goal.returns-then-last
+pub returns-in-Some : goal.returns-in-Some
 unfolding saturating_sub
-returns-then-last c = λ image flat s. rw (c.if-last.true, c.saturating_sub_u64-age.ensures, c.now_ms.ensures)
-
-pub returns : goal.returns
-unfolding saturating_sub
-returns c = λ image flat s. rw c.if-last.false
+returns-in-Some c = λ image flat s. rw (c.in-Some.is, c.saturating_sub_u64-age.ensures, c.now_ms.ensures)

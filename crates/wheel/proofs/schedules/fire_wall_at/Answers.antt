@@ -3,13 +3,13 @@ use Rattle.activate.specs.Carried.{carried}
 use Rattle.wheel.proofs.WallParts.{remember-room, first-minute, set_back, catches-up}
 use Rattle.wheel.proofs.schedules.fire_wall_at.Goals as goal
 
-pub returns-then-not-prev : goal.returns-then-not-prev
-returns-then-not-prev c =
-    first-minute c.args.snapshot.now c.args.image.now c.args.w (carried c.args.v.now c.args.x) _ c.week_minute-minute.ensures.0 c.remember.ensures c.prev_week_min-prev.result c.prev_week_min-prev.ensures _ _ c.if-not-prev.true
+pub returns-in_default : goal.returns-in_default
+returns-in_default c =
+    first-minute c.args.snapshot.now c.args.image.now c.args.w (carried c.args.v.now c.args.x) _ c.week_minute-minute.ensures.0 c.remember.ensures c.prev_week_min-prev.result c.prev_week_min-prev.ensures _ _ c.in_default.is
 
 pub returns-then-is_set_back : goal.returns-then-is_set_back
 returns-then-is_set_back c =
-    set_back c.args.snapshot.now c.args.image.now c.args.w (carried c.args.v.now c.args.x) _ c.week_minute-minute.ensures.0 c.remember.ensures c.prev_week_min-prev.result c.prev_week_min-prev.ensures _ _ _ c.if-not-prev.false c.is_set_back.ensures c.if-is_set_back.true
+    set_back c.args.snapshot.now c.args.image.now c.args.w (carried c.args.v.now c.args.x) _ c.week_minute-minute.ensures.0 c.remember.ensures c.prev_week_min-prev.result c.prev_week_min-prev.ensures _ c.in-Some.is _ _ _ c.is_set_back.ensures c.if-is_set_back.true
 
 pub fire_window-requires : goal.fire_window-requires
 fire_window-requires c =
@@ -20,4 +20,4 @@ fire_window-requires c =
 
 pub returns : goal.returns
 returns c =
-    catches-up c.args.snapshot.now c.args.image.now c.args.w (carried c.args.v.now c.args.x) _ c.week_minute-minute.ensures.0 c.remember.ensures c.prev_week_min-prev.result c.prev_week_min-prev.ensures _ _ c.if-not-prev.false c.is_set_back.ensures c.if-is_set_back.false c.window_of-window.ensures.0 c.fire_window.ensures
+    catches-up c.args.snapshot.now c.args.image.now c.args.w (carried c.args.v.now c.args.x) _ c.week_minute-minute.ensures.0 c.remember.ensures c.prev_week_min-prev.result c.prev_week_min-prev.ensures _ c.in-Some.is _ _ c.is_set_back.ensures c.if-is_set_back.false c.window_of-window.ensures.0 c.fire_window.ensures

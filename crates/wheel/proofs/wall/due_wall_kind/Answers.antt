@@ -1,5 +1,6 @@
 -- `wheel::wall::due_wall_kind` meets its contract. Assumes nothing.
 use native.Mathlib.Omega.{arith}
+use mathlib.Core.Path.{sym, ◌∙◌}
 use Rattle.eval.specs.Answers.{env_of}
 use Rattle.wheel.proofs.DueKind.{starts, ends-here, goes, ends}
 use Rattle.wheel.proofs.wall.due_wall_kind.Goals as goal
@@ -20,9 +21,9 @@ trigger_at-trigger-requires c = record {
 pub overflow_add-k : goal.overflow_add-k
 overflow_add-k c = omega arith
 
-pub returns-then-kind : goal.returns-then-kind
-returns-then-kind c = λ img flat.
-    ends-here (env_of _ img flat) _ _ _ _ _ _ _ (omega (arith, c.loop-k-test.true, c.loop-k.invariant.1)) (c.loop-k.invariant.2 img flat) c.trigger_at-trigger.ensures (c.trigger_kind-w.ensures img flat) c.if-kind.true
+pub returns-then-is_some : goal.returns-then-is_some
+returns-then-is_some c = λ img flat.
+    ends-here (env_of _ img flat) _ _ _ _ _ _ _ (omega (arith, c.loop-k-test.true, c.loop-k.invariant.1)) (c.loop-k.invariant.2 img flat) c.trigger_at-trigger.ensures (c.trigger_kind-w.ensures img flat) (sym c.is_some.ensures ∙ c.if-is_some.true)
 
 pub loop-k-smaller : goal.loop-k-smaller
 loop-k-smaller c = omega arith
@@ -31,7 +32,7 @@ pub loop-k-preserved : goal.loop-k-preserved
 loop-k-preserved c = (
   omega arith,
   c.loop-k.invariant.1,
-  λ img flat. goes (env_of _ img flat) _ _ _ _ _ _ _ (omega (arith, c.loop-k-test.true, c.loop-k.invariant.1)) (c.loop-k.invariant.2 img flat) c.trigger_at-trigger.ensures (c.trigger_kind-w.ensures img flat) c.if-kind.false,
+  λ img flat. goes (env_of _ img flat) _ _ _ _ _ _ _ (omega (arith, c.loop-k-test.true, c.loop-k.invariant.1)) (c.loop-k.invariant.2 img flat) c.trigger_at-trigger.ensures (c.trigger_kind-w.ensures img flat) (sym c.is_some.ensures ∙ c.if-is_some.false),
 )
 
 pub returns : goal.returns
