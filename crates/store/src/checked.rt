@@ -1,26 +1,43 @@
-// The words of a store that keeps every rule: who has them need not ask again.
-ghost use Rattle.std.specs.Prelude.{◌≡◌, true};
-ghost use Rattle.model.specs.Lists.{present};
-ghost use Rattle.model.specs.Store.{read};
-
+// The words of a store that keeps every rule, seen as that store: who has them need not ask again.
+use crate::{set, volatile};
 use model::Refusal;
+use std::marker::Model;
 
-#[derive(Clone, Copy)]
+#[derive(Drop)]
 pub struct Checked<'a> {
-    pub words: &'a [u32],
-    pub ghost kept: { present (read words.now) ≡ true },
+    words: &'a [u32],
+}
+
+impl<'a> Model for Checked<'a> {
+    ghost use Rattle.std.specs.Prelude.{◌≡◌, true};
+    ghost use Rattle.model.specs.Lists.{present};
+    ghost use Rattle.model.specs.State.{Store};
+    ghost use Rattle.model.specs.Store.{read};
+    ghost use Rattle.store.specs.Reading.{store_at};
+
+    ghost Value = { Store };
+
+    ghost view = { λ c. store_at c.words.now };
+
+    ghost invariant = { λ c. present (read c.words.now) ≡ true };
 }
 
 impl<'a> Checked<'a> {
-    ghost use Rattle.std.specs.Prelude.{IfOk};
+    ghost use Rattle.std.specs.Prelude.{◌≡◌, ◌≤◌, List, ℕ, ⊤, Some, IfOk, MatchOption, option_map, length};
+    ghost use denote.Ref.{Bor};
+    ghost use Rattle.model.specs.Calls.{rule_in};
+    ghost use Rattle.model.specs.Load.{image_refusal};
     ghost use Rattle.model.specs.Refusals.{refusal_number};
+    ghost use Rattle.model.specs.State.{RuleSet};
+    ghost use Rattle.model.specs.Store.{read, rule_count};
+    ghost use Rattle.state.specs.Meaning.{AllNumbered, state_words};
     ghost use Rattle.store.specs.Refused.{refusal_of};
 
     // The words, where they are those of a store; else why not.
     #[tactic(auto, using(crate::proofs::Refused::no_length, crate::proofs::Refused::no_rule))]
     pub fn of(words: &'a [u32]) -> Result<Checked<'a>, Refusal>
         ensures number { refusal_number result ≡ refusal_of (read words.now) words.now }
-        ensures value { IfOk result (λ store. store.words.now ≡ words.now) }
+        ensures value { IfOk result (λ store. read words.now ≡ Some store) }
     {
         if !crate::sized(words) {
             return Err(Refusal::StoreLength);
@@ -29,5 +46,57 @@ impl<'a> Checked<'a> {
             return Err(Refusal::StoreRule);
         }
         Ok(Checked { words })
+    }
+
+    // The words themselves.
+    pub fn words(&self) -> &'a [u32]
+        ensures { read result.now ≡ Some self.now }
+    {
+        self.words
+    }
+
+    // The time of the last call.
+    pub fn last_at(&self) -> u64
+        ensures { result ≡ self.now.now }
+    {
+        set::last_at(self.words)
+    }
+
+    // The words of the loaded image; nothing where no set is loaded.
+    pub fn image(&self) -> Option<&'a [u32]>
+        ensures value { option_map (λ (img : Bor (List ℕ)). img.now) result ≡ option_map (λ (set : RuleSet). set.image) self.now.loaded }
+        ensures accepted { MatchOption result ⊤ (λ img. image_refusal img.now ≡ 0) }
+    {
+        if set::is_loaded(self.words) {
+            Some(set::image_in(self.words))
+        } else {
+            None
+        }
+    }
+
+    // How many rules are loaded.
+    pub fn rule_count(&self) -> usize
+        ensures count { result ≡ rule_count self.now.loaded }
+        ensures few { result ≤ 64 }
+    {
+        match self.image() {
+            Some(image) => image::layout::size_of(image, 0) as usize,
+            None => 0,
+        }
+    }
+
+    // The rule of a name in the loaded set.
+    pub fn rule_in(&self, name: u32) -> Option<u32>
+        ensures { result ≡ rule_in self.now.loaded name }
+    {
+        image::rule::rule_named(self.image()?, name)
+    }
+
+    // The parts that calls change, as the words of a state.
+    pub fn begin(&self, v: &mut [u32])
+        requires { length v.old ≡ state_words }
+        ensures { AllNumbered v.new self.now.vol }
+    {
+        volatile::begin(self.words, self.rule_count(), v);
     }
 }
