@@ -1,6 +1,6 @@
 -- What a C caller sees, from what a caller of `engine` sees. Assumes nothing.
-use mathlib.Core.Path.{◌≡◌, refl, ap, ◌∙◌}
-use mathlib.Core.Bool.{Bool, cond}
+use mathlib.Core.Path.{◌≡◌, refl, sym, ap, ◌∙◌}
+use mathlib.Core.Bool.{Bool, false, cond}
 use mathlib.Core.List.{List, [], ◌∷◌}
 use Prim.Native.Nat.{ℕ, ◌≤◌}
 use native.Mathlib.Omega.{arith}
@@ -13,7 +13,12 @@ use Rattle.engine.specs.Answers.{number_of, values_of, shown, shown_counters}
 use Rattle.engine.specs.declared.Answer.{Answer}
 use Rattle.engine.specs.declared.Answer.TheVariants.{Done, Refused, Enabled, Handled, Due, NoDeadline}
 use Rattle.engine.specs.declared.Counted.{Counted}
-use Rattle.model.specs.Asked.{Asked, shown_asked}
+use borrow.Author.Tests.{ne_eqb}
+use Rattle.std.specs.Prelude.{Ok, Err}
+use Rattle.model.specs.declared.Refusal.{Refusal}
+use Rattle.model.specs.Refusals.{refusal_code}
+use Rattle.model.specs.Asked.{Asked, shown_asked, shown_result}
+use Rattle.model.proofs.RefusalLaws.{refusal-some}
 use Rattle.cerambiu.specs.Called.{Called, called, lent_answer, answered}
 use Rattle.cerambiu.specs.Told as Told
 use Rattle.cerambiu.specs.Told.{tells}
@@ -82,3 +87,16 @@ pub asks-told : (n : ℕ) (a : Asked) (k : ℕ) (values lent : List ℕ) (number
     → number ≡ k → answer ≡ lent_answer n (cond (eqb k 0) values []) → tells number answer lent ≡ Told.told n a
 unfolding shown_asked Told.told
 asks-told n a k values lent number answer e m v = (λ i. tells (m i) (v i) lent) ∙ ap (Told.told n) e
+
+-- the same of code that answers a refusal or a value
+module _ (n : ℕ) (a : Asked) {A : Type 0} (values : A → List ℕ) (lent : List ℕ) (number : ℕ) (answer : List ℕ) where
+  pub ok-told : (x : A) → shown_result values (Ok x) lent ≡ a → number ≡ 0 → answer ≡ lent_answer n (values x) → tells number answer lent ≡ Told.told n a
+  unfolding shown_result Told.told
+  ok-told x e m v = (λ i. tells (m i) (v i) lent) ∙ ap (Told.told n) e
+
+  pub err-told : (r : Refusal) (k : ℕ) (none : List ℕ) → shown_result values (Err r) lent ≡ a → k ≡ refusal_code r → number ≡ k
+      → answer ≡ lent_answer n (cond (eqb k 0) none []) → tells number answer lent ≡ Told.told n a
+  unfolding shown_result Told.told
+  err-told r k none e q m v =
+      let z : eqb k 0 ≡ false = ne_eqb k 0 (λ h. refusal-some r (sym q ∙ h)) in
+      (λ i. tells ((m ∙ q) i) ((v ∙ ap (λ b. lent_answer n (cond b none [])) z) i) lent) ∙ ap (Told.told n) e

@@ -1,9 +1,9 @@
 -- What a C caller sees of a call that asks: the number that it returns, the words of the answer, and those of the store that it answers into.
-use Rattle.std.specs.Prelude.{List, [], ◌∷◌, ℕ}
+use Rattle.std.specs.Prelude.{List, [], ◌∷◌, ℕ, Result, Ok, Err}
 use Rattle.words.specs.Pairs.{low_of, high_of}
 use Rattle.model.specs.Telegrams as telegrams
-use Rattle.model.specs.declared.TelegramAnswer.{TelegramAnswer}
-use Rattle.model.specs.declared.TelegramAnswer.TheVariants.{Refused, Kept}
+use Rattle.model.specs.declared.Refusal.{Refusal}
+use Rattle.model.specs.Refusals.{refusal_number}
 use Rattle.model.specs.Asked.{Asked}
 use Rattle.cerambiu.specs.Called.{lent_answer}
 
@@ -20,17 +20,13 @@ unfoldable pub told : ℕ → Asked → Told
 told n a = tells a.number (lent_answer n a.values) a.lent
 
 -- TELEGRAMS, which asks no store
-unfoldable pub telegram_number : TelegramAnswer → ℕ
-telegram_number (Refused n) = n
-telegram_number (Kept n) = 0
-
 -- the count in two words, low first
-unfoldable pub telegram_values : TelegramAnswer → List ℕ
-telegram_values (Refused n) = []
-telegram_values (Kept n) = low_of n ∷ high_of n ∷ []
+unfoldable pub telegram_values : Result ℕ Refusal → List ℕ
+telegram_values (Err r) = []
+telegram_values (Ok n) = low_of n ∷ high_of n ∷ []
 
 -- the kept list of the effects `ws` in `room` lent words
 unfoldable pub sending : ℕ → List ℕ → Asked
 sending room ws =
     let a = telegrams.answer room ws in
-    record { number = telegram_number a; values = telegram_values a; lent = telegrams.kept_store room ws }
+    record { number = refusal_number a; values = telegram_values a; lent = telegrams.kept_store room ws }

@@ -12,10 +12,11 @@ ghost use Rattle.engine.specs.Answers.{number_of, values_of};
 ghost use Rattle.room.specs.Needed.{room_for};
 ghost use Rattle.engine.specs.Asked.{next_start_on};
 ghost use Rattle.cerambiu.specs.Called.{called, answered, lent_answer};
-ghost use Rattle.cerambiu.specs.Told.{tells, told, telegram_number, telegram_values, sending};
+ghost use Rattle.model.specs.Refusals.{refusal_number};
+ghost use Rattle.cerambiu.specs.Told.{tells, told, telegram_values, sending};
 
 use engine::Answer;
-use model::TelegramAnswer;
+use model::Refusal;
 use next::NextStart;
 
 fn number_of(a: Answer) -> u32
@@ -174,21 +175,21 @@ pub fn cerambiu_next_start(store: &[u32], snapshot: &[u32], answer: &mut [u32]) 
     put_asked(answer, a.refusal, &values)
 }
 
-fn telegram_number(a: TelegramAnswer) -> u32
-    ensures { result ≡ telegram_number a }
+fn telegram_number(a: Result<usize, Refusal>) -> u32
+    ensures { result ≡ refusal_number a }
 {
     match a {
-        TelegramAnswer::Refused(number) => number,
-        TelegramAnswer::Kept(count) => 0,
+        Ok(_) => 0,
+        Err(refusal) => u32::from(refusal),
     }
 }
 
-fn telegram_values(a: TelegramAnswer) -> [u32; 2]
+fn telegram_values(a: Result<usize, Refusal>) -> [u32; 2]
     ensures { result ≡ lent_answer 2 (telegram_values a) }
 {
     match a {
-        TelegramAnswer::Refused(number) => [0, 0],
-        TelegramAnswer::Kept(count) => [
+        Err(_) => [0, 0],
+        Ok(count) => [
             words::low_word(count as u64),
             words::high_word(count as u64),
         ],
@@ -207,9 +208,10 @@ pub fn cerambiu_telegrams(effects: &[u32], list: &mut [u32], answer: &mut [u32])
 pub fn cerambiu_crontab(line: &[u8], sunday: u32, triggers: &mut [u32], answer: &mut [u32]) -> u32
     ensures { tells result answer.new triggers.new ≡ told (length answer.old) (crontab line.now sunday (length triggers.old)) }
 {
-    let a = crontab::read(line, sunday, triggers);
-    let values = [a.count];
-    put_asked(answer, a.refusal, &values)
+    match crontab::read(line, sunday, triggers) {
+        Ok(count) => put_asked(answer, 0, &[count]),
+        Err(refusal) => put_asked(answer, u32::from(refusal), &[0]),
+    }
 }
 
 // Asks no store: what an image needs, before it is loaded.

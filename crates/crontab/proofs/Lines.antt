@@ -14,7 +14,12 @@ use lib.Seq.{sets, length-sets, get_or-set_same, get_or-set_other}
 use Rattle.model.specs.Lists.{every, keep, total, up_from}
 use Rattle.model.specs.Field.{unless}
 use Rattle.model.specs.Answers.{lent}
-use Rattle.model.specs.Asked.{declined, shown_asked}
+use Rattle.model.specs.Asked.{declined, shown_result}
+use Rattle.std.specs.Prelude.{Ok, Err}
+use Rattle.model.specs.declared.Refusal.{Refusal}
+use Rattle.model.specs.declared.Refusal.TheVariants.{TriggerStore}
+use Rattle.model.specs.Refusals.{refusal_code}
+use Rattle.model.proofs.RefusalLaws.{refusal-code-suc}
 use Rattle.model.specs.Crontab.{until, is_blank, lowest, highest, is_asterisk, is_pattern, covers, field_fits, field_covers, field_free, starts, minutes, day_here, day_bit, days, of_the_form, every_date, has_room, refusal, trigger_words, table_words, crontab}
 use Rattle.crontab.specs.Scanned.{part, StartsField, written, Marked, marked, marked_minutes, form_refusal}
 use Rattle.crontab.proofs.Scans.{field-part}
@@ -230,6 +235,10 @@ sunday-low l sunday e = go (leb sunday 6) refl e
     go true q h = leb-true sunday 6 q
     go false q h = absurd (omega arith)
 
+-- the answer of an accepted line: how many triggers it has
+abbrev pub count_words : ℕ → List ℕ
+count_words n = n ∷ []
+
 -- what 50 and 51 say is not changed by 52, and where they say nothing 52 decides
 still : (a b : Bool) (n x : ℕ) → suc n ≡ unless a 50 (unless b 51 0) → unless a 50 (unless b 51 x) ≡ suc n
 still true true n x e = absurd (omega arith)
@@ -250,14 +259,15 @@ module _ (l : List ℕ) (sunday room : ℕ) where
   unfolding form_refusal refusal has_room
   refusal-room e = decides (of_the_form l sunday) (every_date l) _ e
 
-  pub refused-form : (n : ℕ) {table : List ℕ} → n ≡ form_refusal l sunday → (n ≡ 0 → ⊥) → table ≡ replicate room 0 → shown_asked n (0 ∷ []) table ≡ crontab l sunday room
-  unfolding crontab shown_asked declined
-  refused-form zero e h s = absurd (h refl)
-  refused-form (suc n) e h s = rw (refusal-form n e, ne_eqb (suc n) 0 h, s)
+  pub refused-form : (r : Refusal) {table : List ℕ} → refusal_code r ≡ form_refusal l sunday → table ≡ replicate room 0 → shown_result count_words (Err r) table ≡ crontab l sunday room
+  unfolding crontab shown_result declined
+  refused-form r e s =
+      let k = refusal-code-suc r in
+      rw (refusal-form (refusal_code r - 1) (sym k ∙ e), ← k, s)
 
   module _ (e : 0 ≡ form_refusal l sunday) (n : ℕ) (c : n ≡ length (minutes l)) {table : List ℕ} where
-    pub refused-room : length table / 8 < n → table ≡ replicate room 0 → shown_asked 52 (0 ∷ []) table ≡ crontab l sunday room
-    unfolding crontab shown_asked declined
+    pub refused-room : length table / 8 < n → table ≡ replicate room 0 → shown_result count_words (Err TriggerStore) table ≡ crontab l sunday room
+    unfolding crontab shown_result declined
     refused-room h s =
         let k : length table ≡ room = ap length s ∙ length-replicate room 0 in
         let h : room / 8 < n = rw k at h in
@@ -265,8 +275,8 @@ module _ (l : List ℕ) (sunday room : ℕ) where
         rw (r, s)
 
     pub accepted-is : (ds : ℕ) (z : List ℕ) → n ≤ length z / 8 → ds ≡ days l sunday → z ≡ replicate room 0 → table ≡ written ds z 0 (minutes l)
-        → shown_asked 0 (n ∷ []) table ≡ crontab l sunday room
-    unfolding crontab shown_asked
+        → shown_result count_words (Ok n) table ≡ crontab l sunday room
+    unfolding crontab shown_result
     accepted-is ds z h d q s =
         let k : length z ≡ room = ap length q ∙ length-replicate room 0 in
         let h : n ≤ room / 8 = rw k at h in

@@ -8,16 +8,12 @@ mod table;
 
 ghost use Rattle.std.specs.Prelude.{◌≡◌, [], ◌∷◌, length};
 ghost use Rattle.model.specs.Lists.{every};
-ghost use Rattle.model.specs.Asked.{shown_asked};
+ghost use Rattle.model.specs.Asked.{shown_result};
+ghost use Rattle.model.specs.Refusals.{refusal_number};
 ghost use Rattle.model.specs.Crontab.{crontab, field_fits, of_the_form, every_date};
 ghost use Rattle.crontab.specs.Scanned.{form_refusal};
 
-// The number of a refusal, 0 for none, and how many triggers were written.
-#[derive(Clone, Copy)]
-pub struct Answer {
-    pub refusal: u32,
-    pub count: u32,
-}
+use model::Refusal;
 
 // Whether the five fields are patterns.
 fn fields_fit(line: &[u8]) -> bool
@@ -51,43 +47,34 @@ fn every_date(line: &[u8]) -> bool
     parts::is_free(line, 3)
 }
 
-// 50 and 51, or 0.
-fn form_refusal(line: &[u8], sunday: u32) -> u32
-    ensures { result ≡ form_refusal line.now sunday }
+// Refusals 50 and 51.
+fn check_form(line: &[u8], sunday: u32) -> Result<(), Refusal>
+    ensures { refusal_number result ≡ form_refusal line.now sunday }
 {
     let formed = of_the_form(line, sunday);
     let free = every_date(line);
     if !formed {
-        return 50;
+        return Err(Refusal::LineForm);
     }
     if !free {
-        return 51;
+        return Err(Refusal::DayOrMonth);
     }
-    0
+    Ok(())
 }
 
 // The triggers of a line at the start of the lent words; zeros behind them, or everywhere where the line is refused.
-pub fn read(line: &[u8], sunday: u32, triggers: &mut [u32]) -> Answer
-    ensures { shown_asked result.refusal (result.count ∷ []) triggers.new ≡ crontab line.now sunday (length triggers.old) }
+pub fn read(line: &[u8], sunday: u32, triggers: &mut [u32]) -> Result<u32, Refusal>
+    ensures { shown_result (λ n. n ∷ []) result triggers.new ≡ crontab line.now sunday (length triggers.old) }
 {
     lent_words::clear(triggers);
-    let refusal = form_refusal(line, sunday);
-    if refusal != 0 {
-        return Answer { refusal, count: 0 };
-    }
+    check_form(line, sunday)?;
     let hours = table::marks(line, 1, 24);
     let minutes = table::marks(line, 0, 60);
     let n = table::count(&hours, &minutes);
     if triggers.len() / 8 < n as usize {
-        return Answer {
-            refusal: 52,
-            count: 0,
-        };
+        return Err(Refusal::TriggerStore);
     }
     let ds = table::days_of(line, sunday);
     table::write(&hours, &minutes, ds, n, triggers);
-    Answer {
-        refusal: 0,
-        count: n,
-    }
+    Ok(n)
 }

@@ -7,3 +7,4 @@ pub mod RowLaws
 pub mod CodecLaws
 pub mod PartsLaws
 pub mod StoreLaws
+pub mod RefusalLaws

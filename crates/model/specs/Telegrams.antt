@@ -1,11 +1,11 @@
 -- Fewer telegrams on the bus: of the levels that a list of effects sets for one lamp in one stretch, only the last counts.
 use Rattle.std.specs.Prelude.{◌≡◌, ℕ, zero, suc, ◌+◌, ◌*◌, ◌<◌, ◌/◌, ◌%◌, Bool, true, false, cond, not, ◌&&◌, ◌||◌, List, [], ◌∷◌, map, leb, ltb, eqb, length, get_or, replicate}
-use Rattle.std.specs.Prelude.{Option, None, Some}
+use Rattle.std.specs.Prelude.{Option, None, Some, Result, Ok, Err}
 use Rattle.model.specs.Answers.{words_of_effects, lent}
 use Rattle.model.specs.Lists.{keep, up_from, every}
 use Rattle.model.specs.declared.Effect.{Effect}
-use Rattle.model.specs.declared.TelegramAnswer.{TelegramAnswer}
-use Rattle.model.specs.declared.TelegramAnswer.TheVariants.{Refused, Kept}
+use Rattle.model.specs.declared.Refusal.{Refusal}
+use Rattle.model.specs.declared.Refusal.TheVariants.{EffectWords, TelegramStore}
 
 -- KINDS
 
@@ -97,8 +97,8 @@ unfoldable pub has_room : ℕ → List ℕ → Bool
 has_room room ws = leb (length (kept (effects_in ws)) * 5) room
 
 -- 60 before 61
-unfoldable pub answer : ℕ → List ℕ → TelegramAnswer
-answer room ws = cond (are_effects ws) (cond (has_room room ws) (Kept (length (kept (effects_in ws)))) (Refused 61)) (Refused 60)
+unfoldable pub answer : ℕ → List ℕ → Result ℕ Refusal
+answer room ws = cond (are_effects ws) (cond (has_room room ws) (Ok (length (kept (effects_in ws)))) (Err TelegramStore)) (Err EffectWords)
 
 -- the lent list: the kept effects, then zeros; zeros on refusal
 unfoldable pub kept_store : ℕ → List ℕ → List ℕ

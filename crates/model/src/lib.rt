@@ -458,13 +458,6 @@ pub struct Effect {
     pub d: u32,
 }
 
-// What the list of telegrams answers: the refusal's number, or how many effects are kept.
-#[derive(Clone, Copy)]
-pub enum TelegramAnswer {
-    Refused(u32),
-    Kept(usize),
-}
-
 // An element of a pattern of a crontab line: the numbers from the first to the last.
 #[derive(Clone, Copy)]
 pub enum Element {

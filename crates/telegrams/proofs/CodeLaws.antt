@@ -11,7 +11,8 @@ use borrow.Author.Tests.{le-leb, lt-leb, eq-eqb, ne_eqb}
 use Rattle.model.specs.Lists.{every}
 use Rattle.model.specs.Answers.{words_of_effects, lent}
 use Rattle.model.specs.declared.Effect.{Effect}
-use Rattle.model.specs.declared.TelegramAnswer.TheVariants.{Refused, Kept}
+use Rattle.std.specs.Prelude.{Ok, Err}
+use Rattle.model.specs.declared.Refusal.TheVariants.{EffectWords, TelegramStore}
 use Rattle.model.specs.Telegrams.{is_level, cuts, sets, kept, effect_at, effects_in, are_effects, has_room, answer, kept_store}
 use Rattle.telegrams.specs.Recursion.{is_set, set_again, kept_head, keep_last, effects_from}
 use Rattle.lent_words.specs.PutEffects.{put_effect, put_effects}
@@ -151,7 +152,7 @@ zeros-then room l h =
     lent-list (replicate room 0) l (ap (λ (n : ℕ). replicate n 0) (sym e)) (rw e h) ∙ ap (λ (n : ℕ). lent n (words_of_effects l)) e
 
 module _ (ws : List ℕ) (room : ℕ) (r : Bool) (e : r ≡ are_effects ws) where
-  pub refuse-60 : r ≡ false → (z : List ℕ) → z ≡ replicate room 0 → (Refused 60 ≡ answer room ws) × (z ≡ kept_store room ws)
+  pub refuse-60 : r ≡ false → (z : List ℕ) → z ≡ replicate room 0 → (Err EffectWords ≡ answer room ws) × (z ≡ kept_store room ws)
   unfolding answer kept_store
   refuse-60 q z h = rw (← e, q) (refl, h)
 
@@ -163,15 +164,15 @@ module _ (ws : List ℕ) (room : ℕ) (r : Bool) (e : r ≡ are_effects ws) wher
     pub same-room : length v ≡ room
     same-room = rw (hv, hz) (puts-length (replicate room 0) zero (keep_last (effects_from zero ws)) ∙ length-replicate room 0)
 
-    pub refuse-61 : length v / 5 < n → (u : List ℕ) → u ≡ replicate (length v) 0 → (Refused 61 ≡ answer room ws) × (u ≡ kept_store room ws)
+    pub refuse-61 : length v / 5 < n → (u : List ℕ) → u ≡ replicate (length v) 0 → (Err TelegramStore ≡ answer room ws) × (u ≡ kept_store room ws)
     unfolding answer kept_store has_room
     refuse-61 h u k =
         let no_room : leb (length (kept (effects_in ws)) * 5) room ≡ false = lt-leb (length (kept (effects_in ws)) * 5) room (omega (arith, count, same-room)) in
         rw (← e, q, no_room) (refl, k ∙ rw same-room)
 
-    pub keep_all : n ≤ length v / 5 → (Kept n ≡ answer room ws) × (v ≡ kept_store room ws)
+    pub keep_all : n ≤ length v / 5 → (Ok n ≡ answer room ws) × (v ≡ kept_store room ws)
     unfolding answer kept_store has_room
     keep_all h =
         let fits : length (kept (effects_in ws)) * 5 ≤ room = omega (arith, count, same-room) in
         let room-left : leb (length (kept (effects_in ws)) * 5) room ≡ true = le-leb _ _ fits in
-        rw (← e, q, room-left) (ap Kept count, hv ∙ rw (hz, kept_in ws) (zeros-then room (kept (effects_in ws)) fits))
+        rw (← e, q, room-left) (ap Ok count, hv ∙ rw (hz, kept_in ws) (zeros-then room (kept (effects_in ws)) fits))

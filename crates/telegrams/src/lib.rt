@@ -7,7 +7,7 @@ ghost use Rattle.telegrams.specs.Recursion.{is_set, set_again, kept_head, keep_l
 ghost use Rattle.lent_words.specs.PutEffects.{put_effects};
 
 use lent_words::EFFECT_WORDS;
-use model::{Effect, TelegramAnswer};
+use model::{Effect, Refusal};
 
 // Whether record k has a kind of effect.
 fn has_kind(effects: &[u32], k: usize) -> bool
@@ -123,17 +123,17 @@ fn put_kept(list: &mut [u32], effects: &[u32]) -> usize
 }
 
 // The kept list of the effects, in the words that are lent for it.
-pub fn telegrams(effects: &[u32], list: &mut [u32]) -> TelegramAnswer
+pub fn telegrams(effects: &[u32], list: &mut [u32]) -> Result<usize, Refusal>
     ensures { (result ≡ answer (length list.old) effects.now) × (list.new ≡ kept_store (length list.old) effects.now) }
 {
     lent_words::clear(list);
     if !are_effects(effects) {
-        return TelegramAnswer::Refused(60);
+        return Err(Refusal::EffectWords);
     }
     let n = put_kept(list, effects);
     if list.len() / EFFECT_WORDS < n {
         lent_words::clear(list);
-        return TelegramAnswer::Refused(61);
+        return Err(Refusal::TelegramStore);
     }
-    TelegramAnswer::Kept(n)
+    Ok(n)
 }

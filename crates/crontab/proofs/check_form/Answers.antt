@@ -1,7 +1,7 @@
--- `crontab::form_refusal` meets its contract: which tests were passed is found by `search`. Assumes nothing.
+-- `crontab::check_form` meets its contract: which tests were passed is found by `search`. Assumes nothing.
 use borrow.Author.Rules.{rules}
 use Rattle.crontab.proofs.Lines.{form-bad, date-bad, form-good}
-use Rattle.crontab.proofs.form_refusal.Goals as goal
+use Rattle.crontab.proofs.check_form.Goals as goal
 
 pub returns-then-not-formed : goal.returns-then-not-formed
 returns-then-not-formed c = form-bad _ _ c.of_the_form-formed.ensures c.every_date-free.ensures (search rules)

@@ -1,0 +1,33 @@
+-- The number of a refusal is not 0, the number of none. Assumes nothing.
+use mathlib.Core.Path.{◌≡◌, refl}
+use Prim.Native.Nat.{ℕ, suc, ◌-◌}
+use native.Mathlib.Omega.{arith}
+use Rattle.model.specs.declared.Refusal.{Refusal}
+use Rattle.model.specs.declared.Refusal.TheVariants.{StoreLength, StoreRule, ImageLength, LimitRange, TablePlace, FieldRange, ListRange, RuleName, FlatSteps, TooMany, SnapshotLength, SnapshotRange, RowAddress, LentStores, SequenceNumber, ActivationNumber, LineForm, DayOrMonth, TriggerStore, EffectWords, TelegramStore}
+use Rattle.model.specs.Refusals.{refusal_code}
+
+pub refusal-code-suc : (r : Refusal) → refusal_code r ≡ suc (refusal_code r - 1)
+refusal-code-suc StoreLength = refl
+refusal-code-suc StoreRule = refl
+refusal-code-suc ImageLength = refl
+refusal-code-suc LimitRange = refl
+refusal-code-suc TablePlace = refl
+refusal-code-suc FieldRange = refl
+refusal-code-suc ListRange = refl
+refusal-code-suc RuleName = refl
+refusal-code-suc FlatSteps = refl
+refusal-code-suc TooMany = refl
+refusal-code-suc SnapshotLength = refl
+refusal-code-suc SnapshotRange = refl
+refusal-code-suc RowAddress = refl
+refusal-code-suc LentStores = refl
+refusal-code-suc SequenceNumber = refl
+refusal-code-suc ActivationNumber = refl
+refusal-code-suc LineForm = refl
+refusal-code-suc DayOrMonth = refl
+refusal-code-suc TriggerStore = refl
+refusal-code-suc EffectWords = refl
+refusal-code-suc TelegramStore = refl
+
+pub refusal-some : (r : Refusal) → refusal_code r ≡ 0 → ⊥
+refusal-some r e = omega (arith, refusal-code-suc r)
