@@ -1,3 +1,3 @@
 -- Laws that belong to no one function.
+pub mod KeptSlots
 pub mod Slots
-pub mod Same

@@ -1,71 +1,28 @@
 -- Slots that join a table trigger by trigger and rule by rule, and the due time of one that stood before. Assumes nothing.
 use mathlib.Core.Path.{◌≡◌, refl, sym, ap, subst, ◌∙◌}
-use mathlib.Core.Bool.{Bool, true, false}
 use mathlib.Core.List.{List, [], ◌∷◌, ◌++◌, map, append_assoc, append-nil}
-use Rattle.std.specs.Prelude.{None}
-use Prim.Native.Nat.{ℕ, zero, suc, ◌+◌, ◌*◌, ◌≤◌, ◌<◌}
+use Prim.Native.Nat.{ℕ, suc, ◌+◌, ◌≤◌, ◌<◌}
 use native.Mathlib.Numerals.{add-one}
 use native.Mathlib.Omega.{arith}
-use lib.ListN.{length, length-append, take, drop, get_or, drop_of_length-le}
-use lib.Seq.{take_all, take-length, drop-cons, drop-drop}
+use lib.ListN.{length, length-append, replicate, take, drop, get_or, drop_of_length-le}
+use lib.Seq.{drop-cons}
 use borrow.Rule.Slice.PartMut.{put_mid}
 use Rattle.model.specs.declared.EverySlot.{EverySlot}
 use Rattle.model.specs.declared.Trigger.{Trigger}
 use Rattle.model.specs.declared.Trigger.TheVariants.{TimerFires, Every, AtTime, AtSolar, Other}
-use Rattle.model.specs.Codec.{most, rows_at}
-use Rattle.model.specs.Lists.{find, flatten}
+use Rattle.model.specs.Codec.{most, words_of, all_good, rows_at}
+use Rattle.model.specs.Lists.{flatten}
 use Rattle.model.specs.Parts.{slot_row}
 use Rattle.model.specs.Rules.{name_of, triggers_of}
-use Rattle.model.specs.Slots.{due_or, slots_from}
+use Rattle.model.specs.Slots.{slots_from}
 use Rattle.model.specs.State.{Volatile, with_rest, with_every}
 use Rattle.model.proofs.PartsLaws.{slot_laws}
-use Rattle.model.proofs.RowLaws.{rows-count}
-use Rattle.rows.specs.Places.{row_at, table_at}
+use Rattle.rows.specs.Places.{table_at}
 use Rattle.state.specs.Meaning.{Holds, Counted, Means, meaning, base, slots_part, place_of, words_in}
-use Rattle.state.specs.Tables.{First}
-use Rattle.state.proofs.Found.{found, stops, goes_on}
 use Rattle.state.proofs.Typed.{holds-get, holds-count}
 use Rattle.state.proofs.EverySlots.{slots-hold, slots-back}
 use Rattle.state.proofs.Follows.{follows}
 use Rattle.every.specs.Joined.{HasRoom, Joined}
-
--- A TABLE'S ROWS -------------------------------------------------------------------------------------------------------------------------------
-rows-here : (n : ℕ) (v : List ℕ) (j : ℕ) (d : EverySlot) → j < n → get_or (rows_at slot_row n v) j d ≡ slot_row.get (drop (j * 5) v)
-unfolding rows_at
-rows-here zero v j d h = absurd (omega arith)
-rows-here (suc n) v zero d h = refl
-rows-here (suc n) v (suc j) d h =
-    let e : 5 + j * 5 ≡ suc j * 5 = omega arith in
-    rows-here n (drop 5 v) j d (omega arith) ∙ ap slot_row.get (drop-drop (j * 5) 5 v ∙ ap (λ (m : ℕ). drop m v) e)
-
-module _ (n : ℕ) (w : List ℕ) (k : ℕ) where
-  abbrev xs : List EverySlot
-  xs = table_at slot_row n w k
-
-  pub row_here : (j : ℕ) (d : EverySlot) → j < n → get_or xs j d ≡ row_at slot_row w (k + j * 5)
-  unfolding table_at row_at
-  row_here j d h = rows-here n (drop k w) j d h ∙ ap slot_row.get (drop-drop (j * 5) k w)
-
-  pub count : length xs ≡ n
-  unfolding table_at
-  count = rows-count slot_row slot_laws n (drop k w)
-
-  -- the search for a slot that stood before: none of the first i is it, and x stands at place i
-  module _ (p : EverySlot → Bool) (i : ℕ) (x : EverySlot) (before : find p (take i xs) ≡ None) (h : i < n) (e : x ≡ row_at slot_row w (k + i * 5)) where
-    there : get_or xs i x ≡ x
-    there = row_here i x h ∙ sym e
-
-    pub due-kept : (fresh : ℕ) → p x ≡ true → x.due ≡ due_or fresh (find p xs)
-    due-kept fresh t =
-        let within : length xs ≤ length xs = omega arith in
-        let first : First p xs i = rw take-length at (stops p xs (length xs) i x before (omega (arith, count)) within (rw there t)) in
-        rw (found p xs i first x (omega (arith, count)), there)
-
-    pub not-here : p x ≡ false → find p (take (i + 1) xs) ≡ None
-    not-here t = goes_on p xs n i x before h (omega (arith, count)) (rw there t)
-
-  pub due-fresh : (p : EverySlot → Bool) (i fresh : ℕ) → find p (take i xs) ≡ None → i ≤ n → n ≤ i → fresh ≡ due_or fresh (find p xs)
-  due-fresh p i fresh before h m = let all : take i xs ≡ xs = take_all i xs (omega (arith, count)) in rw (← all, before)
 
 -- SLOTS THAT JOIN ------------------------------------------------------------------------------------------------------------------------------
 abbrev pub get : List ℕ → List EverySlot
@@ -109,12 +66,14 @@ module _ (t : List ℕ) (left add rest all : List EverySlot) (inv : Partial t le
 pub joined-all : (t : List ℕ) (left all : List EverySlot) → Partial t left all → left ≡ [] → Holds 64 slot_row t all
 joined-all t left all inv e = let q : get t ≡ all = sym (append-nil (get t)) ∙ rw e at inv.holds in subst (Holds 64 slot_row t) q inv.counted
 
--- a trigger that adds no slot, and one that adds x
-pub adds_none : (t : List ℕ) (add : List EverySlot) → Counted 64 slot_row t → add ≡ [] → Joined t add t
-adds_none t add h e = rw (e, append-nil) h
-
-pub one-fits : (t : List ℕ) (add : List EverySlot) (x : EverySlot) → HasRoom t add → add ≡ x ∷ [] → Counted 64 slot_row t × (get_or t 0 0 < 64)
-one-fits t add x h e = (h.counted, omega (arith, h.few, ap length e))
+-- a trigger that adds no slot
+pub adds_none : (old : List EverySlot) (now rule place : ℕ) (t : Trigger) (w : List ℕ) → ((ms : ℕ) → t ≡ Every ms → ⊥) → Counted 64 slot_row w → Joined w (slots_from old now rule place (t ∷ [])) w
+unfolding slots_from
+adds_none old now rule place (TimerFires t) w h k = rw append-nil k
+adds_none old now rule place (Every ms) w h k = absurd (h ms refl)
+adds_none old now rule place (AtTime hour minute days) w h k = rw append-nil k
+adds_none old now rule place (AtSolar event offset) w h k = rw append-nil k
+adds_none old now rule place Other w h k = rw append-nil k
 
 module _ (old : List EverySlot) (now rule : ℕ) where
   next-trigger : (place : ℕ) (t : Trigger) (ts : List Trigger) → slots_from old now rule place (t ∷ ts) ≡ slots_from old now rule place (t ∷ []) ++ slots_from old now rule (suc place) ts
@@ -144,6 +103,19 @@ module _ (f : ℕ → List EverySlot) (order : List ℕ) (k : ℕ) where
 
   pub no-rule-left : length order ≤ k → flatten (map f (drop k order)) ≡ []
   no-rule-left h = let e : drop k order ≡ [] = drop_of_length-le order {i = k} h in rw e
+
+-- A TABLE OF ITS OWN ---------------------------------------------------------------------------------------------------------------------------
+pub blank : Holds 64 slot_row (replicate 321 0) []
+unfolding words_of all_good
+blank = record { words = refl; good = refl }
+
+pub table_holds : (t : List ℕ) (l : List EverySlot) (n : ℕ) → Holds 64 slot_row t l → n ≡ get_or t 0 0 → table_at slot_row n t 1 ≡ l
+unfolding table_at
+table_holds t l n h e = rw e (holds-get slot_row slot_laws 64 t l h)
+
+pub no_table : (w : List ℕ) (k : ℕ) → table_at slot_row 0 w k ≡ []
+unfolding table_at rows_at
+no_table w k = refl
 
 -- THE SLOTS OF A STATE -------------------------------------------------------------------------------------------------------------------------
 -- none is left, and others join

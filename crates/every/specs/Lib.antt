@@ -1,3 +1,3 @@
 -- What the contracts of `every` cite.
-pub mod Agree
 pub mod Joined
+pub mod Kept
