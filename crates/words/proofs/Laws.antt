@@ -1,15 +1,36 @@
 -- What users of this crate have to know of its definitions. Assumes nothing.
-use mathlib.Core.Path.{◌≡◌, ap}
-use Prim.Native.Nat.{ℕ, ◌+◌, ◌^◌, ◌≤◌, ◌<◌}
+use mathlib.Core.Path.{◌≡◌, refl, ap}
+use mathlib.Core.Logic.{◌⊎◌, inl, inr}
+use Rattle.std.specs.Int.{saturate_signed}
+use Prim.Native.Nat.{ℕ, min, ◌-◌, ◌+◌, ◌^◌, ◌≤◌, ◌<◌}
 use native.Mathlib.Omega.{arith}
+use native.Mathlib.Decide.{dec_le}
 use lib.IntN.{ℤ, pos, negsuc, ◌+ℤ◌}
 use lib.Signed.{quot_z}
 use mir.Syntax.{w64}
 use mir.Val.{SFits}
 use mir.Facts.{to_z-of_z, of_z-to_z}
-use Rattle.words.specs.Saturating.{saturating_add}
+use Rattle.words.specs.Saturating.{saturating_add, saturating_sub}
 use Rattle.words.specs.Pairs.{joined, low_of, high_of}
 use Rattle.words.specs.Signed.{signed32, signed64, bits64, clamped, rem_euclid, solar_minute}
+
+-- ---- what the library's `saturating_add` and `saturating_sub` give; of `cast_signed` and `cast_unsigned` nothing is to be shown
+pub sum_is : (most x y : ℕ) → min (x + y) most ≡ saturating_add most x y
+unfolding saturating_add
+sum_is most x y = refl
+
+pub difference-is : (x y : ℕ) → x - y ≡ saturating_sub x y
+unfolding saturating_sub
+difference-is x y = refl
+
+pub signed-sum-is : (z : ℤ) → saturate_signed w64 z ≡ clamped z
+unfolding clamped
+signed-sum-is (pos n) = refl
+signed-sum-is (negsuc n) = refl
+
+-- ---- one of two numbers is below the other, or they are equal
+pub split : (a b : ℕ) → (a < b) ⊎ (b ≤ a)
+split a b = elim (dec_le b a) [ yes h ↦ inr h | no h ↦ inl (omega arith) ]
 
 -- ---- a saturating sum, of a type whose largest number is `most`
 module _ (most x y : ℕ) where

@@ -1,4 +1,3 @@
 pub mod Laws
 pub mod Signed
-pub mod Sums
 pub mod Minutes

@@ -1,50 +1,53 @@
--- The minute of the day, as the code computes it. Assumes nothing.
-use mathlib.Core.Path.{◌≡◌, refl, sym, ◌∙◌, ap}
-use Prim.Native.Nat.{ℕ, zero, suc, ◌+◌, ◌-◌, ◌/◌, ◌%◌, ◌^◌, ◌≤◌, ◌<◌}
-use mathlib.Core.Logic.{inl, inr}
+-- The minute of the day, as the code computes it: every number on the way fits 64 bits. Assumes nothing.
+use mathlib.Core.Path.{◌≡◌, refl, ap, ◌∙◌}
+use Prim.Native.Nat.{ℕ, zero, suc, ◌-◌, ◌/◌, ◌^◌, ◌≤◌, ◌<◌}
 use native.Mathlib.Omega.{arith}
-use lib.IntN.{ℤ, pos, neg_ℤ, ◌+ℤ◌}
-use lib.Signed.{quot_z}
-use mir.Syntax.{w32}
-use mir.Facts.{to_z_pos}
+use Rattle.std.specs.Int.{int_rem_euclid}
+use lib.IntN.{ℤ, pos, negsuc, nat_abs, neg_ℤ, ◌+ℤ◌}
+use lib.Signed.{mag, quot_z}
+use mir.Syntax.{w32, w64}
+use mir.Val.{Fits, SFits, to_z, of_z}
+use mir.Facts.{sfits_to_z, sfits_widen, to_z-of_z}
+use Rattle.std.proofs.lemmas.Int.{ints}
 use Rattle.words.specs.Signed.{rem_euclid, solar_minute}
-use Rattle.words.proofs.Signed.{split, sub-high, sub_low, upper}
 
--- q minutes before `base`: by 36,000 minutes, 25 days, no difference of ℕ is cut off
-minutes-before : (base q : ℕ) → q ≤ 36000 → (base % 1440 + 36000 - q) % 1440 ≡ rem_euclid (pos base +ℤ neg_ℤ (pos q)) 1440
-minutes-before base zero h = omega arith
-minutes-before base (suc p) h = elim (split base (suc p)) [
-  | inl under ↦ wraps under ∙ ap (λ (z : ℤ). rem_euclid z 1440) (sym (sub_low base (suc p) under))
-  | inr over ↦ stays over ∙ ap (λ (z : ℤ). rem_euclid z 1440) (sym (sub-high base (suc p) over))
-]
-  where
-    wraps : base < suc p → (base % 1440 + 36000 - suc p) % 1440 ≡ 1440 - suc ((suc p - suc base) % 1440)
-    wraps under = omega arith
+-- a number that is read from where it was stored
+abbrev stored : ℤ → ℤ
+stored z = to_z w64 (of_z w64 z)
 
-    stays : suc p ≤ base → (base % 1440 + 36000 - suc p) % 1440 ≡ (base - suc p) % 1440
-    stays over = omega arith
+negative : (q n : ℕ) → q ≤ suc n → mag (neg_ℤ (pos q)) ≤ n
+negative zero n h = omega arith
+negative (suc q) n h = omega arith
 
-module _ (base offset : ℕ) where
-  -- the definition, once the offset is a number
-  abbrev minute_at : ℤ → ℕ
-  minute_at z = rem_euclid (pos base +ℤ quot_z z (pos 60000)) 1440
+quotient-within : (z : ℤ) → mag (quot_z z (pos 60000)) ≤ mag z
+quotient-within (pos n) = omega arith
+quotient-within (negsuc n) = negative (suc n / 60000) n (omega arith)
 
-  pub solar-after : offset < 2 ^ 31 → (base % 1440 + offset / 60000) % 1440 ≡ solar_minute base offset
-  unfolding solar_minute
-  solar-after h = after ∙ ap minute_at (sym (to_z_pos w32 h))
-    where
-      after : (base % 1440 + offset / 60000) % 1440 ≡ (base + offset / 60000) % 1440
-      after = omega arith
+sum-fits : (base : ℕ) (q : ℤ) → base < 2 ^ 32 → mag q < 2 ^ 31 → SFits w64 (pos base +ℤ q)
+sum-fits base (pos n) h k = record { sfits = omega arith }
+sum-fits base (negsuc n) h k = record { sfits = grind (arith, ints) }
 
-  -- k milliseconds before: the offset is -k
-  pub solar-before :
-      (k : ℕ) → k ≡ suc (2 ^ 32 - suc offset) → 2 ^ 31 ≤ offset →
-      (base % 1440 + 36000 - k / 60000) % 1440 ≡ solar_minute base offset
-  unfolding solar_minute
-  solar-before k e h =
-      minutes-before base (k / 60000) (omega arith)
-      ∙ ap (λ (n : ℕ). rem_euclid (pos base +ℤ neg_ℤ (pos (n / 60000))) 1440) e
-      ∙ ap minute_at (sym (upper w32 offset h))
+remainder : (z : ℤ) → nat_abs (stored (int_rem_euclid z (pos 1440))) ≡ rem_euclid z 1440
+remainder (pos n) = omega (arith, ints)
+remainder (negsuc n) = omega (arith, ints)
+
+pub solar-is :
+    (base offset : ℕ) → base < 2 ^ 32 → Fits w32 offset → (s m b r : ℤ)
+    → s ≡ to_z w32 offset → m ≡ to_z w32 (of_z w32 s) → b ≡ pos base
+    → r ≡ int_rem_euclid (stored (stored b +ℤ stored (quot_z (stored m) (pos 60000)))) (pos 1440)
+    → nat_abs (stored r) ≡ solar_minute base offset
+unfolding solar_minute
+solar-is base offset h f s m b r es em eb er =
+    let fs : SFits w32 s = rw es (sfits_to_z f) in
+    let ms : m ≡ s = em ∙ to_z-of_z fs in
+    let fq : mag (quot_z s (pos 60000)) < 2 ^ 31 = omega (arith, quotient-within s, fs.sfits) in
+    let rs : stored m ≡ s = ap stored ms ∙ to_z-of_z (sfits_widen {w = w32} {w' = w64} tt fs) in
+    let sum : SFits w64 (pos base +ℤ quot_z s (pos 60000)) = sum-fits base (quot_z s (pos 60000)) h fq in
+    let fb : SFits w64 (pos base) = record { sfits = omega arith } in
+    let fd : SFits w64 (quot_z s (pos 60000)) = record { sfits = omega arith } in
+    let inner : stored (stored b +ℤ stored (quot_z (stored m) (pos 60000))) ≡ pos base +ℤ quot_z s (pos 60000) =
+    rw (eb, rs, to_z-of_z fb, to_z-of_z fd) (to_z-of_z sum) in
+    ap (λ z. nat_abs (stored z)) (er ∙ ap (λ z. int_rem_euclid z (pos 1440)) inner) ∙ remainder (pos base +ℤ quot_z s (pos 60000)) ∙ ap (λ z. rem_euclid (pos base +ℤ quot_z z (pos 60000)) 1440) es
 
 -- 90,000 and 900,000 milliseconds before minute 10: a minute and a half count as one, and 15 minutes go round the day
 examples : (solar_minute 10 (2 ^ 32 - 90000) ≡ 9) × (solar_minute 10 (2 ^ 32 - 900000) ≡ 1435)

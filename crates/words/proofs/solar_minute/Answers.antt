@@ -1,10 +1,6 @@
--- `words::solar_minute` meets its contract: a law for each sign of the offset.
 use native.Mathlib.Omega.{arith}
-use Rattle.words.proofs.Minutes.{solar-after, solar-before}
+use Rattle.words.proofs.Minutes.{solar-is}
 use Rattle.words.proofs.solar_minute.Goals as goal
 
-pub returns-then-offset-lt2147483648 : goal.returns-then-offset-lt2147483648
-returns-then-offset-lt2147483648 c = solar-after _ _ (omega arith)
-
-pub returns-else-offset-lt2147483648 : goal.returns-else-offset-lt2147483648
-returns-else-offset-lt2147483648 c = solar-before _ _ _ (omega arith) (omega arith)
+pub returns : goal.returns
+returns c = solar-is c.args.base c.args.offset (omega arith) c.ranges.offset _ _ _ _ c.cast_signed.ensures c.from-offset_ms.ensures c.from.ensures c.rem_euclid.ensures.value
