@@ -4,15 +4,16 @@ use native.Mathlib.Omega.{arith}
 use mathlib.Core.Path.{◌≡◌, refl, sym, ap, subst, ◌∙◌}
 use mathlib.Core.Bool.{Bool, true, false, not}
 use mathlib.Core.List.{List, [], ◌∷◌, append-nil}
-use Rattle.std.specs.Prelude.{Some}
-use lib.ListN.{length, get_or, set}
+use Rattle.std.specs.Prelude.{Option, None, Some}
+use Rattle.std.specs.Option.{is_some}
+use lib.ListN.{length, get_or, set, replicate, length-replicate}
 use borrow.Author.Tests.{eq-eqb, ne_eqb, not-true, not-false}
 use Rattle.model.specs.Activate as model
 use Rattle.model.specs.Activate.{no_outcome}
 use Rattle.model.specs.Dry.{DryOutput, run_steps_dry}
 use Rattle.model.specs.Exec.{RunOutput, run_steps}
 use Rattle.model.specs.Image.{budget}
-use Rattle.model.specs.Outcome.{Item, started}
+use Rattle.model.specs.Outcome.{Item}
 use Rattle.model.specs.State as model-state
 use Rattle.model.specs.State.{Rest, next_number, with_rest, with_last_activation, bump_by, activations_total, effects_emitted, partial_outcomes}
 use Rattle.model.specs.Steps.{FlatStep, start}
@@ -22,22 +23,22 @@ use Rattle.model.specs.declared.Point.{Point}
 use Rattle.flat.specs.Words.{Says}
 use Rattle.state.specs.Meaning.{Sound, Means, meaning, base, accepted}
 use Rattle.state.proofs.Follows.{follows, next-is, accepted-by-next}
+use Rattle.state.specs.Reasons.{reason_number}
+use Rattle.state.specs.declared.reasons.Reason.{Reason}
+use Rattle.state.specs.declared.reasons.Reason.TheVariants.{ConditionUnevaluable, EffectBudget}
 use Rattle.eval.specs.Answers.{env_of}
 use Rattle.exec.specs.Done.{RunDone}
 use Rattle.exec.specs.DryRuns as exec-dry
-use Rattle.exec.specs.Lists.{FlatWords}
 use Rattle.lent_words.specs.PutEffects.{put_effects}
 use Rattle.exec.specs.Results.{job_of}
 use Rattle.exec.specs.Runs as exec
 use Rattle.exec.specs.declared.Job.{Job}
-use Rattle.exec.proofs.Bounds.{run-last}
 use Rattle.activate.specs.Handled.{Continues, Within, Room, Handles, put_outcome, put_outcomes}
 use Rattle.activate.specs.Outcomes.{Pushes}
 use Rattle.activate.specs.Executes.{Changes, RunRoom, numbered_job, NotesPartial, Starts, FinishesWet, RunsWet, RunsDry, dry_outcome}
 use Rattle.activate.specs.Carried.{Carried, carried}
 use Rattle.activate.specs.declared.Handled.{Handled}
 use Rattle.activate.proofs.Continues.{with_vol, then-continues, no-outcome, within_by, within-then, room-left}
-use Rattle.activate.proofs.FlatRules.{set_with, says-with}
 
 -- ---- the next outcome
 pub pushed : (w : List ℕ) (x : Handled) (ow ew : List ℕ) (v : List ℕ) (j : Job) (reason count : ℕ) (r : Handled) (ow' ew' : List ℕ) → Pushes x ow j reason count r ow'
@@ -162,6 +163,16 @@ module _ (v w : List ℕ) (count reason : ℕ) (a : Means w (base v) (add_to eff
   unfolding model.finish_wet
   finishes-partial r h b es e = rw (ne_eqb reason 0 h, ← e) (follows (add_to partial_outcomes 1) w r (base v) (add_to effects_emitted count (meaning v)) a b)
 
+-- ---- reasons
+pub has_reason : (o : Option Reason) → is_some o ≡ true → reason_number o ≡ 0 → ⊥
+has_reason None h e = cc
+has_reason (Some ConditionUnevaluable) h e = omega arith
+has_reason (Some EffectBudget) h e = omega arith
+
+pub no-reason : (o : Option Reason) → is_some o ≡ false → reason_number o ≡ 0
+no-reason None h = refl
+no-reason (Some r) h = cc
+
 -- ---- runs
 module _ (x : Carried) (b : ℕ) (few : b ≤ 256) where
   pub ready : RunRoom x → exec.Ready x.vol b x.effects
@@ -170,57 +181,61 @@ module _ (x : Carried) (b : ℕ) (few : b ≤ 256) where
   pub ready-dry : Room 1 x → exec-dry.DryReady x.vol b x.effects
   ready-dry room = record { sound = room.sound; most = few; counts = omega (arith, room.effects, few) }
 
-module _ (snapshot image part : List ℕ) (own : ℕ) (j : Job) (v : List ℕ) (h : Handled) (b : ℕ) (ew : List ℕ) (run : RunDone) (ew' : List ℕ) (flat-words : FlatWords part own) where
+-- some effects, so many
+some_effects : ℕ → List Effect
+some_effects n = replicate n (record { kind = 0; a = 0; b = 0; c = 0; d = 0 })
+
+so_many : (n : ℕ) → n ≡ length (some_effects n)
+unfolding some_effects
+so_many n = sym (length-replicate n _)
+
+module _ (snapshot image part : List ℕ) (own : ℕ) (j : Job) (v : List ℕ) (h : Handled) (b : ℕ) (ew : List ℕ) (run : RunDone) (ew' : List ℕ) where
   abbrev x : Carried
   x = carried v h
 
-  -- a set in which these are the lists of the rule
-  abbrev some_set : List (List FlatStep)
-  some_set = set_with j.index flat-words.steps
-
-  some-set : Says part own (get_or some_set j.index [])
-  some-set = says-with part own j.index flat-words
-
   module _ (from : Point) (k : exec.Runs snapshot image part own j v from b h.effects ew run ew') where
-    pub run-grows : h.effects ≤ run.count
-    run-grows = omega (arith, (k.says some_set some-set).2)
-
     abbrev out : List (List FlatStep) → RunOutput
     out flat = run_steps b (env_of snapshot image flat) (job_of j) from (meaning v)
 
-    wet-says : (ow : List ℕ) (n : ℕ) (w : List ℕ) (r : Handled) (ow' : List ℕ) → n ≡ run.count - h.effects → FinishesWet run.vol n run.reason w → Pushes h ow j run.reason run.count r ow'
-        → (item : Item) (flat : List (List FlatStep)) → Says part own (get_or flat j.index []) → Continues x ow ew (model.finished (job_of j) item (out flat)) (carried w r) ow' ew'
-    wet-says ow n w r ow' e f p item flat q =
-        let o = out flat in
-        let s = k.says flat q in
-        let m = f o.effects (let l : n ≡ length o.effects = omega (arith, e, s.2) in l) in
-        let finish : Means w (base v) (model.finish_wet o.effects o.reason o.vol) =
-        record { says = m.says ∙ ap (λ (m : model-state.Volatile). model.finish_wet o.effects run.reason m) s.0.says ∙ ap (λ (z : ℕ). model.finish_wet o.effects z o.vol) s.1; sound = m.sound; based = m.based ∙ s.0.based } in
-        pushed v h ow ew w j run.reason run.count r ow' ew' p (model.finish_wet o.effects o.reason o.vol) o.effects o.reason (item ∷ o.trace) finish s.1 s.2 s.3
+    module _ (ow : List ℕ) (n : ℕ) (w : List ℕ) (r : Handled) (ow' : List ℕ) (few : b ≤ 256) (e : n ≡ run.count - h.effects) (f : FinishesWet run.vol n run.reason w) (p : Pushes h ow j run.reason run.count r ow') where
+      wet-says : (item : Item) (flat : List (List FlatStep)) → Says part own (get_or flat j.index []) → Continues x ow ew (model.finished (job_of j) item (out flat)) (carried w r) ow' ew'
+      wet-says item flat q =
+          let o = out flat in
+          let s = k.says flat q in
+          let m = f o.effects (let l : n ≡ length o.effects = omega (arith, e, s.2) in l) in
+          let finish : Means w (base v) (model.finish_wet o.effects o.reason o.vol) =
+          record { says = m.says ∙ ap (λ (m : model-state.Volatile). model.finish_wet o.effects run.reason m) s.0.says ∙ ap (λ (z : ℕ). model.finish_wet o.effects z o.vol) s.1; sound = m.sound; based = m.based ∙ s.0.based } in
+          pushed v h ow ew w j run.reason run.count r ow' ew' p (model.finish_wet o.effects o.reason o.vol) o.effects o.reason (item ∷ o.trace) finish s.1 s.2 s.3
 
-    next-bound : (flat : List (List FlatStep)) → Says part own (get_or flat j.index []) → (out flat).vol.next ≤ (meaning v).next + b
-    next-bound flat q = omega (arith, accepted-by-next run.vol (base v) (out flat).vol (k.says flat q).0, next-is v, k.accepted)
+      finished-means : Means w (base run.vol) (model.finish_wet (some_effects n) run.reason (meaning run.vol))
+      finished-means = f (some_effects n) (so_many n)
 
-    pub runs-wet : (ow : List ℕ) (n : ℕ) (w : List ℕ) (r : Handled) (ow' : List ℕ) → b ≤ 256 → n ≡ run.count - h.effects → FinishesWet run.vol n run.reason w → Pushes h ow j run.reason run.count r ow'
-        → RunsWet snapshot image part own j from b x ow ew (carried w r) ow' ew'
-    unfolding model.finish_wet model.outcome
-    runs-wet ow n w r ow' few e f p =
-        let last = run-last b (env_of snapshot image some_set) (job_of j) from (meaning v) in (
-          λ item.
-              record {
-                says = wet-says ow n w r ow' e f p item;
-                within =
-                    let s = k.says some_set some-set in
-                    within_by 1 x ow ew (model.finished (job_of j) item (out some_set)) (carried w r) ow' ew' (wet-says ow n w r ow' e f p item some_set some-set)
-                    (omega (arith, next-bound some_set some-set, few)) (omega arith) (omega (arith, s.2, k.counted, few)) (omega (arith, last));
-              },
-          ap (λ (m : model-state.Volatile). m.last_number) (wet-says ow n w r ow' e f p (started 0) some_set some-set).state.says ∙ last,
-        )
+      same-next : accepted w ≡ accepted run.vol
+      unfolding model.finish_wet
+      same-next = omega (arith, accepted-by-next w (base run.vol) _ finished-means, next-is run.vol)
+
+      last-stays : (meaning w).last_number ≡ (meaning v).last_number
+      unfolding model.finish_wet
+      last-stays = ap (λ (m : model-state.Volatile). m.last_number) finished-means.says ∙ k.last
+
+      pub runs-wet : RunsWet snapshot image part own j from b x ow ew (carried w r) ow' ew'
+      runs-wet = (
+        λ item.
+            record {
+              says = wet-says item;
+              within =
+                  record {
+                    sound = finished-means.sound;
+                    accepted = omega (arith, same-next, k.accepted, few);
+                    outcomes = omega (arith, p.outcomes);
+                    effects = omega (arith, p.effects, k.counted, few);
+                    numbers = omega (arith, last-stays);
+                  };
+            },
+        last-stays,
+      )
 
   module _ (k : exec-dry.RunsDry snapshot image part own j v start b h.effects ew run ew') where
-    pub dry-grows : h.effects ≤ run.count
-    dry-grows = omega (arith, (k.says some_set some-set).2)
-
     abbrev out_dry : List (List FlatStep) → DryOutput
     out_dry flat = run_steps_dry b (env_of snapshot image flat) (job_of j) start [] (meaning v).rest
 
@@ -232,12 +247,15 @@ module _ (snapshot image part : List ℕ) (own : ℕ) (j : Job) (v : List ℕ) (
         pushed v h ow ew run.vol j run.reason run.count r ow' ew' p (with_rest o.rest (meaning v)) o.effects o.reason _ s.0 s.1 s.2 s.3
 
     pub runs-dry : (ow : List ℕ) (r : Handled) (ow' : List ℕ) → b ≤ 256 → b ≡ budget image → Pushes h ow j run.reason run.count r ow' → RunsDry snapshot image part own j x ow ew (carried run.vol r) ow' ew'
-    unfolding model.outcome
     runs-dry ow r ow' few e p =
         record {
           says = λ flat q. rw e at (dry-says ow r ow' p flat q);
           within =
-              let s = k.says some_set some-set in
-              within_by 1 x ow ew (dry_outcome (job_of j) (out_dry some_set) (meaning v)) (carried run.vol r) ow' ew' (dry-says ow r ow' p some_set some-set)
-              (omega arith) (omega arith) (omega (arith, s.2, k.counted, few)) (omega arith);
+              record {
+                sound = k.sound;
+                accepted = omega (arith, k.accepted);
+                outcomes = omega (arith, p.outcomes);
+                effects = omega (arith, p.effects, k.counted, few);
+                numbers = omega (arith, k.last);
+              };
         }

@@ -3,13 +3,13 @@ ghost use Rattle.std.specs.Prelude.{◌≡◌, ◌<◌};
 ghost use Rattle.model.specs.Image.{size_of};
 ghost use Rattle.model.specs.Rows.{rules};
 ghost use Rattle.image.specs.Accepted.{Accepted};
-ghost use Rattle.image.specs.Sized.{Sized};
 ghost use Rattle.state.specs.Meaning.{Sound, meaning};
 ghost use Rattle.activate.specs.Decisions.{is_auto, InCooldownIs, CooldownHolds, Decides};
 
 use crate::Mode;
 use eval::Verdict;
 use eval::conditions::conditions_hold;
+use exec::Env;
 
 #[derive(Clone, Copy)]
 pub enum Decision {
@@ -29,40 +29,36 @@ fn is_auto(mode: Mode) -> bool
     }
 }
 
-fn in_cooldown(snapshot: &[u32], image: &[u32], v: &[u32], i: u32) -> bool
-    requires { Sized image.now × Sound v.now }
-    ensures { InCooldownIs snapshot.now image.now i (meaning v.now).rest result }
+fn in_cooldown(env: &Env, v: &[u32], i: u32) -> bool
+    requires { Sound v.now }
+    ensures { InCooldownIs env.now.snapshot.now env.now.image.now i (meaning v.now).rest result }
 {
-    let last = state::rules::last_activation(v, i as usize);
-    let cooldown = image::rule::cooldown_of(image, i);
-    match last {
-        Some(before) => {
-            let age = words::saturating_sub_u64(world::now_ms(snapshot), before);
-            age < cooldown as u64
-        }
-        None => false,
-    }
+    let Some(last) = state::rules::last_activation(v, i as usize) else {
+        return false;
+    };
+    let age = world::now_ms(env.snapshot).saturating_sub(last);
+    age < image::rule::cooldown_of(env.image, i) as u64
 }
 
 // Only an automatic activation waits for the cooldown.
-fn cooldown_holds(snapshot: &[u32], image: &[u32], v: &[u32], i: u32, mode: Mode) -> bool
-    requires { Sized image.now × Sound v.now }
-    ensures { CooldownHolds snapshot.now image.now i mode (meaning v.now).rest result }
+fn cooldown_holds(env: &Env, v: &[u32], i: u32, mode: Mode) -> bool
+    requires { Sound v.now }
+    ensures { CooldownHolds env.now.snapshot.now env.now.image.now i mode (meaning v.now).rest result }
 {
     if is_auto(mode) {
-        return in_cooldown(snapshot, image, v, i);
+        return in_cooldown(env, v, i);
     }
     false
 }
 
-pub fn decide(snapshot: &[u32], image: &[u32], v: &[u32], i: u32, mode: Mode) -> Decision
-    requires { Accepted image.now × (i < size_of image.now rules) × Sound v.now }
-    ensures { Decides snapshot.now image.now i mode (meaning v.now).rest result }
+pub fn decide(env: &Env, v: &[u32], i: u32, mode: Mode) -> Decision
+    requires { Accepted env.now.image.now × (i < size_of env.now.image.now rules) × Sound v.now }
+    ensures { Decides env.now.snapshot.now env.now.image.now i mode (meaning v.now).rest result }
 {
-    if cooldown_holds(snapshot, image, v, i, mode) {
+    if cooldown_holds(env, v, i, mode) {
         return Decision::InCooldown;
     }
-    match conditions_hold(snapshot, image, v, i) {
+    match conditions_hold(env.snapshot, env.image, v, i) {
         Verdict::Yes => Decision::Begins,
         Verdict::No => Decision::Rejected,
         Verdict::Unevaluable => Decision::Unevaluable,

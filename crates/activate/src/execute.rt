@@ -2,27 +2,28 @@
 ghost use Rattle.std.specs.Prelude.{◌≡◌, true, ◌+◌, ◌≤◌, ◌<◌};
 ghost use Rattle.words.specs.Saturating.{max64};
 ghost use Rattle.image.specs.Accepted.{Accepted};
-ghost use Rattle.image.specs.Sized.{Sized};
 ghost use Rattle.state.specs.Meaning.{Sound, meaning};
-ghost use Rattle.exec.specs.Lists.{FlatWords};
+ghost use Rattle.state.specs.Reasons.{reason_number};
 ghost use Rattle.activate.specs.Carried.{carried};
 ghost use Rattle.activate.specs.Handled.{Room};
 ghost use Rattle.activate.specs.Executes.{RunRoom, NotesPartial, Starts, FinishesWet, RunsWet, RunsDry, Executes};
 
 use crate::Handled;
 use crate::outcomes::push_outcome;
-use exec::Job;
+use counters::Counter;
 use exec::dry::run_steps_dry;
 use exec::runs::run_steps;
+use exec::{Env, FlatRule, Job};
 use image::layout::budget;
-use model::{Point};
+use model::Point;
+use state::reasons::{Reason, reason_word};
 
 pub fn note_wet_partial(v: &mut [u32], dry: bool)
     requires { Sound v.old }
     ensures { NotesPartial dry v.old v.new }
 {
     if !dry {
-        state::bump(v, counters::PARTIAL_OUTCOMES, 1);
+        state::bump(v, Counter::PartialOutcomes, 1);
     }
 }
 
@@ -32,29 +33,27 @@ fn start(snapshot: &[u32], v: &mut [u32], job: Job) -> Job
     ensures { Starts snapshot.now job v.old v.new result }
 {
     let time = world::now_ms(snapshot);
-    state::bump(v, counters::ACTIVATIONS_TOTAL, 1);
+    state::bump(v, Counter::ActivationsTotal, 1);
     state::rules::set_last_activation(v, job.index as usize, time);
     let number = state::last_number::take_number(v);
     Job { number, ..job }
 }
 
 // A wet run had so many effects, and this reason.
-fn finish_wet(v: &mut [u32], effects: u32, reason: u32)
+fn finish_wet(v: &mut [u32], effects: u32, reason: Option<Reason>)
     requires { Sound v.old }
-    ensures { FinishesWet v.old effects reason v.new }
+    ensures { FinishesWet v.old effects (reason_number reason) v.new }
 {
-    state::bump(v, counters::EFFECTS_EMITTED, effects);
-    if reason != 0 {
-        state::bump(v, counters::PARTIAL_OUTCOMES, 1);
+    state::bump(v, Counter::EffectsEmitted, effects);
+    if reason.is_some() {
+        state::bump(v, Counter::PartialOutcomes, 1);
     }
 }
 
 // A run from a point on, with a budget, and its outcome.
 pub fn run_wet(
-    snapshot: &[u32],
-    image: &[u32],
-    part: &[u32],
-    own: usize,
+    env: &Env,
+    rule: &FlatRule,
     outcomes: &mut [u32],
     effects: &mut [u32],
     v: &mut [u32],
@@ -63,69 +62,59 @@ pub fn run_wet(
     from: Point,
     most: u32,
 ) -> Handled
-    requires { Sized image.now × FlatWords part.now own × (most ≤ 256) × RunRoom (carried v.old x) }
-    ensures { RunsWet snapshot.now image.now part.now own job from most (carried v.old x) outcomes.old effects.old (carried v.new result) outcomes.new effects.new }
+    requires { (most ≤ 256) × RunRoom (carried v.old x) }
+    ensures { RunsWet env.now.snapshot.now env.now.image.now rule.now.part.now rule.now.own job from most (carried v.old x) outcomes.old effects.old (carried v.new result) outcomes.new effects.new }
 {
-    let run = run_steps(
-        snapshot, image, part, own, effects, v, job, from, most, x.effects,
-    );
+    let run = run_steps(env, rule, effects, v, job, from, most, x.effects);
     finish_wet(v, run.count - x.effects, run.reason);
-    push_outcome(outcomes, x, job, run.reason, run.count)
+    push_outcome(outcomes, x, job, reason_word(run.reason), run.count)
 }
 
 // A dry run of the whole rule, and its outcome.
 fn run_dry(
-    snapshot: &[u32],
-    image: &[u32],
-    part: &[u32],
-    own: usize,
+    env: &Env,
+    rule: &FlatRule,
     outcomes: &mut [u32],
     effects: &mut [u32],
     v: &mut [u32],
     x: Handled,
     job: Job,
 ) -> Handled
-    requires { Accepted image.now × FlatWords part.now own × (job.dry ≡ true) × Room 1 (carried v.old x) }
-    ensures { RunsDry snapshot.now image.now part.now own job (carried v.old x) outcomes.old effects.old (carried v.new result) outcomes.new effects.new }
+    requires { Accepted env.now.image.now × (job.dry ≡ true) × Room 1 (carried v.old x) }
+    ensures { RunsDry env.now.snapshot.now env.now.image.now rule.now.part.now rule.now.own job (carried v.old x) outcomes.old effects.old (carried v.new result) outcomes.new effects.new }
 {
     let from = Point {
         list: 0,
         place: 0,
         jump: None,
     };
-    let most = budget(image);
-    let run = run_steps_dry(
-        snapshot, image, part, own, effects, v, job, from, most, x.effects,
-    );
-    push_outcome(outcomes, x, job, run.reason, run.count)
+    let most = budget(env.image);
+    let run = run_steps_dry(env, rule, effects, v, job, from, most, x.effects);
+    push_outcome(outcomes, x, job, reason_word(run.reason), run.count)
 }
 
 pub fn execute(
-    snapshot: &[u32],
-    image: &[u32],
-    part: &[u32],
-    own: usize,
+    env: &Env,
+    rule: &FlatRule,
     outcomes: &mut [u32],
     effects: &mut [u32],
     v: &mut [u32],
     x: Handled,
     job: Job,
 ) -> Handled
-    requires { Accepted image.now × FlatWords part.now own × Room 1 (carried v.old x) }
-    ensures { Executes snapshot.now image.now part.now own job (carried v.old x) outcomes.old effects.old (carried v.new result) outcomes.new effects.new }
+    requires { Accepted env.now.image.now × Room 1 (carried v.old x) }
+    ensures { Executes env.now.snapshot.now env.now.image.now rule.now.part.now rule.now.own job (carried v.old x) outcomes.old effects.old (carried v.new result) outcomes.new effects.new }
 {
     if job.dry {
-        state::bump(v, counters::ACTIVATIONS_DRY, 1);
-        return run_dry(snapshot, image, part, own, outcomes, effects, v, x, job);
+        state::bump(v, Counter::ActivationsDry, 1);
+        return run_dry(env, rule, outcomes, effects, v, x, job);
     }
-    let begun = start(snapshot, v, job);
+    let begun = start(env.snapshot, v, job);
     let from = Point {
         list: 0,
         place: 0,
         jump: None,
     };
-    let most = budget(image);
-    run_wet(
-        snapshot, image, part, own, outcomes, effects, v, x, begun, from, most,
-    )
+    let most = budget(env.image);
+    run_wet(env, rule, outcomes, effects, v, x, begun, from, most)
 }

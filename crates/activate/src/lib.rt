@@ -20,8 +20,10 @@ ghost use Rattle.activate.specs.Handled.{Room, Activates, Resumes};
 
 use crate::decide::Decision;
 use crate::outcomes::push_outcome;
-use exec::Job;
+use counters::Counter;
+use exec::{Env, FlatRule, Job};
 use model::Pending;
+use state::reasons::Reason;
 
 // What activations and resumptions did so far: how many outcomes and effects are written, or would be.
 #[derive(Clone, Copy)]
@@ -84,18 +86,18 @@ pub fn activate(
     requires room { Room 1 (carried v.old x) }
     ensures { Activates snapshot.now image.now part.now own i kind mode (carried v.old x) outcomes.old effects.old (carried v.new result) outcomes.new effects.new }
 {
+    let env = Env { snapshot, image };
+    let rule = FlatRule { part, own };
     let dry = is_dry(mode);
     let job = job_of(image, image::rule::name_of(image, i), i, kind, dry, 0);
-    match decide::decide(snapshot, image, v, i, mode) {
-        Decision::Begins => execute::execute(
-            snapshot, image, part, own, outcomes, effects, v, x, job,
-        ),
+    match decide::decide(&env, v, i, mode) {
+        Decision::Begins => execute::execute(&env, &rule, outcomes, effects, v, x, job),
         Decision::InCooldown => {
-            state::bump(v, counters::SUPPRESSED_COOLDOWN, 1);
+            state::bump(v, Counter::SuppressedCooldown, 1);
             x
         }
         Decision::Rejected => {
-            state::bump(v, counters::CONDITIONS_REJECTED, 1);
+            state::bump(v, Counter::ConditionsRejected, 1);
             x
         }
         Decision::Unevaluable => {
@@ -104,7 +106,7 @@ pub fn activate(
                 outcomes,
                 x,
                 job,
-                state::reasons::CONDITION_UNEVALUABLE,
+                Reason::ConditionUnevaluable as u32,
                 x.effects,
             )
         }
@@ -128,10 +130,10 @@ pub fn resume(
     requires budget_bound { (c.budget ≤ 256) × Room 1 (carried v.old x) }
     ensures { Resumes snapshot.now image.now part.now own i c (carried v.old x) outcomes.old effects.old (carried v.new result) outcomes.new effects.new }
 {
+    let env = Env { snapshot, image };
+    let rule = FlatRule { part, own };
     let from = c.point;
     let job = job_of(image, c.rule, i, c.trigger, false, c.number);
-    state::bump(v, counters::CONTINUATIONS_FIRED, 1);
-    execute::run_wet(
-        snapshot, image, part, own, outcomes, effects, v, x, job, from, c.budget,
-    )
+    state::bump(v, Counter::ContinuationsFired, 1);
+    execute::run_wet(&env, &rule, outcomes, effects, v, x, job, from, c.budget)
 }

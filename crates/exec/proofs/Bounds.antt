@@ -1,20 +1,15 @@
--- A step accepts at most one continuation, takes no activation number, and stays in its list. Assumes nothing.
-use Prim.Native.Nat.{ℕ, zero, suc, ◌+◌, ◌≤◌}
+-- A step accepts at most one continuation, and takes no activation number. Assumes nothing.
+use Prim.Native.Nat.{ℕ, suc, ◌+◌, ◌≤◌}
 use native.Mathlib.Omega.{arith}
 use mathlib.Core.Path.{◌≡◌, refl, ap, ◌∙◌}
 use mathlib.Core.Bool.{Bool, true, false, cond}
 use mathlib.Core.List.{List}
 use Rattle.std.specs.Prelude.{Option, None, Some}
-use lib.Dec.{eqb}
 use Rattle.model.specs.Actions as actions
 use Rattle.model.specs.Eval.{condition_at}
-use Rattle.model.specs.Exec.{StepResult, RunOutput, after_prim, run_branch, exec, schedule, accepted, dropped, advance, continue_run, with_step, run_steps}
-use Rattle.model.specs.Flat.{step_at}
-use Rattle.model.specs.Lists.{or_else}
+use Rattle.model.specs.Exec.{after_prim, run_branch, exec, schedule, accepted, dropped, advance}
 use Rattle.model.specs.State.{Env, Volatile, is_full, strike}
-use Rattle.model.specs.Steps.{arrive, point}
-use Rattle.model.specs.declared.Jump.{Jump}
-use Rattle.model.specs.Steps.{jump_at}
+use Rattle.model.specs.Steps.{point}
 use Rattle.model.specs.declared.Point.{Point}
 use Rattle.model.specs.declared.Step.{Step}
 use Rattle.model.specs.declared.Step.TheVariants.{Primitive, Wait, Branch, After, Fail}
@@ -85,57 +80,7 @@ step-last e j b sp (Branch c t n) v = branch-last (condition_at e v.rest c) t n 
 step-last e j b sp (After ms) v = schedule-last e j b ms (point (suc sp.place) 0 None) v
 step-last e j b sp Fail v = after_last None (actions.fails v.rest) (advance sp 0) v
 
-goes_last : (x : Step) (d : StepResult) (o : Option Point) (k : Point → Volatile → RunOutput) (n : ℕ) → d.vol.last_number ≡ n
-    → ((sp : Point) (v : Volatile) → (k sp v).vol.last_number ≡ v.last_number) → (continue_run x d o k).vol.last_number ≡ n
-unfolding continue_run
-goes_last x d None k n h more = h
-goes_last x d (Some sp) k n h more = more sp d.vol ∙ h
-
-found-last : (o : Option Step) (v : Volatile) (k : Step → RunOutput) → ((x : Step) → (k x).vol.last_number ≡ v.last_number) → (with_step o v k).vol.last_number ≡ v.last_number
-unfolding with_step
-found-last None v k h = refl
-found-last (Some x) v k h = h x
-
-pub run-last : (b : ℕ) (e : Env) (j : actions.Job) (sp : Point) (v : Volatile) → (run_steps b e j sp v).vol.last_number ≡ v.last_number
-unfolding run_steps
-run-last zero e j sp v = refl
-run-last (suc b) e j sp v =
-    found-last (step_at e.set j.index sp) v _
-    (λ x. let d = exec e j b sp x v in goes_last x d d.next _ v.last_number (step-last e j b sp x v) (λ sp' v'. run-last b e j sp' v'))
-
--- ---- places
-arrive-list : (n p : ℕ) (j : Option Jump) → (arrive n p j).list ≡ n
-unfolding arrive
-arrive-list n p None = refl
-arrive-list n p (Some j) = go (eqb p j.at)
-  where
-    go : (t : Bool) → (cond t (point n j.to None) (point n p (Some (jump_at j.at j.to)))).list ≡ n
-    go true = refl
-    go false = refl
-
-after_list : (o : Option ℕ) (a : actions.PrimResult) (to sp : Point) (v : Volatile) → to.list ≡ sp.list → (or_else sp (after_prim o a to v).next).list ≡ sp.list
-unfolding after_prim
-after_list None a to sp v h = h
-after_list (Some q) a to sp v h = h
-
-advance-list : (sp : Point) (n : ℕ) → (advance sp n).list ≡ sp.list
-advance-list sp n = arrive-list sp.list (suc sp.place + n) sp.jump
-
-branch-list : (o : Option Bool) (t n : ℕ) (sp : Point) (v : Volatile) → (or_else sp (run_branch o t n sp v).next).list ≡ sp.list
-unfolding run_branch
-branch-list (Some true) t n sp v = arrive-list sp.list (suc sp.place) (Some (jump_at (suc sp.place + t) (suc sp.place + t + n)))
-branch-list (Some false) t n sp v = advance-list sp t
-branch-list None t n sp v = after_list None (actions.fails v.rest) (advance sp (t + n)) sp v (advance-list sp (t + n))
-
-same-list : (e : Env) (j : actions.Job) (b : ℕ) (sp : Point) (x : Step) (v : Volatile) → (or_else sp (exec e j b sp x v).next).list ≡ sp.list
-unfolding exec
-same-list e j b sp (Primitive i) v = let a = actions.prim_at e j v.rest i in after_list a.disables a (advance sp 0) sp v (advance-list sp 0)
-same-list e j b sp (Wait ms) v = refl
-same-list e j b sp (Branch c t n) v = branch-list (condition_at e v.rest c) t n sp v
-same-list e j b sp (After ms) v = advance-list sp 0
-same-list e j b sp Fail v = after_list None (actions.fails v.rest) (advance sp 0) sp v (advance-list sp 0)
-
-pub keeps-list :
+pub takes-none :
     (e : Env) (j : actions.Job) (b : ℕ) (sp : Point) (x : Step) (v : List ℕ) (d : StepDone) → paid.Steps v d (exec e j b sp x (meaning v))
-    → (or_else sp (d.next)).list ≡ sp.list
-keeps-list e j b sp x v d s = ap (λ (o : Option Point). (or_else sp o).list) s.next ∙ same-list e j b sp x (meaning v)
+    → (meaning d.vol).last_number ≡ (meaning v).last_number
+takes-none e j b sp x v d s = ap (λ (m : Volatile). m.last_number) s.state.says ∙ step-last e j b sp x (meaning v)

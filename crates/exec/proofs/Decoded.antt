@@ -1,27 +1,32 @@
 -- A rule's lists as words: the step at a place, and what flattening gives of it. Assumes nothing.
-use Prim.Native.Nat.{ℕ, zero, suc, ◌+◌, ◌*◌, ◌/◌, ◌≤◌, ◌<◌}
+use Prim.Native.Nat.{ℕ, zero, suc, ◌+◌, ◌-◌, ◌*◌, ◌/◌, ◌≤◌, ◌<◌}
 use native.Mathlib.Omega.{arith}
 use native.Mathlib.Nat.{not-suc-le-zero}
 use mathlib.Core.Path.{◌≡◌, refl, sym, ap, ◌∙◌}
 use mathlib.Core.Bool.{Bool, true, false, cond, ◌&&◌}
 use mathlib.Core.List.{List, [], ◌∷◌, map}
-use Rattle.std.specs.Prelude.{None, Some}
+use Rattle.std.specs.Prelude.{Option, None, Some}
 use lib.Dec.{eqb, leb}
 use lib.ListN.{length, take, drop, get_or, length-take, length-drop, length-map}
 use Rattle.std.specs.Prelude.{slice_get}
+use Rattle.std.specs.List.{slice_range}
+use Rattle.std.proofs.Common.{get_or-take}
 use lib.Seq.{get_or-drop}
 use borrow.Author.Tests.{leb-true, ne_eqb}
 use Rattle.model.specs.Codec.{rows_at}
-use Rattle.model.specs.Flat.{list_in}
+use Rattle.model.specs.Actions as actions
+use Rattle.model.specs.Flat.{list_in, step_at}
 use Rattle.model.specs.Lists.{all}
 use Rattle.model.specs.Parts.{step_row}
+use Rattle.model.specs.State.{Env}
 use Rattle.model.specs.Steps.{FlatStep}
+use Rattle.model.specs.declared.Point.{Point}
 use Rattle.model.specs.declared.Step.{Step}
 use Rattle.model.specs.declared.Step.TheVariants.{Primitive, Wait, Branch, After, Fail}
 use Rattle.model.proofs.Bools.{both}
 use Rattle.flat.specs.Words.{step_of, steps_in, body_words, list_words, Says}
 use Rattle.exec.specs.Paid.{reach}
-use Rattle.exec.specs.Lists.{is_near, FlatWords, NearWords}
+use Rattle.exec.specs.Lists.{step_in, is_near, FlatWords, NearLists, IsNear}
 
 module _ (k a b c : ℕ) where
   pub is-primitive : k ≡ 0 → Primitive a ≡ step_of (k, (a, (b, c)))
@@ -85,9 +90,18 @@ beyond (x ∷ xs) zero h = absurd (not-suc-le-zero h)
 beyond (x ∷ xs) (suc p) h = beyond xs p (omega arith)
 
 module _ (w : List ℕ) (p : ℕ) where
-  pub step-there : (x : Step) → p * 4 + 4 ≤ length w → x ≡ step_of (row_at w p) → Some x ≡ slice_get (steps_in w) p
+  word : (k : ℕ) → k < 4 → get_or (slice_range w (p * 4) (p * 4 + 4)) k 0 ≡ get_or w (p * 4 + k) 0
+  word k h = get_or-take (p * 4 + 4 - p * 4) (drop (p * 4) w) k 0 (omega arith) ∙ get_or-drop (p * 4) w k 0
+
+  -- the words of a step, as the code reads them
+  pub step-there :
+      (r : List ℕ) (x : Step) → p * 4 + 4 ≤ length w → r ≡ slice_range w (p * 4) (p * 4 + 4) → x ≡ step_of (get_or r 0 0, (get_or r 1 0, (get_or r 2 0, get_or r 3 0)))
+      → Some x ≡ slice_get (steps_in w) p
   unfolding steps_in
-  step-there x h d = ap Some d ∙ map-there step_of (rows_at step_row (length w / 4) w) p (row_at w p) (row-there (length w / 4) p w (omega arith))
+  step-there r x h e d =
+      let z : p * 4 + 0 ≡ p * 4 = omega arith in
+      let row : x ≡ step_of (row_at w p) = rw (← word 1 (omega arith), ← word 2 (omega arith), ← word 3 (omega arith)) (rw (e, word 0 (omega arith), z) at d) in
+      ap Some row ∙ map-there step_of (rows_at step_row (length w / 4) w) p (row_at w p) (row-there (length w / 4) p w (omega arith))
 
   pub step_past : length w < p * 4 + 4 → None ≡ slice_get (steps_in w) p
   step_past h = beyond (steps_in w) p (omega (arith, steps-count w))
@@ -108,12 +122,8 @@ list-few w own (suc p) =
     part true k m = omega (arith, length-take k (drop m w), length-drop m w)
     part false k m = omega arith
 
-pub near-list : (w : List ℕ) (own n : ℕ) (r : List ℕ) → FlatWords w own → r ≡ list_words w own n → NearWords r
-near-list w own n r f e =
-    record {
-      few = omega (arith, list-few w own n, ap length e, f.few);
-      near = ap (λ (l : List ℕ). all is_near (steps_in l)) e ∙ ap (all is_near) (said w own f.steps f.says n) ∙ f.near n;
-    }
+pub near-lists : (w : List ℕ) (own : ℕ) → FlatWords w own → NearLists w own
+near-lists w own f = record { few = f.few; near = λ n. ap (all is_near) (said w own f.steps f.says n) ∙ f.near n }
 
 near-at : (xs : List Step) (p : ℕ) (x : Step) → all is_near xs ≡ true → Some x ≡ slice_get xs p → (p < length xs) × (reach x ≤ 2048)
 near-at [] p x h e = absurd (differ e)
@@ -129,7 +139,14 @@ near-at (y ∷ ys) (suc p) x h e =
     (omega (arith, q.0), q.1)
 
 -- a step that was found stands below 2,048, and leads no further
-pub found-near : (w : List ℕ) (p : ℕ) (x : Step) → NearWords w → Some x ≡ slice_get (steps_in w) p → (p < 2048) × (reach x ≤ 2048)
-found-near w p x f e =
-    let q = near-at (steps_in w) p x f.near e in
-    (omega (arith, q.0, f.few, steps-count w), q.1)
+pub found-near : (part : List ℕ) (own : ℕ) (p : Point) (o : Option Step) → NearLists part own → o ≡ step_in part own p → IsNear p o
+found-near part own p None f e = tt
+found-near part own p (Some x) f e =
+    let w = list_words part own p.list in
+    let q = near-at (steps_in w) p.place x (f.near p.list) e in
+    (omega (arith, q.0, list-few part own p.list, f.few, steps-count w), q.1)
+
+-- the step of the rule
+pub is-step : (part : List ℕ) (own : ℕ) (p : Point) (e : Env) (j : actions.Job) → Says part own (get_or e.set.flat j.index []) → step_in part own p ≡ step_at e.set j.index p
+unfolding step_at
+is-step part own p e j s = ap (λ (xs : List Step). slice_get xs p.place) (said part own (get_or e.set.flat j.index []) s p.list)

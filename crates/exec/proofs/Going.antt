@@ -2,35 +2,39 @@
 use Prim.Native.Nat.{ℕ, zero, suc, ◌+◌, ◌-◌, ◌≤◌, ◌<◌}
 use native.Mathlib.Omega.{arith}
 use native.Mathlib.Nat.{add_assoc, add-zero}
-use mathlib.Core.Path.{◌≡◌, refl, sym, ap, subst, ◌∙◌}
-use mathlib.Core.Bool.{Bool, true, false, not}
-use mathlib.Core.List.{List, [], ◌++◌}
+use mathlib.Core.Path.{◌≡◌, refl, sym, ap, ◌∙◌}
+use mathlib.Core.Bool.{false}
+use mathlib.Core.List.{List, []}
 use Rattle.std.specs.Prelude.{Option, None, Some}
 use lib.Dec.{eqb}
 use borrow.Author.Tests.{ne_eqb}
 use lib.ListN.{length, get_or, length-append}
-use Rattle.std.specs.Prelude.{slice_get}
 use Rattle.model.specs.Actions as actions
 use Rattle.model.specs.Exec as model
-use Rattle.model.specs.Exec.{run_steps, with_step, continue_run, exec, first_reason, ended, unpaid}
-use Rattle.model.specs.Flat.{list_in, step_at}
-use Rattle.model.specs.Lists.{to_list, or_else, present}
+use Rattle.model.specs.Exec.{run_steps, with_step, continue_run, exec, first_reason, unpaid}
+use Rattle.model.specs.Flat.{step_at}
+use Rattle.model.specs.Lists.{to_list}
+use Rattle.model.specs.State as model-state
 use Rattle.model.specs.State.{Env}
 use Rattle.model.specs.Steps.{FlatStep}
 use Rattle.model.specs.declared.Point.{Point}
 use Rattle.model.specs.declared.Step.{Step}
-use Rattle.flat.specs.Words.{steps_in, list_words, Says}
+use Rattle.flat.specs.Words.{Says}
 use Rattle.state.specs.Meaning.{Sound, meaning, base, accepted}
+use Rattle.state.specs.Reasons.{reason_number}
 use Rattle.eval.specs.Answers.{env_of}
 use Rattle.exec.specs.Results.{job_of}
 use Rattle.exec.specs.Paid.{Steps}
 use Rattle.lent_words.specs.PutEffects.{put_effects}
-use Rattle.exec.specs.Runs.{Machine, machine, Finished, finished, finish, take_step, turn_with, turn_of, left_of, Taken, Turned, Finishes, Runs}
+use Rattle.exec.specs.Lists.{step_in}
+use Rattle.exec.specs.Runs.{Taken, Runs}
 use Rattle.exec.specs.declared.Job.{Job}
-use Rattle.exec.specs.Done.{RunDone, RunNow, StepDone}
+use Rattle.exec.specs.declared.RunResult.{RunResult}
+use Rattle.exec.specs.declared.StepResult.{StepResult}
+use Rattle.exec.specs.Done.{step_done, run_done}
 use Rattle.lent_words.proofs.Written.{put-append}
-use Rattle.exec.proofs.Bounds.{accepts-one, keeps-list}
-use Rattle.exec.proofs.Decoded.{said}
+use Rattle.exec.proofs.Bounds.{accepts-one, takes-none}
+use Rattle.exec.proofs.Decoded.{is-step}
 
 -- a step emits at most one effect
 pub few : {A : Type 0} (o : Option A) → length (to_list o) ≤ 1
@@ -52,208 +56,195 @@ pub reason-assoc : (a b c : ℕ) → first_reason a (first_reason b c) ≡ first
 reason-assoc zero b c = refl
 reason-assoc (suc a) b c = simp (some-reason a)
 
--- ---- one turn
-module _ (m : Machine) (d : model.StepResult) where
-  taken-ends : (o : model.RunOutput) → o.vol ≡ d.vol → o.effects ≡ to_list d.effect → o.reason ≡ d.reason → finish m o ≡ finish (take_step d m) (ended 0 d.vol)
-  unfolding finish take_step put_effects
-  taken-ends o v f r = rw (v, f, r, reason-none, add-zero)
+-- ---- a run under way, over the words of its effects, and what came of one
+pub record Machine : Type 0 where
+  pub vol : model-state.Volatile
+  pub point : Point
+  pub reason : ℕ
+  pub count : ℕ
+  pub words : List ℕ
 
-  taken-goes :
-      (o q : model.RunOutput) → o.vol ≡ q.vol → o.effects ≡ to_list d.effect ++ q.effects → o.reason ≡ first_reason d.reason q.reason
-      → finish m o ≡ finish (take_step d m) q
-  unfolding finish take_step
-  taken-goes o q v f r = rw (v, f, r, reason-assoc, put-append, length-append, add_assoc)
+pub record Finished : Type 0 where
+  pub vol : model-state.Volatile
+  pub reason : ℕ
+  pub count : ℕ
+  pub words : List ℕ
 
-module _ (e : Env) (j : actions.Job) (b : ℕ) (m : Machine) where
-  rest_of : Step → model.RunOutput
-  rest_of x = let d = exec e j b m.point x m.vol in continue_run x d d.next (λ sp v. run_steps b e j sp v)
+abbrev pub machine : List ℕ → Point → RunResult → List ℕ → Machine
+machine v p r w = record { vol = meaning v; point = p; reason = reason_number r.reason; count = r.count; words = w }
 
-  -- where the step leads
-  step_left : (x : Step) (d : model.StepResult) (n : Option Point) → d.next ≡ n → finish m (continue_run x d n (λ sp v. run_steps b e j sp v)) ≡ left_of (not (present n)) b e j (take_step d m)
-  unfolding left_of continue_run take_step
-  step_left x d None h = taken-ends m d _ refl refl refl
-  step_left x d (Some sp) h = taken-goes m d _ (run_steps b e j sp d.vol) refl refl refl ∙ ap (λ (o : Option Point). finish (take_step d m) (run_steps b e j (or_else m.point o) d.vol)) (sym h)
+abbrev pub finished : List ℕ → RunResult → List ℕ → Finished
+finished v r w = record { vol = meaning v; reason = reason_number r.reason; count = r.count; words = w }
 
-  with-left : (o : Option Step) → finish m (with_step o m.vol rest_of) ≡ left_of (turn_with o e j b m).ended b e j (turn_with o e j b m)
-  unfolding left_of with_step turn_with rest_of finish take_step
-  with-left None = refl
-  with-left (Some x) = let d = exec e j b m.point x m.vol in step_left x d d.next refl
+-- no step is left, or none is paid, for this reason
+abbrev pub stopped : ℕ → Machine → Finished
+stopped reason m = record { vol = m.vol; reason = first_reason m.reason reason; count = m.count; words = m.words }
 
-  pub left-turn : left_of false (suc b) e j m ≡ left_of (turn_of e j b m).ended b e j (turn_of e j b m)
-  unfolding left_of run_steps rest_of
-  left-turn = with-left (step_at e.set j.index m.point)
+-- a run under way goes on to this output
+unfoldable pub finish : Machine → model.RunOutput → Finished
+finish m o =
+    record {
+      vol = o.vol;
+      reason = first_reason m.reason o.reason;
+      count = m.count + length o.effects;
+      words = put_effects m.words m.count o.effects;
+    }
 
-  -- no budget: a step that is left is not paid
-  pub left-unpaid : (reason : ℕ) → reason ≡ first_reason m.reason (unpaid (step_at e.set j.index m.point)) → ◌≡◌ {A = Finished} (record { vol = m.vol; reason = reason; count = m.count; words = m.words }) (left_of false 0 e j m)
-  unfolding left_of run_steps finish put_effects
-  left-unpaid reason h = rw (h, add-zero)
+-- what is left of a run, with b steps in the budget
+abbrev pub left_of : ℕ → Env → actions.Job → Machine → Finished
+left_of b e j m = finish m (run_steps b e j m.point m.vol)
 
-  pub left_ended : ◌≡◌ {A = Finished} (record { vol = m.vol; reason = m.reason; count = m.count; words = m.words }) (left_of true b e j m)
-  unfolding left_of finish put_effects
-  left_ended = rw (reason-none, add-zero)
+-- a paid step is taken over, and the run stands at p
+unfoldable pub take_step : model.StepResult → Point → Machine → Machine
+take_step d p m =
+    record {
+      vol = d.vol;
+      point = p;
+      reason = first_reason m.reason d.reason;
+      count = m.count + length (to_list d.effect);
+      words = put_effects m.words m.count (to_list d.effect);
+    }
 
--- ---- the code's turn
-turn_at :
-    (e : Env) (j : actions.Job) (b : ℕ) (m : Machine) (x : Step) → Some x ≡ slice_get (list_in (get_or e.set.flat j.index []) m.point.list) m.point.place
-    → take_step (exec e j b m.point x m.vol) m ≡ turn_of e j b m
-unfolding turn_with step_at
-turn_at e j b m x o = rw (← o)
+module _ (e : Env) (j : actions.Job) (m : Machine) where
+  -- no step is left
+  past : (b : ℕ) → None ≡ step_at e.set j.index m.point → stopped 0 m ≡ left_of b e j m
+  unfolding run_steps with_step finish put_effects
+  past zero h = rw (← h, add-zero)
+  past (suc b) h = rw (← h, add-zero)
 
-taken_is : (run r : RunNow) (w exit : List ℕ) (d : StepDone) (v : List ℕ) (x : model.StepResult) → Taken run w d r exit → Steps v d x → machine r exit ≡ take_step x (machine run w)
+  -- no step is paid
+  spent : stopped (unpaid (step_at e.set j.index m.point)) m ≡ left_of 0 e j m
+  unfolding run_steps finish put_effects
+  spent = rw add-zero
+
+  module _ (b : ℕ) (x : Step) (at : Some x ≡ step_at e.set j.index m.point) where
+    ends : None ≡ (exec e j b m.point x m.vol).next → stopped 0 (take_step (exec e j b m.point x m.vol) m.point m) ≡ left_of (suc b) e j m
+    unfolding run_steps with_step continue_run finish take_step
+    ends h = rw (← at, ← h, reason-none)
+
+    goes : (p : Point) → Some p ≡ (exec e j b m.point x m.vol).next → left_of b e j (take_step (exec e j b m.point x m.vol) p m) ≡ left_of (suc b) e j m
+    unfolding run_steps with_step continue_run finish take_step
+    goes p h = rw (← at, ← h, reason-assoc, put-append, length-append, add_assoc)
+
+-- ---- the code's step
+taken_is :
+    (v v' : List ℕ) (p q : Point) (run r : RunResult) (w exit : List ℕ) (d : StepResult) (x : model.StepResult)
+    → Taken run w d r exit → Steps v (step_done v' d) x → machine v' q r exit ≡ take_step x q (machine v p run w)
 unfolding take_step
-taken_is run r w exit d v x t s = rw (t.vol, t.point, t.reason, t.count, t.written, t.ended, s.state.says, s.effect, s.reason, s.next)
-
-module _ (snapshot image list : List ℕ) (job : Job) (left : ℕ) (run : RunNow) (words : List ℕ) (found : Option Step) (at : found ≡ slice_get (steps_in list) run.point.place) where
-  pub turn-ends : found ≡ None → Sound run.vol → Turned snapshot image list job left run words (record { vol = run.vol; point = run.point; reason = run.reason; count = run.count; ended = true }) words
-  unfolding turn_with step_at
-  turn-ends n s =
-      record {
-        says = λ flat l.
-            let o : None ≡ slice_get (list_in (get_or flat job.index []) run.point.list) run.point.place = sym n ∙ at ∙ ap (λ (xs : List Step). slice_get xs run.point.place) l in
-            rw (← o);
-        sound = s;
-        based = refl;
-        accepted = omega arith;
-        count = omega arith;
-        same_list = refl;
-      }
-
-  pub turn-steps :
-      (x : Step) (d : StepDone) (r : RunNow) (exit : List ℕ) → found ≡ Some x
-      → ((flat : List (List FlatStep)) → Steps run.vol d (exec (env_of snapshot image flat) (job_of job) left run.point x (meaning run.vol)))
-      → Taken run words d r exit → Turned snapshot image list job left run words r exit
-  turn-steps x d r exit n s t =
-      record {
-        says = λ flat l. steps flat l;
-        sound = subst Sound (sym t.vol) (s []).state.sound;
-        based = ap (λ (v : List ℕ). base v) t.vol ∙ (s []).state.based;
-        accepted = omega (arith, ap (λ (v : List ℕ). accepted v) t.vol, accepts-one (env_of snapshot image []) (job_of job) left run.point x run.vol d (s []));
-        count = omega (arith, t.count, few d.effect);
-        same_list = ap (λ (p : Point). p.list) t.point ∙ keeps-list (env_of snapshot image []) (job_of job) left run.point x run.vol d (s []);
-      }
-    where
-      steps : (flat : List (List FlatStep)) → steps_in list ≡ list_in (get_or flat job.index []) run.point.list → machine r exit ≡ turn_of (env_of snapshot image flat) (job_of job) left (machine run words)
-      steps flat l =
-          let o : Some x ≡ slice_get (list_in (get_or flat job.index []) run.point.list) run.point.place = sym n ∙ at ∙ ap (λ (xs : List Step). slice_get xs run.point.place) l in
-          taken_is run r words exit d run.vol _ t (s flat) ∙ turn_at (env_of snapshot image flat) (job_of job) left (machine run words) x o
+taken_is v v' p q run r w exit d x t s = rw (t.reason, t.count, t.written, s.state.says, s.effect, s.reason)
 
 -- ---- the loop
-pub record Going (snapshot image part : List ℕ) (own : ℕ) (job : Job) (budget : ℕ) (run₀ : RunNow) (w₀ : List ℕ) (run : RunNow) (w : List ℕ) (left : ℕ) : Type 0 where
+pub record Going (snapshot image part : List ℕ) (own : ℕ) (job : Job) (budget : ℕ) (from : Machine) (v₀ v : List ℕ) (point : Point) (run : RunResult) (w : List ℕ) (left : ℕ) : Type 0 where
   pub says :
       (flat : List (List FlatStep)) → Says part own (get_or flat job.index [])
-      → left_of run.ended left (env_of snapshot image flat) (job_of job) (machine run w) ≡ left_of false budget (env_of snapshot image flat) (job_of job) (machine run₀ w₀)
-  pub sound : Sound run.vol
-  pub based : base run.vol ≡ base run₀.vol
-  pub accepts : accepted run.vol + left ≤ accepted run₀.vol + budget
-  pub counts : run.count + left ≤ run₀.count + budget
-  pub same_list : run.point.list ≡ run₀.point.list
-  pub long : length w ≡ length w₀
+      → left_of left (env_of snapshot image flat) (job_of job) (machine v point run w) ≡ left_of budget (env_of snapshot image flat) (job_of job) from
+  pub sound : Sound v
+  pub based : base v ≡ base v₀
+  pub accepts : accepted v + left ≤ accepted v₀ + budget
+  pub grows : from.count ≤ run.count
+  pub counts : run.count + left ≤ from.count + budget
+  pub last : (meaning v).last_number ≡ from.vol.last_number
+  pub long : length w ≡ length from.words
 
-module _
-    (snapshot image part : List ℕ) (own : ℕ) (list : List ℕ) (job : Job) (budget : ℕ) (run₀ : RunNow) (w₀ : List ℕ) (run : RunNow) (w : List ℕ) (left : ℕ)
-    (inv : Going snapshot image part own job budget run₀ w₀ run w left) (of : list ≡ list_words part own run₀.point.list)
-  where
-    here : (flat : List (List FlatStep)) → Says part own (get_or flat job.index []) → steps_in list ≡ list_in (get_or flat job.index []) run.point.list
-    here flat e = ap steps_in of ∙ said part own (get_or flat job.index []) e run₀.point.list ∙ ap (list_in (get_or flat job.index [])) (sym inv.same_list)
+module _ (snapshot image part : List ℕ) (own : ℕ) (job : Job) (budget : ℕ) (v₀ : List ℕ) (start : Point) (count : ℕ) (w₀ : List ℕ) where
+  abbrev from : Machine
+  from = machine v₀ start (record { reason = None; count = count }) w₀
 
-    pub again : (r : RunNow) (exit : List ℕ) → 0 < left → run.ended ≡ false → length exit ≡ length w → Turned snapshot image list job (left - 1) run w r exit → Going snapshot image part own job budget run₀ w₀ r exit (left - 1)
-    again r exit h n l t =
-        record {
-          says = λ flat e.
-              ap (λ (m : Machine). left_of m.ended (left - 1) (env_of snapshot image flat) (job_of job) m) (t.says flat (here flat e))
-              ∙ sym (left-turn (env_of snapshot image flat) (job_of job) (left - 1) (machine run w))
-              ∙ ap (λ (k : ℕ). left_of false k (env_of snapshot image flat) (job_of job) (machine run w)) (sym one)
-              ∙ ap (λ (z : Bool). left_of z left (env_of snapshot image flat) (job_of job) (machine run w)) (sym n)
-              ∙ inv.says flat e;
-          sound = t.sound;
-          based = t.based ∙ inv.based;
-          accepts = omega (arith, t.accepted, inv.accepts);
-          counts = omega (arith, t.count, inv.counts);
-          same_list = t.same_list ∙ inv.same_list;
-          long = l ∙ inv.long;
-        }
-      where
-        one : left ≡ suc (left - 1)
-        one = omega arith
-
-    -- the end: the run has ended, or the budget is spent
-    module _
-        (r : RunDone) (fresh : run₀.reason ≡ 0) (f : Finishes list run r)
-        (spent : (e : Env) (m : Machine) → left_of run.ended 0 e (job_of job) m ≡ left_of run.ended left e (job_of job) m)
-      where
-        whole : (flat : List (List FlatStep)) → Says part own (get_or flat job.index []) → finished r w ≡ left_of false budget (env_of snapshot image flat) (job_of job) (machine run₀ w₀)
-        whole flat e = f.says w (env_of snapshot image flat) (job_of job) (here flat e) ∙ spent (env_of snapshot image flat) (machine run w) ∙ inv.says flat e
-
-        stands : Sound r.vol
-        stands = subst Sound (sym f.same) inv.sound
-
-        counts-on : base r.vol ≡ base run₀.vol
-        counts-on = ap (λ (u : List ℕ). base u) f.same ∙ inv.based
-
-        pub ends : Runs snapshot image part own job run₀.vol run₀.point budget run₀.count w₀ r w
-        unfolding left_of finish
-        ends =
-            record {
-              says = λ flat e.
-                  let h = whole flat e in (
-                    record { says = ap (λ (x : Finished). x.vol) h; sound = stands; based = counts-on },
-                    ap (λ (x : Finished). x.reason) h ∙ rw fresh,
-                    ap (λ (x : Finished). x.count) h,
-                    ap (λ (x : Finished). x.words) h,
-                  );
-              sound = stands;
-              based = counts-on;
-              accepted = omega (arith, ap (λ (u : List ℕ). accepted u) f.same, inv.accepts);
-              counted = omega (arith, f.counted, inv.counts);
-            }
-
-pub spent-ended : (t : Bool) (left : ℕ) (e : Env) (j : actions.Job) (m : Machine) → t ≡ true → left_of t 0 e j m ≡ left_of t left e j m
-unfolding left_of
-spent-ended t left e j m h = rw h
-
-pub spent-budget : (t : Bool) (left : ℕ) (e : Env) (j : actions.Job) (m : Machine) → left ≤ 0 → left_of t 0 e j m ≡ left_of t left e j m
-spent-budget t left e j m h = let z : left ≡ 0 = omega arith in rw z
-
--- ---- the end of the code's run
-module _ (list : List ℕ) (run : RunNow) (r : RunDone) (same : r.vol ≡ run.vol) (counted : r.count ≡ run.count) where
-  pub finish-ended : run.ended ≡ true → r.reason ≡ run.reason → Finishes list run r
-  finish-ended h q =
+  -- what a whole run comes to
+  runs :
+      (v : List ℕ) (r : RunResult) (w : List ℕ) → Sound v → base v ≡ base v₀ → accepted v ≤ accepted v₀ + budget → count ≤ r.count → r.count ≤ count + budget → (meaning v).last_number ≡ (meaning v₀).last_number
+      → ((flat : List (List FlatStep)) → Says part own (get_or flat job.index []) → finished v r w ≡ left_of budget (env_of snapshot image flat) (job_of job) from)
+      → Runs snapshot image part own job v₀ start budget count w₀ (run_done v r) w
+  unfolding finish
+  runs v r w s b a g n l h =
       record {
-        says = λ w e j l. rw (same, counted, q) (left_ended e j 0 (machine run w) ∙ ap (λ (t : Bool). left_of t 0 e j (machine run w)) (sym h));
-        same = same;
-        counted = counted;
+        says = λ flat e.
+            let f = h flat e in (
+              record { says = ap (λ (x : Finished). x.vol) f; sound = s; based = b },
+              ap (λ (x : Finished). x.reason) f,
+              ap (λ (x : Finished). x.count) f,
+              ap (λ (x : Finished). x.words) f,
+            );
+        sound = s;
+        based = b;
+        accepted = a;
+        grows = g;
+        counted = n;
+        last = l;
       }
 
-  module _ (found : Option Step) (at : found ≡ slice_get (steps_in list) run.point.place) (goes : run.ended ≡ false) where
-    pub finish-unpaid : ((o : Option Step) → found ≡ o → r.reason ≡ first_reason run.reason (unpaid o)) → Finishes list run r
-    unfolding step_at
-    finish-unpaid q =
-        record {
-          says = λ w e j l.
-              rw (same, counted)
-              (left-unpaid e j 0 (machine run w) r.reason (q _ (at ∙ ap (λ (xs : List Step). slice_get xs run.point.place) l))
-              ∙ ap (λ (t : Bool). left_of t 0 e j (machine run w)) (sym goes));
-          same = same;
-          counted = counted;
-        }
+  module _ (v : List ℕ) (point : Point) (run : RunResult) (w : List ℕ) (left : ℕ) (inv : Going snapshot image part own job budget from v₀ v point run w left) where
+    pub runs-past : None ≡ step_in part own point → Runs snapshot image part own job v₀ start budget count w₀ (run_done v run) w
+    runs-past h =
+        runs v run w inv.sound inv.based (omega (arith, inv.accepts)) inv.grows (omega (arith, inv.counts)) inv.last
+        (λ flat s.
+        let e = env_of snapshot image flat in
+        ap (λ (n : ℕ). record { vol = meaning v; reason = n; count = run.count; words = w }) (sym (reason-none (reason_number run.reason)))
+        ∙ past e (job_of job) (machine v point run w) left (h ∙ is-step part own point e (job_of job) s)
+        ∙ inv.says flat s)
 
--- where no step is left, and where one is
-pub reason-past : (found : Option Step) (a b : ℕ) → found ≡ None → b ≡ a → (o : Option Step) → found ≡ o → b ≡ first_reason a (unpaid o)
-reason-past found a b n h o e = h ∙ sym (reason-none a) ∙ ap (λ (x : Option Step). first_reason a (unpaid x)) (sym n ∙ e)
+    pub runs-spent : (reason : Option Step) (r : RunResult) → left ≤ 0 → reason ≡ step_in part own point → reason_number r.reason ≡ first_reason (reason_number run.reason) (unpaid reason) → r.count ≡ run.count
+        → Runs snapshot image part own job v₀ start budget count w₀ (run_done v r) w
+    runs-spent o r z h n c =
+        runs v r w inv.sound inv.based (omega (arith, inv.accepts)) (omega (arith, inv.grows, c)) (omega (arith, inv.counts, c)) inv.last
+        (λ flat s.
+        let e = env_of snapshot image flat in
+        let none_left : 0 ≡ left = omega arith in
+        rw (n, c) (ap (λ (x : Option Step). stopped (unpaid x) (machine v point run w)) (h ∙ is-step part own point e (job_of job) s))
+        ∙ spent e (job_of job) (machine v point run w)
+        ∙ ap (λ (b : ℕ). left_of b e (job_of job) (machine v point run w)) none_left
+        ∙ inv.says flat s)
 
-pub reason-left : (found : Option Step) (x : Step) (a b : ℕ) → found ≡ Some x → b ≡ first_reason a 2 → (o : Option Step) → found ≡ o → b ≡ first_reason a (unpaid o)
-reason-left found x a b n h o e = h ∙ ap (λ (y : Option Step). first_reason a (unpaid y)) (sym n ∙ e)
+    module _
+        (x : Step) (here : Some x ≡ step_in part own point) (paid : 0 < left) (d : StepResult) (v' : List ℕ)
+        (steps : (flat : List (List FlatStep)) → Steps v (step_done v' d) (exec (env_of snapshot image flat) (job_of job) (left - 1) point x (meaning v)))
+        (r : RunResult) (exit : List ℕ) (taken : Taken run w d r exit)
+      where
+        one : suc (left - 1) ≡ left
+        one = omega arith
 
--- ---- taking a step over
-module _ (sp : Point) (n : Option Point) where
-  pub point-ends : n ≡ None → sp ≡ or_else sp n
-  point-ends h = rw h
+        stays : base v' ≡ base v₀
+        stays = (steps []).state.based ∙ inv.based
 
-  pub ended-ends : n ≡ None → true ≡ not (present n)
-  ended-ends h = rw h
+        accepts : accepted v' ≤ suc (accepted v)
+        accepts = accepts-one (env_of snapshot image []) (job_of job) (left - 1) point x v (step_done v' d) (steps [])
 
-  pub point_at : (to : Point) → n ≡ Some to → to ≡ or_else sp n
-  point_at to h = rw h
+        counts : r.count ≤ suc run.count
+        counts = omega (arith, taken.count, few d.effect)
 
-  pub ended_at : (to : Point) → n ≡ Some to → false ≡ not (present n)
-  ended_at to h = rw h
+        grows : count ≤ r.count
+        grows = omega (arith, taken.count, inv.grows)
+
+        last : (meaning v').last_number ≡ (meaning v₀).last_number
+        last = takes-none (env_of snapshot image []) (job_of job) (left - 1) point x v (step_done v' d) (steps []) ∙ inv.last
+
+        pub runs-ended : None ≡ d.next → Runs snapshot image part own job v₀ start budget count w₀ (run_done v' r) exit
+        runs-ended h =
+            runs v' r exit (steps []).state.sound stays (omega (arith, accepts, inv.accepts)) grows (omega (arith, counts, inv.counts)) last
+            (λ flat s.
+            let e = env_of snapshot image flat in
+            let m = machine v point run w in
+            ap (λ (n : ℕ). record { vol = meaning v'; reason = n; count = r.count; words = exit }) (sym (reason-none (reason_number r.reason)))
+            ∙ ap (stopped 0) (taken_is v v' point point run r w exit d _ taken (steps flat))
+            ∙ ends e (job_of job) m (left - 1) x (here ∙ is-step part own point e (job_of job) s) (h ∙ (steps flat).next)
+            ∙ ap (λ (b : ℕ). left_of b e (job_of job) m) one
+            ∙ inv.says flat s)
+
+        pub goes-on : (p : Point) → Some p ≡ d.next → length exit ≡ length w → Going snapshot image part own job budget from v₀ v' p r exit (left - 1)
+        goes-on p h l =
+            record {
+              says = λ flat s.
+                  let e = env_of snapshot image flat in
+                  let m = machine v point run w in
+                  ap (left_of (left - 1) e (job_of job)) (taken_is v v' point p run r w exit d _ taken (steps flat))
+                  ∙ goes e (job_of job) m (left - 1) x (here ∙ is-step part own point e (job_of job) s) p (h ∙ (steps flat).next)
+                  ∙ ap (λ (b : ℕ). left_of b e (job_of job) m) one
+                  ∙ inv.says flat s;
+              sound = (steps []).state.sound;
+              based = stays;
+              accepts = omega (arith, accepts, inv.accepts);
+              grows = grows;
+              counts = omega (arith, counts, inv.counts);
+              last = last;
+              long = l ∙ inv.long;
+            }

@@ -7,6 +7,5 @@ pub mod Decoded
 pub mod Bounds
 pub mod Going
 pub mod DryLaws
-pub mod DryQueue
+pub mod Ring
 pub mod DryGoing
-pub mod DryShape

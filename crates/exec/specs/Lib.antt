@@ -1,7 +1,9 @@
 -- What the contracts of `exec` cite.
+pub mod Kinds
 pub mod Done
 pub mod Results
 pub mod Paid
 pub mod Lists
+pub mod Queue
 pub mod Runs
 pub mod DryRuns

@@ -1,6 +1,6 @@
 -- A rule's lists as words.
-use Rattle.std.specs.Prelude.{ℕ, ◌≤◌, ◌≡◌, Bool, true, List, leb, length}
-use Rattle.std.specs.Prelude.{Option}
+use Rattle.std.specs.Prelude.{ℕ, ◌<◌, ◌≤◌, ◌≡◌, Bool, true, List, leb, length}
+use Rattle.std.specs.Prelude.{Option, None, Some}
 use Rattle.std.specs.Prelude.{slice_get}
 use Rattle.model.specs.Flat.{list_in}
 use Rattle.model.specs.Lists.{all}
@@ -25,7 +25,12 @@ pub record FlatWords (w : List ℕ) (own : ℕ) : Type 0 where
   pub few : length w ≤ 8192
   pub near : (n : ℕ) → all is_near (list_in steps n) ≡ true
 
--- the same of the words of one list
-pub record NearWords (w : List ℕ) : Type 0 where
+-- what the runner asks of them
+pub record NearLists (w : List ℕ) (own : ℕ) : Type 0 where
   pub few : length w ≤ 8192
-  pub near : all is_near (steps_in w) ≡ true
+  pub near : (n : ℕ) → all is_near (steps_in (list_words w own n)) ≡ true
+
+-- a step that stands at a point of flat steps is near the start of its list, and leads no further than a list is long
+abbrev pub IsNear : Point → Option Step → Type 0
+IsNear p None = Unit {0}
+IsNear p (Some x) = (p.place < 2048) × (reach x ≤ 2048)

@@ -11,8 +11,7 @@ use Rattle.model.specs.Eval.{value_at}
 use Rattle.state.specs.Meaning.{Sound, Means, meaning, base}
 use Rattle.eval.specs.Answers.{env_of}
 use Rattle.exec.specs.declared.Job.{Job}
-use Rattle.exec.specs.declared.PrimResult.{PrimResult}
-use Rattle.exec.specs.Done.{ActionDone, action_done}
+use Rattle.exec.specs.Done.{PrimResult, ActionDone, action_done}
 
 abbrev pub job_of : Job → model.Job
 job_of j = record { rule = j.rule; index = j.index; hold = j.hold; trigger = j.trigger; dry = j.dry; number = j.number }

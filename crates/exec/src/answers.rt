@@ -1,38 +1,44 @@
-// What an action answers: `Ok(Some(effect))`, `Ok(None)`, `Err(Unevaluable)`.
+// What an action answers: an effect, none, or that it cannot be evaluated.
 ghost use Rattle.model.specs.Actions as model_actions;
 ghost use Rattle.state.specs.Meaning.{Sound, meaning};
 ghost use Rattle.exec.specs.Done.{action_done};
+ghost use Rattle.exec.specs.Kinds.{kind_number};
 ghost use Rattle.exec.specs.Results.{AnswersOnly, Does};
 
-use crate::PrimResult;
+use crate::{PrimResult, Unevaluable};
+use counters::Counter;
 use model::Effect;
 
-pub fn emits(kind: u32, a: u32, b: u32, c: u32, d: u32) -> PrimResult
-    ensures { AnswersOnly (λ s. model_actions.emits s kind a b c d) result }
-{
-    let x = Effect { kind, a, b, c, d };
-    PrimResult {
-        effect: Some(x),
-        reason: 0,
-    }
+// The kinds of effects: document 01, "Outcomes and effects".
+#[derive(Clone, Copy)]
+pub enum EffectKind {
+    Light = 0,
+    SceneRecall = 1,
+    SceneApply = 2,
+    HclResume = 3,
+    HclHold = 4,
+    HclSchedule = 5,
+    InputFeedback = 6,
+    PanelSelect = 7,
+    CancelHold = 8,
+    CatchMovement = 9,
+    MqttPublish = 10,
+    Log = 11,
+    Level = 12,
 }
 
-pub fn no_effect() -> PrimResult
-    ensures { AnswersOnly model_actions.no_effect result }
+pub fn emits(kind: EffectKind, a: u32, b: u32, c: u32, d: u32) -> PrimResult
+    ensures { AnswersOnly (λ s. model_actions.emits s (kind_number kind) a b c d) result }
 {
-    PrimResult {
-        effect: None,
-        reason: 0,
-    }
+    let kind = kind as u32;
+    Ok(Some(Effect { kind, a, b, c, d }))
 }
 
+// It is counted.
 pub fn fails(v: &mut [u32]) -> PrimResult
     requires { Sound v.old }
     ensures { Does v.old (action_done v.new result) (model_actions.fails (meaning v.old).rest) }
 {
-    state::bump(v, counters::ACTIONS_FAILED, 1);
-    PrimResult {
-        effect: None,
-        reason: state::reasons::CONDITION_UNEVALUABLE,
-    }
+    state::bump(v, Counter::ActionsFailed, 1);
+    Err(Unevaluable)
 }

@@ -9,13 +9,36 @@ mod effects;
 mod lights;
 mod lists;
 mod places;
+mod queue;
 mod rules;
 pub mod runs;
 pub mod steps;
 mod timers;
 mod variables;
 
+ghost use Rattle.image.specs.Sized.{Sized};
+ghost use Rattle.exec.specs.Lists.{NearLists};
+
 use model::{Effect, Point};
+use state::reasons::Reason;
+
+// What a call is given: the words of the snapshot and of the image.
+#[derive(Clone, Copy)]
+pub struct Env<'a> {
+    pub snapshot: &'a [u32],
+    pub image: &'a [u32],
+
+    ghost sized: { Sized image.now },
+}
+
+// A rule's part of the flat steps, where its own list stands behind `own` steps.
+#[derive(Clone, Copy)]
+pub struct FlatRule<'a> {
+    pub part: &'a [u32],
+    pub own: usize,
+
+    ghost near: { NearLists part.now own },
+}
 
 // What a run knows of its rule: name, place in the image, hold_hcl; and the trigger and the activation number for the outcome, 0 for none.
 #[derive(Clone, Copy)]
@@ -28,45 +51,24 @@ pub struct Job {
     pub number: u64,
 }
 
-// What came of an action: its effect, the reason that it notes.
+// An action that cannot be evaluated.
 #[derive(Clone, Copy)]
-pub struct PrimResult {
-    pub effect: Option<Effect>,
-    pub reason: u32,
-}
+pub struct Unevaluable;
+
+// What came of an action: at most one effect.
+pub type PrimResult = Result<Option<Effect>, Unevaluable>;
 
 // What came of one paid step: at most one effect, and where the run goes on, if it does.
 #[derive(Clone, Copy)]
 pub struct StepResult {
     pub effect: Option<Effect>,
-    pub reason: u32,
+    pub reason: Option<Reason>,
     pub next: Option<Point>,
 }
 
-// A run under way: `count` effects are written, or would be.
-#[derive(Clone, Copy)]
-pub struct Run {
-    pub point: Point,
-    pub reason: u32,
-    pub count: u32,
-    pub ended: bool,
-}
-
-// What came of a run.
+// What came of a run so far: `count` effects are written, or would be.
 #[derive(Clone, Copy)]
 pub struct RunResult {
-    pub reason: u32,
+    pub reason: Option<Reason>,
     pub count: u32,
-}
-
-// A dry run under way. `bodies` has, from `first` up to `queued`, the lists of the bodies that are still to come.
-#[derive(Clone, Copy)]
-pub struct DryRun {
-    pub point: Point,
-    pub bodies: [u32; 256],
-    pub first: usize,
-    pub queued: usize,
-    pub reason: u32,
-    pub count: u32,
-    pub ended: bool,
 }

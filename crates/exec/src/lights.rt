@@ -9,18 +9,10 @@ ghost use Rattle.state.specs.Meaning.{Sound, meaning};
 ghost use Rattle.exec.specs.Done.{action_done};
 ghost use Rattle.exec.specs.Results.{Performs, PerformsIn, LevelAt, Dims};
 
-use crate::answers::{emits, fails, no_effect};
-use crate::{Job, PrimResult};
+use crate::answers::{EffectKind, emits, fails};
+use crate::{Env, Job, PrimResult};
 use eval::Number;
 use eval::values::value_at;
-
-const LIGHT: u32 = 0;
-
-const SCENE_RECALL: u32 = 1;
-
-const SCENE_APPLY: u32 = 2;
-
-const LEVEL: u32 = 12;
 
 // The table of pool words.
 const POOL: u32 = 7;
@@ -32,20 +24,27 @@ fn hold_or(hold: u32, rule: u32) -> u32
     if hold == 2 { rule } else { hold }
 }
 
-pub fn light(v: &mut [u32], job: Job, target: u32, hold: u32, answer: u32, verb: u32) -> PrimResult
+pub fn prim_light(
+    v: &mut [u32],
+    job: Job,
+    target: u32,
+    hold: u32,
+    answer: u32,
+    verb: u32,
+) -> PrimResult
     requires { Sound v.old }
     ensures { Performs job v.old (Light target hold answer verb) (action_done v.new result) }
 {
     if answer == 0 {
-        return emits(LIGHT, target, verb, hold_or(hold, job.hold), 0);
+        return emits(EffectKind::Light, target, verb, hold_or(hold, job.hold), 0);
     }
     if answer == 1 {
-        return no_effect();
+        return Ok(None);
     }
     fails(v)
 }
 
-pub fn recall(
+pub fn prim_recall(
     v: &mut [u32],
     job: Job,
     answer: u32,
@@ -57,17 +56,17 @@ pub fn recall(
     ensures { Performs job v.old (Recall answer scene mark target) (action_done v.new result) }
 {
     if answer == 0 {
-        return emits(SCENE_RECALL, scene, mark, target, job.hold);
+        return emits(EffectKind::SceneRecall, scene, mark, target, job.hold);
     }
     fails(v)
 }
 
-pub fn apply(v: &mut [u32], job: Job, answer: u32, scene: u32) -> PrimResult
+pub fn prim_apply(v: &mut [u32], job: Job, answer: u32, scene: u32) -> PrimResult
     requires { Sound v.old }
     ensures { Performs job v.old (Apply answer scene) (action_done v.new result) }
 {
     if answer == 0 {
-        return emits(SCENE_APPLY, scene, job.hold, 0, 0);
+        return emits(EffectKind::SceneApply, scene, job.hold, 0, 0);
     }
     fails(v)
 }
@@ -77,14 +76,11 @@ fn cycle_place(v: &[u32], index: u32, count: u32) -> u32
     requires { Sound v.now × (0 < count) }
     ensures { (result ≡ or_else 0 (cycle_pos_at (meaning v.now).rest index) % count) × (result < count) }
 {
-    match state::rules::cycle_pos(v, index as usize) {
-        Some(at) => at % count,
-        None => 0,
-    }
+    state::rules::cycle_pos(v, index as usize).unwrap_or(0) % count
 }
 
 // The sum saturates: past the end of the image there is no word, however far.
-pub fn cycle(image: &[u32], v: &mut [u32], job: Job, first: u32, count: u32) -> PrimResult
+pub fn prim_cycle(image: &[u32], v: &mut [u32], job: Job, first: u32, count: u32) -> PrimResult
     requires { Sized image.now × Sound v.old }
     ensures { (snapshot : List ℕ) → PerformsIn snapshot image.now job v.old (Cycle first count) (action_done v.new result) }
 {
@@ -95,10 +91,10 @@ pub fn cycle(image: &[u32], v: &mut [u32], job: Job, first: u32, count: u32) -> 
     let place = words::saturating_add_u32(first, at);
     let scene = image::layout::word_at(image, POOL, place, 0);
     if job.dry {
-        return emits(SCENE_RECALL, scene, 0, 0, job.hold);
+        return emits(EffectKind::SceneRecall, scene, 0, 0, job.hold);
     }
     state::rules::set_cycle_pos(v, job.index as usize, (at + 1) % count);
-    emits(SCENE_RECALL, scene, 0, 0, job.hold)
+    emits(EffectKind::SceneRecall, scene, 0, 0, job.hold)
 }
 
 // A level, or none.
@@ -107,35 +103,34 @@ fn dim(v: &mut [u32], job: Job, target: u32, hold: u32, level: Option<u32>) -> P
     ensures { Dims job v.old target hold level (action_done v.new result) }
 {
     match level {
-        Some(n) => emits(LEVEL, target, n, hold_or(hold, job.hold), 0),
+        Some(n) => emits(EffectKind::Level, target, n, hold_or(hold, job.hold), 0),
         None => fails(v),
     }
 }
 
 // The level of value i, where it can be evaluated and has one.
-fn level_at(snapshot: &[u32], image: &[u32], v: &[u32], i: u32) -> Option<u32>
-    requires { Sized image.now × Sound v.now }
-    ensures { LevelAt snapshot.now image.now (meaning v.now).rest i result }
+fn level_at(env: &Env, v: &[u32], i: u32) -> Option<u32>
+    requires { Sound v.now }
+    ensures { LevelAt env.now.snapshot.now env.now.image.now (meaning v.now).rest i result }
 {
-    match value_at(snapshot, image, v, i) {
+    match value_at(env.snapshot, env.image, v, i) {
         Number::Value(n) => curve::level_of(n),
         Number::Unevaluable => None,
     }
 }
 
 // A value in parts per million of full light.
-pub fn percent(
-    snapshot: &[u32],
-    image: &[u32],
+pub fn prim_percent(
+    env: &Env,
     v: &mut [u32],
     job: Job,
     target: u32,
     hold: u32,
     value: u32,
 ) -> PrimResult
-    requires { Sized image.now × Sound v.old }
-    ensures { PerformsIn snapshot.now image.now job v.old (Percent target hold value) (action_done v.new result) }
+    requires { Sound v.old }
+    ensures { PerformsIn env.now.snapshot.now env.now.image.now job v.old (Percent target hold value) (action_done v.new result) }
 {
-    let level = level_at(snapshot, image, v, value);
+    let level = level_at(env, v, value);
     dim(v, job, target, hold, level)
 }

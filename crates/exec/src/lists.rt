@@ -1,9 +1,11 @@
-// The steps of a list as words, four words a step.
-ghost use Rattle.std.specs.Prelude.{◌≡◌};
-ghost use Rattle.std.specs.Prelude.{slice_get};
+// The steps of a rule's lists as words, four words a step.
+ghost use Rattle.std.specs.Prelude.{◌≡◌, slice_get};
 ghost use Rattle.flat.specs.Words.{step_of, steps_in};
+ghost use Rattle.exec.specs.Lists.{step_in, IsNear};
 
-use model::Step;
+use crate::FlatRule;
+use flat::body::list_of;
+use model::{Point, Step};
 
 fn decode(kind: u32, a: u32, b: u32, c: u32) -> Step
     ensures { result ≡ step_of (kind, (a, (b, c))) }
@@ -18,13 +20,20 @@ fn decode(kind: u32, a: u32, b: u32, c: u32) -> Step
 }
 
 // The step at a place of a list.
-pub fn step_at(list: &[u32], place: u32) -> Option<Step>
+fn step_at(list: &[u32], place: u32) -> Option<Step>
     ensures { result ≡ slice_get (steps_in list.now) place }
 {
     let i = place as usize * 4;
-    if i + 4 <= list.len() {
-        let step = decode(list[i], list[i + 1], list[i + 2], list[i + 3]);
-        return Some(step);
+    let step = list.get(i..i + 4)?;
+    Some(decode(step[0], step[1], step[2], step[3]))
+}
+
+impl FlatRule<'_> {
+    // The step at a point, if its list is not at its end there.
+    pub fn step_at(&self, point: Point) -> Option<Step>
+        ensures found { result ≡ step_in self.now.part.now self.now.own point }
+        ensures near { IsNear point result }
+    {
+        step_at(list_of(self.part, self.own, point.list), point.place)
     }
-    None
 }

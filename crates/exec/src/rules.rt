@@ -6,7 +6,7 @@ ghost use Rattle.state.specs.Meaning.{Sound};
 ghost use Rattle.exec.specs.Done.{action_done};
 ghost use Rattle.exec.specs.Results.{SetsBit};
 
-use crate::answers::{fails, no_effect};
+use crate::answers::fails;
 use crate::{Job, PrimResult};
 
 fn set_bit_at(v: &mut [u32], job: Job, rule: u32, i: u32, on: bool) -> PrimResult
@@ -14,10 +14,10 @@ fn set_bit_at(v: &mut [u32], job: Job, rule: u32, i: u32, on: bool) -> PrimResul
     ensures { SetsBit job v.old rule on (Some i) (action_done v.new result) }
 {
     if job.dry {
-        return no_effect();
+        return Ok(None);
     }
     state::rules::set_enabled(v, rule, i as usize, on);
-    no_effect()
+    Ok(None)
 }
 
 pub fn set_rule_bit(image: &[u32], v: &mut [u32], job: Job, rule: u32, on: bool) -> PrimResult

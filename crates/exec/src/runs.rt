@@ -1,110 +1,47 @@
 // `run_steps`: a run of a rule from a point on, with a budget.
-ghost use Rattle.std.specs.Prelude.{◌≡◌, List, ℕ, ◌<◌};
-ghost use Rattle.words.specs.Saturating.{max32, max64};
-ghost use Rattle.model.specs.Exec.{first_reason};
-ghost use Rattle.image.specs.Sized.{Sized};
-ghost use Rattle.state.specs.Meaning.{Sound, accepted};
-ghost use Rattle.exec.specs.Lists.{FlatWords, NearWords};
-ghost use Rattle.exec.specs.Done.{step_done, run_now, run_done};
-ghost use Rattle.exec.specs.Runs.{Taken, Turned, Finishes, Ready, Runs};
+ghost use Rattle.std.specs.Prelude.{◌≡◌, ◌<◌};
+ghost use Rattle.words.specs.Saturating.{max32};
+ghost use Rattle.model.specs.Exec.{first_reason, unpaid};
+ghost use Rattle.state.specs.Reasons.{reason_number};
+ghost use Rattle.exec.specs.Done.{run_done};
+ghost use Rattle.exec.specs.Runs.{Taken, Ready, Runs};
 
 use crate::effects::put_effect;
-use crate::lists::step_at;
 use crate::steps::exec;
-use crate::{Job, Run, RunResult, StepResult};
-use flat::body::list_of;
-use model::Point;
+use crate::{Env, FlatRule, Job, RunResult, StepResult};
+use model::{Point, Step};
+use state::reasons::Reason;
 
-// `note_partial`: the first reason stays.
-pub fn first_reason(a: u32, b: u32) -> u32
-    ensures { result ≡ first_reason a b }
+// The first reason stays.
+pub fn note_partial(a: Option<Reason>, b: Option<Reason>) -> Option<Reason>
+    ensures { reason_number result ≡ first_reason (reason_number a) (reason_number b) }
 {
-    if a == 0 { b } else { a }
+    a.or(b)
+}
+
+// Where a step is left and no budget for it, the reason is `EffectBudget`.
+pub fn unpaid(left: Option<Step>) -> Option<Reason>
+    ensures { reason_number result ≡ unpaid left }
+{
+    match left {
+        Some(_) => Some(Reason::EffectBudget),
+        None => None,
+    }
 }
 
 // What a paid step did is taken over, and its effect written.
-fn take_step(run: Run, effects: &mut [u32], d: StepResult) -> Run
+pub fn take_step(run: RunResult, effects: &mut [u32], d: StepResult) -> RunResult
     requires { run.count < max32 }
-    ensures { (v w : List ℕ) → Taken (run_now v run) effects.old (step_done w d) (run_now w result) effects.new }
+    ensures { Taken run effects.old d result effects.new }
 {
-    let effect = d.effect;
-    let count = put_effect(effects, run.count, effect);
-    let reason = first_reason(run.reason, d.reason);
-    let next = d.next;
-    let point = run.point;
-    match next {
-        None => Run {
-            point,
-            reason,
-            count,
-            ended: true,
-        },
-        Some(p) => Run {
-            point: p,
-            reason,
-            count,
-            ended: false,
-        },
-    }
-}
-
-// One turn: the step at the run's place is paid, or the list is at its end.
-fn turn(
-    snapshot: &[u32],
-    image: &[u32],
-    list: &[u32],
-    effects: &mut [u32],
-    v: &mut [u32],
-    run: Run,
-    job: Job,
-    left: u32,
-) -> Run
-    requires sized { Sized image.now × NearWords list.now }
-    requires sound { Sound v.old × (accepted v.old < max64) × (run.count < max32) }
-    ensures { Turned snapshot.now image.now list.now job left (run_now v.old run) effects.old (run_now v.new result) effects.new }
-{
-    let point = run.point;
-    match step_at(list, point.place) {
-        None => {
-            let mut r = run;
-            r.ended = true;
-            r
-        }
-        Some(step) => {
-            let d = exec(snapshot, image, v, job, left, point, step);
-            take_step(run, effects, d)
-        }
-    }
-}
-
-// The end of a run: where a step is left and no budget for it, the reason is `EffectBudget`.
-fn finish(list: &[u32], run: Run) -> RunResult
-    ensures { (w : List ℕ) → Finishes list.now (run_now w run) (run_done w result) }
-{
-    let point = run.point;
-    if run.ended {
-        return RunResult {
-            reason: run.reason,
-            count: run.count,
-        };
-    }
-    match step_at(list, point.place) {
-        None => RunResult {
-            reason: run.reason,
-            count: run.count,
-        },
-        Some(_) => RunResult {
-            reason: first_reason(run.reason, state::reasons::EFFECT_BUDGET),
-            count: run.count,
-        },
-    }
+    let reason = note_partial(run.reason, d.reason);
+    let count = put_effect(effects, run.count, d.effect);
+    RunResult { reason, count }
 }
 
 pub fn run_steps(
-    snapshot: &[u32],
-    image: &[u32],
-    part: &[u32],
-    own: usize,
+    env: &Env,
+    rule: &FlatRule,
     effects: &mut [u32],
     v: &mut [u32],
     job: Job,
@@ -112,24 +49,25 @@ pub fn run_steps(
     budget: u32,
     count: u32,
 ) -> RunResult
-    requires sized { Sized image.now × FlatWords part.now own }
-    requires ready { Ready v.old budget count }
-    ensures { Runs snapshot.now image.now part.now own job v.old from budget count effects.old (run_done v.new result) effects.new }
+    requires { Ready v.old budget count }
+    ensures { Runs env.now.snapshot.now env.now.image.now rule.now.part.now rule.now.own job v.old from budget count effects.old (run_done v.new result) effects.new }
 {
-    let list = list_of(part, own, from.list);
-    let mut run = Run {
-        point: from,
-        reason: 0,
+    let mut run = RunResult {
+        reason: None,
         count,
-        ended: false,
     };
-    let mut left = budget;
-    while 0 < left {
-        if run.ended {
-            return finish(list, run);
-        }
-        left -= 1;
-        run = turn(snapshot, image, list, effects, v, run, job, left);
+    let mut point = from;
+    for left in (0..budget).rev() {
+        let Some(step) = rule.step_at(point) else {
+            return run;
+        };
+        let d = exec(env, v, job, left, point, step);
+        run = take_step(run, effects, d);
+        let Some(next) = d.next else {
+            return run;
+        };
+        point = next;
     }
-    finish(list, run)
+    run.reason = note_partial(run.reason, unpaid(rule.step_at(point)));
+    run
 }

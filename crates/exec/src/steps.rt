@@ -2,7 +2,6 @@
 ghost use Rattle.std.specs.Prelude.{List, ℕ, suc, ◌+◌, ◌≤◌, ◌<◌};
 ghost use Rattle.words.specs.Saturating.{max32, max64};
 ghost use Rattle.model.specs.declared.Step.TheVariants.{Primitive, Wait, Branch, After, Fail};
-ghost use Rattle.image.specs.Sized.{Sized};
 ghost use Rattle.state.specs.Meaning.{Sound, accepted};
 ghost use Rattle.exec.specs.Done.{action_done, step_done};
 ghost use Rattle.exec.specs.Paid.{Follows, GoesOn, StepsAlways, StepsAt, StepsIn, reach};
@@ -10,20 +9,27 @@ ghost use Rattle.exec.specs.Paid.{Follows, GoesOn, StepsAlways, StepsAt, StepsIn
 use crate::actions::prim_at;
 use crate::answers::fails;
 use crate::places::{advance, body_start, enter_then};
-use crate::{Job, PrimResult, StepResult};
+use crate::{Env, Job, PrimResult, StepResult, Unevaluable};
 use eval::Verdict;
 use eval::conditions::condition_at;
 use model::{Point, Step};
+use state::reasons::Reason;
 
 // What an action did, and the run goes on.
 fn after_prim(a: PrimResult, to: Point) -> StepResult
     ensures { (w : List ℕ) → Follows (action_done w a) to (step_done w result) }
 {
-    let effect = a.effect;
-    StepResult {
-        effect,
-        reason: a.reason,
-        next: Some(to),
+    match a {
+        Ok(effect) => StepResult {
+            effect,
+            reason: None,
+            next: Some(to),
+        },
+        Err(Unevaluable) => StepResult {
+            effect: None,
+            reason: Some(Reason::ConditionUnevaluable),
+            next: Some(to),
+        },
     }
 }
 
@@ -33,27 +39,20 @@ pub fn goes_on(to: Point) -> StepResult
 {
     StepResult {
         effect: None,
-        reason: 0,
+        reason: None,
         next: Some(to),
     }
 }
 
-pub fn primitive(
-    snapshot: &[u32],
-    image: &[u32],
-    v: &mut [u32],
-    job: Job,
-    sp: Point,
-    i: u32,
-) -> StepResult
-    requires { Sized image.now × Sound v.old × (suc sp.place ≤ max32) }
-    ensures { (b : ℕ) → StepsIn snapshot.now image.now job v.old b sp (Primitive i) (step_done v.new result) }
+pub fn primitive(env: &Env, v: &mut [u32], job: Job, sp: Point, i: u32) -> StepResult
+    requires { Sound v.old × (suc sp.place ≤ max32) }
+    ensures { (b : ℕ) → StepsIn env.now.snapshot.now env.now.image.now job v.old b sp (Primitive i) (step_done v.new result) }
 {
-    after_prim(prim_at(snapshot, image, v, job, i), advance(sp, 0))
+    after_prim(prim_at(env, v, job, i), advance(sp, 0))
 }
 
 // What follows a wait is scheduled, and the run ends: also where the continuation is dropped.
-fn wait(snapshot: &[u32], v: &mut [u32], job: Job, left: u32, sp: Point, ms: u32) -> StepResult
+fn run_wait(snapshot: &[u32], v: &mut [u32], job: Job, left: u32, sp: Point, ms: u32) -> StepResult
     requires { Sound v.old × (accepted v.old < max64) × (suc sp.place ≤ max32) }
     ensures { StepsAt snapshot.now job v.old left sp (Wait ms) (step_done v.new result) }
 {
@@ -68,7 +67,7 @@ fn wait(snapshot: &[u32], v: &mut [u32], job: Job, left: u32, sp: Point, ms: u32
 }
 
 // The body is scheduled, and the run goes on behind the step: also where the continuation is dropped.
-fn after(snapshot: &[u32], v: &mut [u32], job: Job, left: u32, sp: Point, ms: u32) -> StepResult
+fn run_after(snapshot: &[u32], v: &mut [u32], job: Job, left: u32, sp: Point, ms: u32) -> StepResult
     requires { Sound v.old × (accepted v.old < max64) × (suc sp.place ≤ max32) }
     ensures { StepsAt snapshot.now job v.old left sp (After ms) (step_done v.new result) }
 {
@@ -93,9 +92,8 @@ fn after(snapshot: &[u32], v: &mut [u32], job: Job, left: u32, sp: Point, ms: u3
 }
 
 // A condition that cannot be evaluated skips both regions.
-pub fn branch(
-    snapshot: &[u32],
-    image: &[u32],
+pub fn run_branch(
+    env: &Env,
     v: &mut [u32],
     job: Job,
     sp: Point,
@@ -103,10 +101,10 @@ pub fn branch(
     t: u32,
     n: u32,
 ) -> StepResult
-    requires { Sized image.now × Sound v.old × (suc sp.place + (t + n) ≤ max32) }
-    ensures { (b : ℕ) → StepsIn snapshot.now image.now job v.old b sp (Branch c t n) (step_done v.new result) }
+    requires { Sound v.old × (suc sp.place + (t + n) ≤ max32) }
+    ensures { (b : ℕ) → StepsIn env.now.snapshot.now env.now.image.now job v.old b sp (Branch c t n) (step_done v.new result) }
 {
-    match condition_at(snapshot, image, v, c) {
+    match condition_at(env.snapshot, env.image, v, c) {
         Verdict::Yes => goes_on(enter_then(sp, t, n)),
         Verdict::No => goes_on(advance(sp, t)),
         Verdict::Unevaluable => after_prim(fails(v), advance(sp, t + n)),
@@ -120,23 +118,15 @@ pub fn fail(v: &mut [u32], job: Job, sp: Point) -> StepResult
     after_prim(fails(v), advance(sp, 0))
 }
 
-pub fn exec(
-    snapshot: &[u32],
-    image: &[u32],
-    v: &mut [u32],
-    job: Job,
-    left: u32,
-    sp: Point,
-    step: Step,
-) -> StepResult
-    requires { Sized image.now × Sound v.old × (accepted v.old < max64) × (suc sp.place + reach step ≤ max32) }
-    ensures { StepsIn snapshot.now image.now job v.old left sp step (step_done v.new result) }
+pub fn exec(env: &Env, v: &mut [u32], job: Job, left: u32, sp: Point, step: Step) -> StepResult
+    requires { Sound v.old × (accepted v.old < max64) × (suc sp.place + reach step ≤ max32) }
+    ensures { StepsIn env.now.snapshot.now env.now.image.now job v.old left sp step (step_done v.new result) }
 {
     match step {
-        Step::Primitive(i) => primitive(snapshot, image, v, job, sp, i),
-        Step::Wait(ms) => wait(snapshot, v, job, left, sp, ms),
-        Step::Branch(c, t, n) => branch(snapshot, image, v, job, sp, c, t, n),
-        Step::After(ms) => after(snapshot, v, job, left, sp, ms),
+        Step::Primitive(i) => primitive(env, v, job, sp, i),
+        Step::Wait(ms) => run_wait(env.snapshot, v, job, left, sp, ms),
+        Step::Branch(c, t, n) => run_branch(env, v, job, sp, c, t, n),
+        Step::After(ms) => run_after(env.snapshot, v, job, left, sp, ms),
         Step::Fail => fail(v, job, sp),
     }
 }

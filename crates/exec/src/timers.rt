@@ -5,7 +5,7 @@ ghost use Rattle.state.specs.Meaning.{Sound};
 ghost use Rattle.exec.specs.Done.{action_done};
 ghost use Rattle.exec.specs.Results.{Performs, PerformsIn, Arms};
 
-use crate::answers::{fails, no_effect};
+use crate::answers::fails;
 use crate::{Job, PrimResult};
 
 fn arm_timer(snapshot: &[u32], v: &mut [u32], job: Job, name: u32, ms: u32) -> PrimResult
@@ -13,14 +13,14 @@ fn arm_timer(snapshot: &[u32], v: &mut [u32], job: Job, name: u32, ms: u32) -> P
     ensures { Arms snapshot.now job v.old name ms (action_done v.new result) }
 {
     if job.dry {
-        return no_effect();
+        return Ok(None);
     }
     if state::timers::timers_full(v) {
         return fails(v);
     }
     let due = words::saturating_add_u64(world::now_ms(snapshot), ms as u64);
     state::timers::arm_timer(v, name, due);
-    no_effect()
+    Ok(None)
 }
 
 pub fn timer_start(snapshot: &[u32], v: &mut [u32], job: Job, timer: u32, ms: u32) -> PrimResult
@@ -28,7 +28,7 @@ pub fn timer_start(snapshot: &[u32], v: &mut [u32], job: Job, timer: u32, ms: u3
     ensures { (image : List ℕ) → PerformsIn snapshot.now image job v.old (TimerStart timer ms) (action_done v.new result) }
 {
     if state::timers::has_timer(v, timer) {
-        return no_effect();
+        return Ok(None);
     }
     arm_timer(snapshot, v, job, timer, ms)
 }
@@ -38,7 +38,7 @@ pub fn timer_restart(snapshot: &[u32], v: &mut [u32], job: Job, timer: u32, ms: 
     ensures { (image : List ℕ) → PerformsIn snapshot.now image job v.old (TimerRestart timer ms) (action_done v.new result) }
 {
     if job.dry {
-        return no_effect();
+        return Ok(None);
     }
     state::timers::cancel_timer(v, timer);
     arm_timer(snapshot, v, job, timer, ms)
@@ -49,8 +49,8 @@ pub fn timer_cancel(v: &mut [u32], job: Job, timer: u32) -> PrimResult
     ensures { Performs job v.old (TimerCancel timer) (action_done v.new result) }
 {
     if job.dry {
-        return no_effect();
+        return Ok(None);
     }
     state::timers::cancel_timer(v, timer);
-    no_effect()
+    Ok(None)
 }

@@ -7,26 +7,24 @@ ghost use Rattle.state.specs.Meaning.{Sound};
 ghost use Rattle.exec.specs.Done.{action_done};
 ghost use Rattle.exec.specs.Results.{PerformsIn, Assigns, Adds, Selects};
 
-use crate::answers::{emits, fails, no_effect};
-use crate::{Job, PrimResult};
+use crate::answers::{EffectKind, emits, fails};
+use crate::{Env, Job, PrimResult};
 use eval::Number;
 use eval::values::value_at;
 use model::VarValue;
-
-const PANEL_SELECT: u32 = 7;
 
 fn assign(v: &mut [u32], job: Job, name: u32, value: VarValue) -> PrimResult
     requires { Sound v.old }
     ensures { Assigns job v.old name value (action_done v.new result) }
 {
     if job.dry {
-        return no_effect();
+        return Ok(None);
     }
     if state::variables::lacks_room(v, name) {
         return fails(v);
     }
     state::variables::set_variable(v, name, value);
-    no_effect()
+    Ok(None)
 }
 
 // A text of more bytes than the limit is refused, in a dry run too.
@@ -58,28 +56,19 @@ fn add_to(v: &mut [u32], job: Job, name: u32, step: i64, held: Option<VarValue>)
 {
     match held {
         None => assign(v, job, name, VarValue::Int(words::bits_of(step))),
-        Some(x) => match x {
-            VarValue::Int(n) => {
-                let sum = words::saturating_add_i64(words::as_i64(n), step);
-                assign(v, job, name, VarValue::Int(words::bits_of(sum)))
-            }
-            VarValue::Text(_) => fails(v),
-        },
+        Some(VarValue::Int(n)) => {
+            let sum = words::saturating_add_i64(words::as_i64(n), step);
+            assign(v, job, name, VarValue::Int(words::bits_of(sum)))
+        }
+        Some(VarValue::Text(_)) => fails(v),
     }
 }
 
-pub fn var_add(
-    snapshot: &[u32],
-    image: &[u32],
-    v: &mut [u32],
-    job: Job,
-    name: u32,
-    delta: u32,
-) -> PrimResult
-    requires { Sized image.now × Sound v.old }
-    ensures { PerformsIn snapshot.now image.now job v.old (VarAdd name delta) (action_done v.new result) }
+pub fn var_add(env: &Env, v: &mut [u32], job: Job, name: u32, delta: u32) -> PrimResult
+    requires { Sound v.old }
+    ensures { PerformsIn env.now.snapshot.now env.now.image.now job v.old (VarAdd name delta) (action_done v.new result) }
 {
-    match value_at(snapshot, image, v, delta) {
+    match value_at(env.snapshot, env.image, v, delta) {
         Number::Value(step) => {
             let held = state::variables::variable(v, name);
             add_to(v, job, name, step, held)
@@ -102,25 +91,24 @@ fn select(
 {
     let bits = words::bits_of(selected);
     if bits <= image::layout::group_limit(image) as u64 {
-        return emits(PANEL_SELECT, adapter, group, bits as u32, 0);
+        return emits(EffectKind::PanelSelect, adapter, group, bits as u32, 0);
     }
     fails(v)
 }
 
 pub fn panel_select(
-    snapshot: &[u32],
-    image: &[u32],
+    env: &Env,
     v: &mut [u32],
     job: Job,
     adapter: u32,
     group: u32,
     selected: u32,
 ) -> PrimResult
-    requires { Sized image.now × Sound v.old }
-    ensures { PerformsIn snapshot.now image.now job v.old (PanelSelect adapter group selected) (action_done v.new result) }
+    requires { Sound v.old }
+    ensures { PerformsIn env.now.snapshot.now env.now.image.now job v.old (PanelSelect adapter group selected) (action_done v.new result) }
 {
-    match value_at(snapshot, image, v, selected) {
-        Number::Value(n) => select(image, v, job, adapter, group, n),
+    match value_at(env.snapshot, env.image, v, selected) {
+        Number::Value(n) => select(env.image, v, job, adapter, group, n),
         Number::Unevaluable => fails(v),
     }
 }

@@ -5,3 +5,4 @@ pub mod Tables
 pub mod Pending
 pub mod Named
 pub mod Selection
+pub mod Reasons

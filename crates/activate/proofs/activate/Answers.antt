@@ -1,6 +1,10 @@
 -- `activate::activate` meets its contract. Assumes nothing.
 use Rattle.activate.proofs.Activating.{begins, in-cooldown, rejected, unevaluable}
+use Rattle.exec.proofs.Decoded.{near-lists}
 use Rattle.activate.proofs.activate.Goals as goal
+
+pub invariant_of-rule : goal.invariant_of-rule
+invariant_of-rule c = record { near = near-lists _ _ c.requires.accepted.1 }
 
 pub returns-in-Begins : goal.returns-in-Begins
 returns-in-Begins c =

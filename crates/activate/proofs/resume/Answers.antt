@@ -2,11 +2,15 @@
 use Rattle.activate.specs.Carried.{carried}
 use Rattle.activate.proofs.Running.{changed-room, run_room}
 use Rattle.activate.proofs.Activating.{resumes}
+use Rattle.exec.proofs.Decoded.{near-lists}
 use Rattle.activate.proofs.resume.Goals as goal
+
+pub invariant_of-rule : goal.invariant_of-rule
+invariant_of-rule c = record { near = near-lists _ _ c.requires.accepted.1 }
 
 pub run_wet-requires : goal.run_wet-requires
 run_wet-requires c =
-    ((c.requires.accepted.0.least, c.requires.accepted.0.most), c.requires.accepted.1, c.requires.budget_bound.0, run_room _ (changed-room (carried c.args.v.now c.args.x) _ _ c.bump.ensures 1 c.requires.budget_bound.1))
+    (c.requires.budget_bound.0, run_room _ (changed-room (carried c.args.v.now c.args.x) _ _ c.bump.ensures 1 c.requires.budget_bound.1))
 
 pub returns : goal.returns
 returns c =

@@ -1,11 +1,11 @@
 -- `activate::execute::finish_wet` meets its contract. Assumes nothing.
-use Rattle.activate.proofs.Running.{finishes-whole, finishes-partial}
+use mathlib.Core.Path.{sym, ◌∙◌}
+use Rattle.activate.proofs.Running.{has_reason, no-reason, finishes-whole, finishes-partial}
 use Rattle.activate.proofs.execute.finish_wet.Goals as goal
 
-pub returns-then-reason-ne0 : goal.returns-then-reason-ne0
-returns-then-reason-ne0 c =
-    finishes-partial c.args.v.now _ _ _ c.bump.ensures _ c.if-reason-ne0.true c.bump-then-reason-ne0.ensures
+pub returns-then-is_some : goal.returns-then-is_some
+returns-then-is_some c =
+    finishes-partial c.args.v.now _ _ _ c.bump.ensures _ (has_reason _ (sym c.is_some.ensures ∙ c.if-is_some.true)) c.bump-then-is_some.ensures
 
-pub returns-else-reason-ne0 : goal.returns-else-reason-ne0
-returns-else-reason-ne0 c =
-    finishes-whole c.args.v.now _ _ _ c.bump.ensures c.if-reason-ne0.false
+pub returns-else-is_some : goal.returns-else-is_some
+returns-else-is_some c = finishes-whole c.args.v.now _ _ _ c.bump.ensures (no-reason _ (sym c.is_some.ensures ∙ c.if-is_some.false))

@@ -2,22 +2,21 @@
 use native.Mathlib.Omega.{arith}
 use Rattle.image.proofs.Accepted.{budget-fits}
 use Rattle.activate.specs.Carried.{carried}
-use Rattle.activate.proofs.Running.{ready-dry, dry-grows, runs-dry}
+use Rattle.activate.proofs.Running.{ready-dry, runs-dry}
 use Rattle.activate.proofs.execute.run_dry.Goals as goal
 
 pub run_steps_dry-run-requires : goal.run_steps_dry-run-requires
 run_steps_dry-run-requires c =
-    let few = (budget-fits c.args.image.now c.requires.0.passes).1 in
+    let few = (budget-fits c.args.env.now.image.now c.requires.0.passes).1 in
     record {
-      sized = ((c.requires.0.least, c.requires.0.most), c.requires.1, c.requires.2);
-      dry_ready = ready-dry (carried c.args.v.now c.args.x) _ (rw c.budget-most.ensures few) c.requires.3;
+      dry = c.requires.1;
+      dry_ready = ready-dry (carried c.args.v.now c.args.x) _ (rw c.budget-most.ensures few) c.requires.2;
     }
 
 pub push_outcome-requires : goal.push_outcome-requires
-push_outcome-requires c =
-    (omega (arith, c.requires.3.outcomes), dry-grows c.args.snapshot.now c.args.image.now c.args.part.now c.args.own c.args.job c.args.v.now c.args.x _ _ _ _ c.requires.1 c.run_steps_dry-run.ensures)
+push_outcome-requires c = (omega (arith, c.requires.2.outcomes), c.run_steps_dry-run.ensures.grows)
 
 pub returns : goal.returns
 returns c =
-    let few = (budget-fits c.args.image.now c.requires.0.passes).1 in
-    runs-dry c.args.snapshot.now c.args.image.now c.args.part.now c.args.own c.args.job c.args.v.now c.args.x c.budget-most.result _ _ _ c.requires.1 c.run_steps_dry-run.ensures _ c.push_outcome.result _ (rw c.budget-most.ensures few) c.budget-most.ensures c.push_outcome.ensures
+    let few = (budget-fits c.args.env.now.image.now c.requires.0.passes).1 in
+    runs-dry c.args.env.now.snapshot.now c.args.env.now.image.now c.args.rule.now.part.now c.args.rule.now.own c.args.job c.args.v.now c.args.x c.budget-most.result _ _ _ c.run_steps_dry-run.ensures _ c.push_outcome.result _ (rw c.budget-most.ensures few) c.budget-most.ensures (rw c.reason_word.ensures at c.push_outcome.ensures)

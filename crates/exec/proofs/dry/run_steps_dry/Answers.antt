@@ -1,48 +1,27 @@
 -- `exec::dry::run_steps_dry` meets its contract. Assumes nothing.
+use Prim.Native.Nat.{◌+◌, ◌-◌}
 use native.Mathlib.Omega.{arith}
-use mathlib.Core.Path.{refl, sym, ◌∙◌}
-use Rattle.exec.proofs.DryGoing.{again-dry, ends-dry, spent-ended-dry, spent-budget-dry}
+use mathlib.Core.Path.{◌≡◌, refl, ap, ◌∙◌}
+use lib.ListN.{length}
+use Rattle.exec.proofs.DryGoing.{runs-past, runs-spent, goes-on}
 use Rattle.exec.proofs.dry.run_steps_dry.Goals as goal
 
-pub loop-left-init : goal.loop-left-init
-loop-left-init c =
+pub loop-init : goal.loop-init
+loop-init c =
     let p = c.requires.dry_ready in
-    record { says = λ flat e. refl; sound = p.sound; based = refl; counts = omega arith; fits = omega arith; queue = omega (arith, p.most); long = refl }
+    let e = c.new-bodies.ensures in
+    let all : c.args.budget - 0 ≡ c.args.budget = omega arith in
+    record { says = λ flat s. rw (all, e); sound = p.sound; based = refl; accepts = refl; grows = omega arith; counts = omega arith; last = refl; queue = omega (arith, p.most, ap length e); long = refl }
 
-pub finish_dry-requires : goal.finish_dry-requires
-finish_dry-requires c = (c.loop-left.invariant.fits, omega (arith, c.loop-left.invariant.queue))
+pub returns-in_default : goal.returns-in_default
+returns-in_default c = runs-past _ _ _ _ _ _ _ _ _ _ _ _ _ _ _ _ c.loop.invariant _ _ _ c.next_step.ensures c.in_default.is
 
-pub shape_of-effects-then-run : goal.shape_of-effects-then-run
-shape_of-effects-then-run c = c.loop-left.invariant.long
-
-pub shape_of-v-then-run : goal.shape_of-v-then-run
-shape_of-v-then-run c = c.loop-left.invariant.sound.long ∙ sym c.requires.dry_ready.sound.long
-
-pub returns-then-run : goal.returns-then-run
-returns-then-run c =
-    ends-dry c.args.snapshot.now c.args.image.now c.args.part.now c.args.own c.args.job c.args.budget _ _ _ _ _ c.loop-left.invariant _ refl (c.finish_dry.ensures _) (λ e m. spent-ended-dry _ _ e _ m c.if-run.true) refl
-
-pub turn_dry-run-requires : goal.turn_dry-run-requires
-turn_dry-run-requires c =
-    let g = c.loop-left.invariant in
-    record {
-      sized = c.requires.sized;
-      sound = (g.sound, omega (arith, g.counts, c.requires.dry_ready.counts, c.loop-left-test.true), g.fits, omega (arith, g.queue, c.loop-left-test.true));
-    }
-
-pub loop-left-preserved : goal.loop-left-preserved
-loop-left-preserved c =
-    again-dry c.args.snapshot.now c.args.image.now c.args.part.now c.args.own c.args.job c.args.budget _ _ _ _ _ c.loop-left.invariant _ _ c.loop-left-test.true c.if-run.false c.turn_dry-run.auto.effects c.turn_dry-run.ensures
-
-pub finish_dry-requires-2 : goal.finish_dry-requires-2
-finish_dry-requires-2 c = (c.loop-left.invariant.fits, omega (arith, c.loop-left.invariant.queue))
-
-pub shape_of-effects : goal.shape_of-effects
-shape_of-effects c = c.loop-left.invariant.long
-
-pub shape_of-v : goal.shape_of-v
-shape_of-v c = c.loop-left.invariant.sound.long ∙ sym c.requires.dry_ready.sound.long
+pub loop-preserved : goal.loop-preserved
+loop-preserved c =
+    let less : c.args.budget - c.loop.counter - 1 ≡ c.args.budget - (c.loop.counter + 1) = omega arith in
+    rw less at
+    (goes-on _ _ _ _ _ _ _ _ _ _ _ _ _ _ _ _ c.loop.invariant _ _ _ c.next_step.ensures _ c.in-Some.is (omega (arith, c.loop-test.true)) _ _ c.exec_dry-d.ensures _ _ c.take_step-run.ensures _ c.queue_body.ensures _ c.unwrap_or-point.ensures c.take_step-run.auto.effects)
 
 pub returns : goal.returns
 returns c =
-    ends-dry c.args.snapshot.now c.args.image.now c.args.part.now c.args.own c.args.job c.args.budget _ _ _ _ _ c.loop-left.invariant _ refl (c.finish_dry-2.ensures _) (λ e m. spent-budget-dry _ _ e _ m (omega arith)) refl
+    runs-spent _ _ _ _ _ _ _ _ _ _ _ _ _ _ _ _ c.loop.invariant _ _ _ c.next_step-left.ensures _ (omega (arith, c.loop-test.false)) (c.note_partial-run.ensures ∙ rw c.unpaid.ensures) refl

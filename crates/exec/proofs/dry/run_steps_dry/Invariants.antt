@@ -1,10 +1,9 @@
 -- `exec::dry::run_steps_dry` meets its contract. Assumes nothing.
-use Rattle.exec.specs.Done.{dry_run_now}
-use Rattle.exec.proofs.DryGoing.{GoingDry}
+use Prim.Native.Nat.{◌-◌}
+use mathlib.Core.List.{[]}
+use Rattle.exec.proofs.DryGoing.{dry_machine, GoingDry}
 use Rattle.exec.proofs.dry.run_steps_dry.Given as goal
 
-abbrev pub invariant-loop-left : goal.invariant-loop-left
-invariant-loop-left l = GoingDry l.snapshot l.image l.part l.own l.job l.budget (dry_run_now l.initial.v l.initial.run) l.initial.effects (dry_run_now l.v l.run) l.effects l.left
-
-abbrev pub decreases-loop-left : goal.decreases-loop-left
-decreases-loop-left l = l.left
+abbrev pub invariant-loop : goal.invariant-loop
+invariant-loop l =
+    GoingDry l.env.snapshot.now l.env.image.now l.rule.part.now l.rule.own l.job l.budget (dry_machine l.initial.v l.initial.point [] l.initial.run l.initial.effects) l.initial.v l.v l.point l.bodies l.run l.effects (l.budget - l.counter)

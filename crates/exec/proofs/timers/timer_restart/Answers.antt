@@ -3,12 +3,12 @@ use Rattle.model.specs.Actions.{arm_timer}
 use Rattle.state.specs.Meaning.{meaning}
 use Rattle.eval.specs.Answers.{env_of}
 use Rattle.exec.specs.Results.{job_of}
-use Rattle.exec.proofs.Follows.{answers, follows}
+use Rattle.exec.proofs.Follows.{does-nothing, answers, follows}
 use Rattle.exec.proofs.Cases.{restart-dry, restart-wet}
 use Rattle.exec.proofs.timers.timer_restart.Goals as goal
 
 pub returns-then-job : goal.returns-then-job
-returns-then-job c image flat = answers (c.no_effect.ensures _ c.requires) (restart-dry _ _ _ _ _ c.if-job.true)
+returns-then-job c image flat = answers (does-nothing c.requires) (restart-dry _ _ _ _ _ c.if-job.true)
 
 pub returns : goal.returns
 returns c image flat =

@@ -2,13 +2,13 @@
 use mathlib.Core.Path.{sym, ◌∙◌}
 use Rattle.model.specs.Actions.{no_effect}
 use Rattle.state.specs.Named.{lacks_room}
-use Rattle.exec.proofs.Follows.{answers, follows}
+use Rattle.exec.proofs.Follows.{does-nothing, answers, follows}
 use Rattle.exec.proofs.Follows.{assigned-wet}
 use Rattle.exec.proofs.Cases.{assign-dry, assign-full, assign-wet}
 use Rattle.exec.proofs.variables.assign.Goals as goal
 
 pub returns-then-job : goal.returns-then-job
-returns-then-job c e = answers (c.no_effect.ensures _ c.requires) (assign-dry _ _ _ _ _ c.if-job.true)
+returns-then-job c e = answers (does-nothing c.requires) (assign-dry _ _ _ _ _ c.if-job.true)
 
 pub returns-then-lacks_room : goal.returns-then-lacks_room
 unfolding lacks_room
@@ -19,5 +19,5 @@ unfolding lacks_room
 returns c e =
     let room = sym c.lacks_room.ensures ∙ c.if-lacks_room.false in
     answers
-    (follows no_effect _ _ _ _ (assigned-wet _ _ _ _ room c.set_variable.ensures) (c.no_effect-2.ensures _ c.set_variable.ensures.sound))
+    (follows no_effect _ _ _ _ (assigned-wet _ _ _ _ room c.set_variable.ensures) (does-nothing c.set_variable.ensures.sound))
     (assign-wet _ _ _ _ _ c.if-job.false room)

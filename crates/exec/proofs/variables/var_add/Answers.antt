@@ -9,7 +9,7 @@ use Rattle.exec.proofs.Cases.{stored_some, adds}
 use Rattle.exec.proofs.variables.var_add.Goals as goal
 
 pub returns-in-Value : goal.returns-in-Value
-returns-in-Value c flat = answers (c.add_to.ensures (env_of c.args.snapshot.now c.args.image.now flat)) (adds (env_of c.args.snapshot.now c.args.image.now flat) (job_of c.args.job) (meaning c.args.v.now).rest c.args.name c.args.delta _ _ (stored_some c.in-Value.step _ (record { sfits = c.in-Value.known_told-1-own.given.0.1 }) (sym (ap number_of c.in-Value.is) ∙ c.value_at.ensures flat)) c.variable-held.ensures)
+returns-in-Value c flat = answers (c.add_to.ensures (env_of c.args.env.now.snapshot.now c.args.env.now.image.now flat)) (adds (env_of c.args.env.now.snapshot.now c.args.env.now.image.now flat) (job_of c.args.job) (meaning c.args.v.now).rest c.args.name c.args.delta _ _ (stored_some c.in-Value.step _ (record { sfits = c.in-Value.known_told-1-own.given.0.1 }) (sym (ap number_of c.in-Value.is) ∙ c.value_at.ensures flat)) c.variable-held.ensures)
 
 pub returns-in-Unevaluable : goal.returns-in-Unevaluable
-returns-in-Unevaluable c flat = answers c.fails.ensures (adds (env_of c.args.snapshot.now c.args.image.now flat) (job_of c.args.job) (meaning c.args.v.now).rest c.args.name c.args.delta _ _ (sym (ap number_of c.in-Unevaluable.is) ∙ c.value_at.ensures flat) refl)
+returns-in-Unevaluable c flat = answers c.fails.ensures (adds (env_of c.args.env.now.snapshot.now c.args.env.now.image.now flat) (job_of c.args.job) (meaning c.args.v.now).rest c.args.name c.args.delta _ _ (sym (ap number_of c.in-Unevaluable.is) ∙ c.value_at.ensures flat) refl)
