@@ -1,5 +1,5 @@
 -- Whether a rule starts now. Assumes nothing.
-use Prim.Native.Nat.{ℕ}
+use Prim.Native.Nat.{ℕ, ◌-◌}
 use mathlib.Core.Path.{◌≡◌, sym, ap, ◌∙◌}
 use mathlib.Core.Bool.{Bool, true, false}
 use mathlib.Core.List.{List}
@@ -25,7 +25,7 @@ module _ (snapshot image : List ℕ) (i : ℕ) (s : Rest) (last : Option ℕ) (h
   unfolding model.in_cooldown
   never-active f flat = rw (← h, f)
 
-  pub last-active : (before now age cooldown : ℕ) → last ≡ Some before → now ≡ (world_of snapshot).now → age ≡ saturating_sub now before → cooldown ≡ cooldown_of image i → InCooldownIs snapshot image i s (ltb age cooldown)
+  pub last-active : (before now age cooldown : ℕ) → last ≡ Some before → now ≡ (world_of snapshot).now → age ≡ now - before → cooldown ≡ cooldown_of image i → InCooldownIs snapshot image i s (ltb age cooldown)
   unfolding model.in_cooldown saturating_sub
   last-active before now age cooldown t n a c flat = rw (← h, t, a, n, c)
 
