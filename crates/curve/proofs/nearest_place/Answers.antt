@@ -1,68 +1,36 @@
--- `curve::nearest_place` meets its contract. The invariant is `Between`: the nearest place stands from `low` to `high`. Assumes nothing.
-use Prim.Native.Nat.{ℕ, ◌+◌, ◌/◌, ◌≤◌, ◌<◌}
+-- `curve::nearest_place` meets its contract. Assumes nothing.
+use Prim.Native.Nat.{◌-◌}
 use native.Mathlib.Omega.{arith}
-use Rattle.curve.proofs.Valley.{between-all, between-upper, between_lower, between-met, sum_fits}
+use borrow.Author.Rules.{rules}
+use Rattle.curve.proofs.Parted.{found}
+use Rattle.curve.proofs.Valley.{lower-stands, upper-stands}
 use Rattle.curve.proofs.nearest_place.Goals as goal
+use Rattle.curve.proofs.nearest_place.Goals.{else-above-gt0-via-then-above-gt0+else-v-table, else-above-gt0-via-else-above-gt0}
 
-abbrev middle : ℕ → ℕ → ℕ
-middle low high = (low + high) / 2
+pub bounds-table-above-then-above-gt0 : goal.bounds-table-above-then-above-gt0
+bounds-table-above-then-above-gt0 c =
+    (found c.args.table.now c.requires.0 _ _ c.requires.1 c.partition_point-above.ensures.bound c.partition_point-above.ensures.partitioned (λ a r q k. search rules)).inside
 
-from_low : (low high : ℕ) → low < high → low ≤ middle low high
-from_low low high h = omega arith
+pub overflow_sub-v : goal.overflow_sub-v
+overflow_sub-v c =
+    let p = found c.args.table.now c.requires.0 _ _ c.requires.1 c.partition_point-above.ensures.bound c.partition_point-above.ensures.partitioned (λ a r q k. search rules) in
+    rw c.requires.0 (omega (arith, p.under (c.partition_point-above.result - 1) (omega arith)))
 
-below-high : (low high : ℕ) → low < high → middle low high < high
-below-high low high h = omega arith
+pub overflow_sub-table : goal.overflow_sub-table
+overflow_sub-table c =
+    let p = found c.args.table.now c.requires.0 _ _ c.requires.1 c.partition_point-above.ensures.bound c.partition_point-above.ensures.partitioned (λ a r q k. search rules) in
+    rw c.requires.0 (p.over _ (omega arith) p.inside)
 
-pub loop-low-init : goal.loop-low-init
-loop-low-init c = between-all c.args.v
+pub returns-then-v-table : goal.returns-then-v-table
+returns-then-v-table c =
+    let p = found c.args.table.now c.requires.0 _ _ c.requires.1 c.partition_point-above.ensures.bound c.partition_point-above.ensures.partitioned (λ a r q k. search rules) in
+    lower-stands c.args.v c.partition_point-above.result p c.if-above-gt0.true (rw c.requires.0 at c.if-v-table.true)
 
-pub overflow_add-middle : goal.overflow_add-middle
-overflow_add-middle c = record { fits = omega (arith, c.loop-low-test.true, c.loop-low.invariant.inside) }
-
-pub offset_bounds-table-middle : goal.offset_bounds-table-middle
-offset_bounds-table-middle c = record { fits = omega (arith, c.loop-low-test.true, c.loop-low.invariant.inside) }
-
-pub bounds-table-middle : goal.bounds-table-middle
-bounds-table-middle c = omega (arith, c.loop-low-test.true, c.loop-low.invariant.inside)
-
-pub overflow_add-middle-in-loop-low : goal.overflow_add-middle-in-loop-low
-overflow_add-middle-in-loop-low c = record { fits = omega (arith, c.loop-low-test.true, c.loop-low.invariant.inside) }
-
-pub offset_bounds-table-middle-in-loop-low : goal.offset_bounds-table-middle-in-loop-low
-offset_bounds-table-middle-in-loop-low c = record { fits = omega (arith, c.loop-low-test.true, c.loop-low.invariant.inside) }
-
-pub bounds-table-middle-in-loop-low : goal.bounds-table-middle-in-loop-low
-bounds-table-middle-in-loop-low c = omega (arith, c.loop-low-test.true, c.loop-low.invariant.inside)
-
-pub overflow_add-table : goal.overflow_add-table
-overflow_add-table c =
-    let l = c.loop-low in
-    let t = c.loop-low-test.true in
-    record { fits = omega (arith, sum_fits c.args.v _ c.requires.0 _ _ (middle l.low l.high) l.invariant (from_low _ _ t) (below-high _ _ t)) }
-
-pub overflow_mul-v : goal.overflow_mul-v
-overflow_mul-v c = record { fits = omega (arith, c.requires.1) }
-
-pub overflow_add-low : goal.overflow_add-low
-overflow_add-low c = record { fits = omega (arith, c.loop-low-test.true, c.loop-low.invariant.inside) }
-
-pub loop-low-smaller-then-table-middle : goal.loop-low-smaller-then-table-middle
-loop-low-smaller-then-table-middle c = omega (arith, c.loop-low-test.true)
-
-pub loop-low-preserved-then-table-middle : goal.loop-low-preserved-then-table-middle
-loop-low-preserved-then-table-middle c =
-    let l = c.loop-low in
-    let t = c.loop-low-test.true in
-    between-upper c.args.v _ c.requires.0 _ _ (middle l.low l.high) l.invariant (from_low _ _ t) (below-high _ _ t) c.if-table-middle.true
-
-pub loop-low-smaller : goal.loop-low-smaller
-loop-low-smaller c = omega (arith, c.loop-low-test.true)
-
-pub loop-low-preserved : goal.loop-low-preserved
-loop-low-preserved c =
-    let l = c.loop-low in
-    let t = c.loop-low-test.true in
-    between_lower c.args.v _ c.requires.0 _ _ (middle l.low l.high) l.invariant (from_low _ _ t) (below-high _ _ t) c.if-table-middle.false
-
-pub returns : goal.returns
-returns c = between-met c.args.v _ _ c.loop-low.invariant c.loop-low-test.false
+pub returns-else-above-gt0 : goal.returns-else-above-gt0
+returns-else-above-gt0 c =
+    let p = found c.args.table.now c.requires.0 _ _ c.requires.1 c.partition_point-above.ensures.bound c.partition_point-above.ensures.partitioned (λ a r q k. search rules) in
+    upper-stands c.args.v c.partition_point-above.result p
+    (elim c.else-above-gt0.branch [
+      | else-above-gt0-via-then-above-gt0+else-v-table w ↦ λ h. rw c.requires.0 at w.if-v-table.false
+      | else-above-gt0-via-else-above-gt0 w ↦ λ h. omega (arith, h, w.if-above-gt0.false)
+    ])
