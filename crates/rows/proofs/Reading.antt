@@ -2,27 +2,29 @@
 use mathlib.Core.Path.{◌≡◌, refl, sym, ap, ◌∙◌}
 use mathlib.Core.Bool.{Bool, true, false, ◌||◌, not}
 use mathlib.Core.List.{List, [], ◌∷◌, ◌++◌}
-use Rattle.std.specs.Prelude.{None, Some}
-use Prim.Native.Nat.{ℕ, zero, suc, ◌+◌, ◌*◌, ◌^◌, ◌≤◌, ◌<◌}
-use native.Mathlib.Nat.{add-zero, zero-mul, suc-mul, mod-eq_of_lt, le_antisymm, le_of_suc-le-suc, not-suc-le-zero}
+use Rattle.std.specs.Prelude.{None, Some, cond}
+use Prim.Native.Nat.{ℕ, zero, suc, ◌+◌, ◌*◌, ◌^◌, ◌<◌}
+use native.Mathlib.Nat.{add-zero, zero-mul, suc-mul, mod-eq_of_lt, le_of_suc-le-suc, not-suc-le-zero}
 use native.Mathlib.Numerals.{add-one}
 use native.Mathlib.Omega.{arith}
 use lib.Dec.{eqb, ltb}
 use lib.ListN.{length, get_or, take, drop, set}
 use lib.Seq.{drop-drop, get_or-drop, take-suc-set}
-use borrow.Author.Tests.{eq-eqb, ne_eqb, ltb-true}
+use borrow.Author.Tests.{ltb-true}
 use Rattle.words.specs.Pairs.{joined, low_of}
-use Rattle.model.specs.Codec.{as_row, Row, word, wide, ◌⊗◌, marked, maybe, pad, rows_at}
+use Rattle.model.specs.Codec.{Row, word, wide, ◌⊗◌, marked, maybe, pad, rows_at}
 use Rattle.model.specs.Parts.{any, bit, variable_row, timer_is, timer_row, slot_is, slot_row, jump_is, jump_row, pending_is, pending_row}
 use Rattle.model.specs.Lists.{all}
 use Rattle.model.specs.World.{is_one}
 use Rattle.model.specs.Store.{variable_of, text_short}
 use Rattle.model.specs.declared.Jump.{Jump}
 use Rattle.model.specs.Steps.{jump_at}
+use Rattle.model.specs.declared.Point.{Point}
+use Rattle.model.specs.declared.VarValue.{VarValue}
 use Rattle.model.specs.declared.VarValue.TheVariants.{Int, Text}
 use Rattle.model.proofs.Bools.{both}
 use Rattle.rows.specs.Places.{row_at, table_at}
-use Rattle.rows.specs.Rows.{bool_row, variable_code_row}
+use Rattle.rows.specs.Rows.{bool_row, short_variable_of, variable_code_row, leap_row, point_row}
 use Rattle.std.specs.Prelude.{Option}
 
 -- ROWS ------------------------------------------------------------------------------------------------------------------------------
@@ -59,12 +61,13 @@ given : {A : Type 0} (m : ℕ) (x : A) → (m ≡ 0 → ⊥) → Some x ≡ mark
 given zero x z = absurd (z refl)
 given (suc m) x z = refl
 
-module _ {A : Type 0} (r : Row A) (w : List ℕ) (k m : ℕ) (x : A) (p : m ≡ row_at any w k) (q : x ≡ row_at r w (k + 1)) where
+module _ {A : Type 0} (r : Row A) (w : List ℕ) (k m : ℕ) (p : m ≡ row_at any w k) where
   pub none-is : m ≡ 0 → None ≡ row_at (maybe r) w k
-  none-is z = absent m x z ∙ marked-is w r k (k + 1) m x refl p q
+  unfolding row_at
+  none-is z = absent m (r.get (drop (k + 1) w)) z ∙ marked-is w r k (k + 1) m (r.get (drop (k + 1) w)) refl p refl
 
-  pub some-is : (m ≡ 0 → ⊥) → Some x ≡ row_at (maybe r) w k
-  some-is z = given m x z ∙ marked-is w r k (k + 1) m x refl p q
+  pub some-is : (x : A) → x ≡ row_at r w (k + 1) → (m ≡ 0 → ⊥) → Some x ≡ row_at (maybe r) w k
+  some-is x q z = given m x z ∙ marked-is w r k (k + 1) m x refl p q
 
 pub bool_is : (w : List ℕ) (k m : ℕ) → m ≡ row_at any w k → eqb m 1 ≡ row_at bool_row w k
 unfolding row_at
@@ -83,56 +86,57 @@ slot_is_lem w k a b c d p q r s =
     (pair_is w any (any ⊗ (any ⊗ wide)) k (k + 1) a (b, (c, d)) refl p
     (pair_is w any (any ⊗ wide) (k + 1) (k + 2) b (c, d) (omega arith) q (pair_is w any wide (k + 2) (k + 3) c d (omega arith) r s)))
 
-module _ (w : List ℕ) (k m a b : ℕ) (p : m ≡ row_at any w k) (q : a ≡ row_at any w (k + 1)) (r : b ≡ row_at any w (k + 2)) where
-  behind-mark : marked m (jump_at a b) ≡ row_at jump_row w k
-  unfolding row_at
-  behind-mark =
-      marked-is w (as_row jump_is (any ⊗ any)) k (k + 1) m (jump_at a b) refl p
-      (ap jump_is.to (pair_is w any any (k + 1) (k + 2) a b (omega arith) q r))
-
-  pub no_jump : m ≡ 0 → None ≡ row_at jump_row w k
-  no_jump z = absent m (jump_at a b) z ∙ behind-mark
-
-  pub jump-is : (m ≡ 0 → ⊥) → Some (jump_at a b) ≡ row_at jump_row w k
-  jump-is z = given m (jump_at a b) z ∙ behind-mark
-
-pub pending-is : (w : List ℕ) (k s d r l p : ℕ) (j : Option Jump) (b t n : ℕ)
-    → s ≡ row_at wide w k → d ≡ row_at wide w (k + 2) → r ≡ row_at any w (k + 4) → l ≡ row_at any w (k + 5) → p ≡ row_at any w (k + 6)
-    → j ≡ row_at jump_row w (k + 7) → b ≡ row_at any w (k + 10) → t ≡ row_at any w (k + 11) → n ≡ row_at wide w (k + 12)
-    → record { rule = r; point = record { list = l; place = p; jump = j }; due = d; budget = b; trigger = t; seq = s; number = n } ≡ row_at pending_row w k
+pub leap-is : (w : List ℕ) (k a b : ℕ) → a ≡ row_at any w k → b ≡ row_at any w (k + 1) → jump_at a b ≡ row_at leap_row w k
 unfolding row_at
-pending-is w k s d r l p j b t n es ed er el ep ej eb et en =
+leap-is w k a b p q = ap jump_is.to (pair_is w any any k (k + 1) a b refl p q)
+
+pub point-is : (w : List ℕ) (k l p : ℕ) (j : Option Jump) → l ≡ row_at any w k → p ≡ row_at any w (k + 1) → j ≡ row_at jump_row w (k + 2)
+    → record { list = l; place = p; jump = j } ≡ row_at point_row w k
+unfolding row_at
+point-is w k l p j e f g =
+    let to : ℕ × (ℕ × Option Jump) → Point = λ x. record { list = x.0; place = x.1.0; jump = x.1.1 } in
+    ap to (pair_is w any (any ⊗ jump_row) k (k + 1) l (p, j) refl e (pair_is w any jump_row (k + 1) (k + 2) p j (omega arith) f g))
+
+pub pending-is : (w : List ℕ) (k s d r : ℕ) (p : Point) (b t n : ℕ)
+    → s ≡ row_at wide w k → d ≡ row_at wide w (k + 2) → r ≡ row_at any w (k + 4) → p ≡ row_at point_row w (k + 5)
+    → b ≡ row_at any w (k + 10) → t ≡ row_at any w (k + 11) → n ≡ row_at wide w (k + 12)
+    → record { rule = r; point = p; due = d; budget = b; trigger = t; seq = s; number = n } ≡ row_at pending_row w k
+unfolding row_at
+pending-is w k s d r p b t n es ed er ep eb et en =
+    let el : p.list ≡ row_at any w (k + 5) = ap (λ (x : Point). x.list) ep in
+    let ea : p.place ≡ row_at any w (k + 6) = ap (λ (x : Point). x.place) ep ∙ ap (λ (l : List ℕ). get_or l 0 0) (drop-drop 1 (k + 5) w ∙ at (k + 5 + 1) (k + 6) (omega arith)) in
+    let ej : p.jump ≡ row_at jump_row w (k + 7) =
+    ap (λ (x : Point). x.jump) ep ∙ ap jump_row.get (ap (drop 1) (drop-drop 1 (k + 5) w) ∙ drop-drop 1 (k + 5 + 1) w ∙ at (k + 5 + 1 + 1) (k + 7) (omega arith)) in
     let c₉ = pair_is w wide (pad 1) (k + 12) (k + 14) n tt (omega arith) en refl in
     let c₈ = pair_is w (word 4) (wide ⊗ pad 1) (k + 11) (k + 12) t (n, tt) (omega arith) et c₉ in
     let c₇ = pair_is w any (word 4 ⊗ (wide ⊗ pad 1)) (k + 10) (k + 11) b (t, (n, tt)) (omega arith) eb c₈ in
-    let c₆ = pair_is w jump_row (any ⊗ (word 4 ⊗ (wide ⊗ pad 1))) (k + 7) (k + 10) j (b, (t, (n, tt))) (omega arith) ej c₇ in
-    let c₅ = pair_is w any (jump_row ⊗ (any ⊗ (word 4 ⊗ (wide ⊗ pad 1)))) (k + 6) (k + 7) p (j, (b, (t, (n, tt)))) (omega arith) ep c₆ in
-    let c₄ = pair_is w any (any ⊗ (jump_row ⊗ (any ⊗ (word 4 ⊗ (wide ⊗ pad 1))))) (k + 5) (k + 6) l (p, (j, (b, (t, (n, tt))))) (omega arith) el c₅ in
-    let c₃ = pair_is w any (any ⊗ (any ⊗ (jump_row ⊗ (any ⊗ (word 4 ⊗ (wide ⊗ pad 1)))))) (k + 4) (k + 5) r (l, (p, (j, (b, (t, (n, tt)))))) (omega arith) er c₄ in
-    let c₂ = pair_is w wide (any ⊗ (any ⊗ (any ⊗ (jump_row ⊗ (any ⊗ (word 4 ⊗ (wide ⊗ pad 1))))))) (k + 2) (k + 4) d (r, (l, (p, (j, (b, (t, (n, tt))))))) (omega arith) ed c₃ in
-    ap pending_is.to (pair_is w wide (wide ⊗ (any ⊗ (any ⊗ (any ⊗ (jump_row ⊗ (any ⊗ (word 4 ⊗ (wide ⊗ pad 1)))))))) k (k + 2) s (d, (r, (l, (p, (j, (b, (t, (n, tt)))))))) refl es c₂)
+    let c₆ = pair_is w jump_row (any ⊗ (word 4 ⊗ (wide ⊗ pad 1))) (k + 7) (k + 10) p.jump (b, (t, (n, tt))) (omega arith) ej c₇ in
+    let c₅ = pair_is w any (jump_row ⊗ (any ⊗ (word 4 ⊗ (wide ⊗ pad 1)))) (k + 6) (k + 7) p.place (p.jump, (b, (t, (n, tt)))) (omega arith) ea c₆ in
+    let c₄ = pair_is w any (any ⊗ (jump_row ⊗ (any ⊗ (word 4 ⊗ (wide ⊗ pad 1))))) (k + 5) (k + 6) p.list (p.place, (p.jump, (b, (t, (n, tt))))) (omega arith) el c₅ in
+    let c₃ = pair_is w any (any ⊗ (any ⊗ (jump_row ⊗ (any ⊗ (word 4 ⊗ (wide ⊗ pad 1)))))) (k + 4) (k + 5) r (p.list, (p.place, (p.jump, (b, (t, (n, tt)))))) (omega arith) er c₄ in
+    let c₂ = pair_is w wide (any ⊗ (any ⊗ (any ⊗ (jump_row ⊗ (any ⊗ (word 4 ⊗ (wide ⊗ pad 1))))))) (k + 2) (k + 4) d (r, (p.list, (p.place, (p.jump, (b, (t, (n, tt))))))) (omega arith) ed c₃ in
+    ap pending_is.to (pair_is w wide (wide ⊗ (any ⊗ (any ⊗ (any ⊗ (jump_row ⊗ (any ⊗ (word 4 ⊗ (wide ⊗ pad 1)))))))) k (k + 2) s (d, (r, (p.list, (p.place, (p.jump, (b, (t, (n, tt)))))))) refl es c₂)
+  where
+    at : (i j : ℕ) → i ≡ j → drop i w ≡ drop j w
+    at i j e = ap (λ (m : ℕ). drop m w) e
 
 -- a variable: a text is its number alone
 module _ (w : List ℕ) (k n t v : ℕ) (p : n ≡ row_at any w k) (q : t ≡ row_at any w (k + 1)) (r : v ≡ row_at wide w (k + 2)) where
   row_is : (n, (t, v)) ≡ row_at variable_row w k
   row_is = pair_is w any (bit ⊗ wide) k (k + 1) n (t, v) refl p (pair_is w bit wide (k + 1) (k + 2) t v (omega arith) (unfold row_at in q) r)
 
-  pub text-is : (l : ℕ) → t ≡ 1 → l ≡ low_of v → text_short (row_at variable_row w k) ≡ true → record { name = n; value = Text l } ≡ row_at variable_code_row w k
-  unfolding row_at low_of
-  text-is l z e h =
-      let y : is_one t ≡ true = eq-eqb t 1 z in
-      let f : not (is_one t) || ltb v (2 ^ 32) ≡ true = ap text_short row_is ∙ h in
-      let g = ltb-true v (2 ^ 32) (rw y at f) in
-      let i : l ≡ v = e ∙ mod-eq_of_lt g in
-      let o : variable_of (n, (t, v)) ≡ record { name = n; value = Text v } = rw y in
-      ap (λ (x : ℕ). record { name = n; value = Text x }) i ∙ sym o ∙ ap variable_of row_is
-
-  pub int_is : (t ≡ 1 → ⊥) → record { name = n; value = Int v } ≡ row_at variable_code_row w k
+  pub variable-is : (x : VarValue) → x ≡ cond (is_one t) (Text (low_of v)) (Int v) → record { name = n; value = x } ≡ row_at variable_code_row w k
   unfolding row_at
-  int_is z =
-      let y : is_one t ≡ false = ne_eqb t 1 z in
-      let o : variable_of (n, (t, v)) ≡ record { name = n; value = Int v } = rw y in
-      sym o ∙ ap variable_of row_is
+  variable-is x e = ap (λ (y : VarValue). record { name = n; value = y }) e ∙ ap short_variable_of row_is
+
+-- where texts are numbers of one word, it is what the words say
+pub short-is : (r : ℕ × (ℕ × ℕ)) → text_short r ≡ true → short_variable_of r ≡ variable_of r
+unfolding low_of
+short-is r h = ap (λ (v : VarValue). record { name = r.0; value = v }) (by (is_one r.1.0) h)
+  where
+    by : (b : Bool) → not b || ltb r.1.1 (2 ^ 32) ≡ true → ◌≡◌ {A = VarValue} (cond b (Text (low_of r.1.1)) (Int r.1.1)) (cond b (Text r.1.1) (Int r.1.1))
+    by false e = refl
+    by true e = ap Text (mod-eq_of_lt (ltb-true r.1.1 (2 ^ 32) e))
 
 -- TABLES ------------------------------------------------------------------------------------------------------------------------------
 module _ {A : Type 0} (r : Row A) (w : List ℕ) where
@@ -164,9 +168,6 @@ module _ {A : Type 0} (r : Row A) (w : List ℕ) where
       ∙ ap (λ (l : List A). l ++ (x ∷ [])) e
       ∙ ap (λ (y : A). table_at r i w k ++ (y ∷ [])) (ex ∙ ap (λ (y : ℕ). row_at r w y) ej)
       ∙ sym (table_more i k))
-
-  pub reads_end : (a : List A) (i m k : ℕ) → i ≤ m → m ≤ i → take i a ≡ table_at r i w k → take m a ≡ table_at r m w k
-  reads_end a i m k h l e = rw (le_antisymm h l) at e
 
   row_of : (p : A → Bool) (m i : ℕ) (v : List ℕ) → all p (rows_at r m v) ≡ true → i < m → p (r.get (drop (i * n) v)) ≡ true
   unfolding rows_at

@@ -1,11 +1,14 @@
 -- Rows of the layout by the types that the code has for them.
-use Rattle.std.specs.Prelude.{Bool, true, [], ◌∷◌, ℕ, get_or, replicate}
+use Rattle.std.specs.Prelude.{Bool, true, cond, [], ◌∷◌, ℕ, get_or, replicate}
+use Rattle.words.specs.Pairs.{low_of}
 use Rattle.model.specs.Layout.{free}
-use Rattle.model.specs.Codec.{Row, ◌⊗◌}
-use Rattle.model.specs.Parts.{any, bit, variable_row, jump_row}
+use Rattle.model.specs.Codec.{Row, ◌⊗◌, as_row}
+use Rattle.model.specs.Parts.{any, bit, variable_row, jump_is, jump_row}
 use Rattle.model.specs.World.{is_one}
-use Rattle.model.specs.Store.{bit_of, variable_of, variable_row_of}
+use Rattle.model.specs.Store.{bit_of, variable_row_of}
+use Rattle.model.specs.declared.Jump.{Jump}
 use Rattle.model.specs.declared.Point.{Point}
+use Rattle.model.specs.declared.VarValue.TheVariants.{Int, Text}
 use Rattle.model.specs.declared.Variable.{Variable}
 
 -- a row, by another type
@@ -16,8 +19,16 @@ through to from r =
 abbrev pub bool_row : Row Bool
 bool_row = through is_one bit_of bit
 
+-- "a text variable keeps its number only": what stands in the low word
+abbrev pub short_variable_of : ℕ × (ℕ × ℕ) → Variable
+short_variable_of r = record { name = r.0; value = cond (is_one r.1.0) (Text (low_of r.1.1)) (Int r.1.1) }
+
 abbrev pub variable_code_row : Row Variable
-variable_code_row = through variable_of variable_row_of variable_row
+variable_code_row = through short_variable_of variable_row_of variable_row
+
+-- a jump, behind its mark
+abbrev pub leap_row : Row Jump
+leap_row = as_row jump_is (any ⊗ any)
 
 -- list, place and jump of a pending record
 abbrev pub point_row : Row Point

@@ -3,17 +3,23 @@
 
 pub mod put;
 pub mod read;
+pub mod records;
+pub mod row;
 pub mod tables;
 
-// The words of a row.
+use model::{EverySlot, NamedTimer, Pending, Variable};
+use row::Row;
+
+// The words of a rule's last activation, and of its cycle position.
 pub const ACTIVATION_WORDS: usize = 3;
 
 pub const POSITION_WORDS: usize = 2;
 
-pub const VARIABLE_WORDS: usize = 4;
+// The words of a record.
+pub const VARIABLE_WORDS: usize = Variable::WORDS;
 
-pub const TIMER_WORDS: usize = 3;
+pub const TIMER_WORDS: usize = NamedTimer::WORDS;
 
-pub const SLOT_WORDS: usize = 5;
+pub const SLOT_WORDS: usize = EverySlot::WORDS;
 
-pub const PENDING_WORDS: usize = 15;
+pub const PENDING_WORDS: usize = Pending::WORDS;

@@ -1,6 +1,0 @@
--- `rows::put::put_option32` meets its contract. Assumes nothing.
-use Rattle.rows.proofs.Written.{some-32}
-use Rattle.rows.proofs.put.put_option32.Goals as goal
-
-pub returns-in-Some : goal.returns-in-Some
-returns-in-Some c = rw c.in-Some.is (some-32 _ _ _ _ c.in-Some.value c.requires c.put_word.ensures c.put_word-in-Some.ensures)
