@@ -14,7 +14,7 @@ use Rattle.words.proofs.Laws.{add-at-most}
 use Rattle.counters.specs.Counters.{counters_of, raised_at}
 use Rattle.counters.specs.declared.Counters.{Counters}
 use Rattle.model.specs.Layout.{row_fits, rows_fit, zeros, up_to}
-use Rattle.model.specs.Codec.{maybe, rows_at, words_of}
+use Rattle.model.specs.Codec.{maybe, rows_at}
 use Rattle.model.specs.Parts.{any}
 use Rattle.model.specs.State.{with_rest, with_prev_week_min, bump_by}
 use Rattle.model.proofs.Bools.{both, join}
@@ -65,13 +65,6 @@ module _ (w : List ℕ) where
       (table-cons 1 (k + 10) (k + 11) _ _ (omega arith) e₁₀
       (table-cons 0 (k + 11) (k + 12) _ _ (omega arith) e₁₁ (table-nil (k + 12)))))))))))))
 
--- all 12 are written
-pub counters-put : (w w₁ : List ℕ) (k i : ℕ) (c : Counters) → i ≤ 12 → 12 ≤ i → w₁ ≡ laid w k (words_of any (take i (counters_of c))) → w₁ ≡ laid w k (words_of any (counters_of c))
-unfolding counters_of
-counters-put w w₁ k i c h l e =
-    let q : i ≡ 12 = omega arith in
-    rw q at e
-
 -- ONE COUNTER GOES UP -------------------------------------------------------------------------------------------------------------------------
 -- rows of one word are their words
 words-at : (n : ℕ) (p : List ℕ) → n ≤ length p → rows_at any n p ≡ take n p
@@ -79,11 +72,6 @@ unfolding rows_at
 words-at zero p h = refl
 words-at (suc n) [] h = absurd (omega arith)
 words-at (suc n) (x ∷ p) h = ap (λ (l : List ℕ). x ∷ l) (words-at n p (omega arith))
-
-any-words : (l : List ℕ) → words_of any l ≡ l
-unfolding words_of
-any-words [] = refl
-any-words (x ∷ l) = ap (λ (t : List ℕ). x ∷ t) (any-words l)
 
 word_fits : (m n : ℕ) (w : List ℕ) (i x : ℕ) → rows_fit n (up_to m ∷ []) w ≡ true → x ≤ m → rows_fit n (up_to m ∷ []) (set w i x) ≡ true
 unfolding rows_fit row_fits zeros
@@ -94,7 +82,7 @@ word_fits m (suc n) (y ∷ w) (suc i) x e h =
     let b = both (row_fits (up_to m ∷ []) (y ∷ w)) (rows_fit n (up_to m ∷ []) w) e in
     join b.0 (word_fits m n w i x b.1 h)
 
-pub bumped : (w w' c d : List ℕ) (which by : ℕ) → Sound w → c ≡ table_at any 12 w (place_of counters_part) → d ≡ raised_at which by c → w' ≡ laid w (place_of counters_part) (words_of any d)
+pub bumped : (w w' c d : List ℕ) (which by : ℕ) → Sound w → c ≡ table_at any 12 w (place_of counters_part) → d ≡ raised_at which by c → w' ≡ laid w (place_of counters_part) d
     → Means w' (base w) (with_rest (bump_by which by (meaning w).rest) (meaning w))
 unfolding meaning bump_by table_at
 bumped w w' c d which by s e f b =
@@ -104,7 +92,7 @@ bumped w w' c d which by s e f b =
     let raised : d ≡ raised_at which by p = f ∙ ap (raised_at which by) is in
     let fit = word_fits 4294967295 12 p which (saturating_add max32 (get_or p which 0) by) (s.parts.fit counters_part (omega arith)) (add-at-most max32 (get_or p which 0) by) in
     let k : length (raised_at which by p) ≡ 12 = length-set p which (saturating_add max32 (get_or p which 0) by) ∙ long in
-    let q : w' ≡ laid w (place_of counters_part) (raised_at which by p) = b ∙ ap (laid w (place_of counters_part)) (any-words d ∙ raised) in
+    let q : w' ≡ laid w (place_of counters_part) (raised_at which by p) = b ∙ ap (laid w (place_of counters_part)) raised in
     counters-changed w w' (raised_at which by p) s (rw q (changed-laid counters_part (omega arith) w (raised_at which by p) (shaped w s) k fit))
 
 -- THE MINUTE OF THE WEEK ----------------------------------------------------------------------------------------------------------------------

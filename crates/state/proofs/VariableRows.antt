@@ -27,6 +27,7 @@ use Rattle.model.proofs.PartsLaws.{variable-laws}
 use Rattle.model.specs.contracts.VarValue.{the_type}
 use Rattle.rows.specs.Places.{laid, row_at}
 use Rattle.rows.specs.Rows.{variable_code_row}
+use Rattle.rows.proofs.Reading.{short-is}
 use Rattle.state.specs.Cuts.{rows_in, has_word}
 use Rattle.state.specs.Meaning.{Holds, Counted, Sound, Means, meaning, base, variables_part, place_of, words_in, part}
 use Rattle.state.specs.Named.{variable_has_name, lacks_room, assigned, has_name, put_row, assign_row}
@@ -174,7 +175,7 @@ module _ (name : ℕ) where
         pub variable-found : (x : Variable) → x ≡ row_at variable_code_row w (place_of variables_part + 1 + i * 4) → Some x.value ≡ var_named (meaning w).rest name
         unfolding var_named row_at
         variable-found x e =
-            let q : x ≡ variable_of (get_or rows i (0, (0, 0))) = e ∙ ap variable_of row_is in
+            let q : x ≡ variable_of (get_or rows i (0, (0, 0))) = e ∙ short-is (row_at variable_row w (place_of variables_part + 1 + i * 4)) variable-short ∙ ap variable_of row_is in
             let d : Variable = variable_of (0, (0, 0)) in
             let g : get_or (meaning w).rest.vars i d ≡ variable_of (get_or rows i (0, (0, 0))) = ap (λ (l : List Variable). get_or l i d) variables-are ∙ get_or-map variable_of rows i (0, (0, 0)) in
             sym (ap value_in (found (variable_has_name name) (meaning w).rest.vars i first d (omega (arith, variables-count, h)) ∙ ap (λ (y : Variable). Some y) (g ∙ sym q)))

@@ -6,6 +6,7 @@ ghost use Rattle.model.specs.State.{next_number};
 ghost use Rattle.state.specs.Meaning.{Sound, Means, meaning, base};
 
 use crate::place;
+use rows::row::Row;
 
 const MAX_U64: u64 = 0xFFFF_FFFF_FFFF_FFFF;
 
@@ -14,13 +15,13 @@ pub fn take_number(v: &mut [u32]) -> u64
     requires { Sound v.old × ((meaning v.old).last_number < max64 + max64) }
     ensures { Means v.new (base v.old) (with_number (suc (meaning v.old).last_number) (meaning v.old)) × (result ≡ next_number (meaning v.old).last_number) }
 {
-    let last = rows::read::wide_at(v, place::LAST);
+    let last = u64::at(v, place::LAST);
     if last < MAX_U64 {
-        rows::put::put_wide(v, place::LAST, last + 1);
+        (last + 1).put(v, place::LAST);
         return last + 1;
     }
-    let beyond = rows::read::wide_at(v, place::BEYOND);
-    rows::put::put_wide(v, place::BEYOND, beyond + 1);
+    let beyond = u64::at(v, place::BEYOND);
+    (beyond + 1).put(v, place::BEYOND);
     MAX_U64
 }
 
@@ -29,5 +30,5 @@ pub fn last_fits(v: &[u32]) -> bool
     requires { Sound v.now }
     ensures { result ≡ leb (meaning v.now).last_number max64 }
 {
-    rows::read::wide_at(v, place::BEYOND) == 0
+    u64::at(v, place::BEYOND) == 0
 }

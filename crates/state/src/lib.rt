@@ -15,7 +15,6 @@
 
 ghost use Rattle.std.specs.Prelude.{◌≡◌, ◌+◌, ◌≤◌, length};
 ghost use Rattle.counters.specs.Counters.{counters_of, place_of_counter};
-ghost use Rattle.model.specs.Codec.{words_of};
 ghost use Rattle.model.specs.Parts.{any};
 ghost use Rattle.model.specs.State.{with_rest, bump_by, with_prev_week_min};
 ghost use Rattle.rows.specs.Places.{table_at, laid};
@@ -23,6 +22,8 @@ ghost use Rattle.state.specs.Meaning.{Sound, Means, meaning, base};
 
 use counters::{Counter, Counters};
 use model::{EverySlot, NamedTimer};
+use rows::put::put_words;
+use rows::row::{Row, option_at, put_option};
 
 pub mod last_number;
 pub mod pending;
@@ -54,24 +55,25 @@ fn counters_at(s: &[u32], k: usize) -> Counters
     ensures { counters_of result ≡ table_at any 12 s.now k }
 {
     Counters {
-        activations_total: rows::read::word_at(s, k),
-        activations_dry: rows::read::word_at(s, k + 1),
-        suppressed_cooldown: rows::read::word_at(s, k + 2),
-        suppressed_disabled: rows::read::word_at(s, k + 3),
-        conditions_rejected: rows::read::word_at(s, k + 4),
-        partial_outcomes: rows::read::word_at(s, k + 5),
-        effects_emitted: rows::read::word_at(s, k + 6),
-        actions_failed: rows::read::word_at(s, k + 7),
-        continuations_scheduled: rows::read::word_at(s, k + 8),
-        continuations_fired: rows::read::word_at(s, k + 9),
-        continuations_dropped: rows::read::word_at(s, k + 10),
-        ticks_time_unsynced: rows::read::word_at(s, k + 11),
+        activations_total: u32::at(s, k),
+        activations_dry: u32::at(s, k + 1),
+        suppressed_cooldown: u32::at(s, k + 2),
+        suppressed_disabled: u32::at(s, k + 3),
+        conditions_rejected: u32::at(s, k + 4),
+        partial_outcomes: u32::at(s, k + 5),
+        effects_emitted: u32::at(s, k + 6),
+        actions_failed: u32::at(s, k + 7),
+        continuations_scheduled: u32::at(s, k + 8),
+        continuations_fired: u32::at(s, k + 9),
+        continuations_dropped: u32::at(s, k + 10),
+        ticks_time_unsynced: u32::at(s, k + 11),
     }
 }
 
+#[tactic(auto, unfolding(counters::specs::Counters::counters_of))]
 fn put_counters(s: &mut [u32], k: usize, c: Counters)
     requires { k + 12 ≤ length s.old }
-    ensures { s.new ≡ laid s.old k (words_of any (counters_of c)) }
+    ensures { s.new ≡ laid s.old k (counters_of c) }
 {
     let values = [
         c.activations_total,
@@ -87,11 +89,7 @@ fn put_counters(s: &mut [u32], k: usize, c: Counters)
         c.continuations_dropped,
         c.ticks_time_unsynced,
     ];
-    let mut i = 0;
-    while i < 12 {
-        rows::put::put_word(s, k + i, values[i]);
-        i += 1;
-    }
+    put_words(s, k, &values);
 }
 
 // A counter goes up by `by`: the 12 words are read into the record, which is lent, and written back.
@@ -109,12 +107,12 @@ pub fn prev_week_min(v: &[u32]) -> Option<u32>
     requires { Sound v.now }
     ensures { result ≡ (meaning v.now).rest.prev_week_min }
 {
-    rows::read::option32_at(v, place::WEEK)
+    option_at(v, place::WEEK)
 }
 
 pub fn set_prev_week_min(v: &mut [u32], minute: Option<u32>)
     requires { Sound v.old }
     ensures { Means v.new (base v.old) (with_rest (with_prev_week_min minute (meaning v.old).rest) (meaning v.old)) }
 {
-    rows::put::put_option32(v, place::WEEK, minute);
+    put_option(v, place::WEEK, minute);
 }

@@ -8,6 +8,8 @@ ghost use Rattle.state.specs.Meaning.{Sound, Means, meaning, base, rules_of};
 ghost use Rattle.state.specs.Named.{unset_rules};
 
 use crate::{pending, place};
+use rows::put::clear;
+use rows::row::{Row, option_at, put_option};
 use rows::{ACTIVATION_WORDS, POSITION_WORDS};
 
 // How many rules there are.
@@ -15,7 +17,7 @@ fn rule_count(v: &[u32]) -> usize
     requires { Sound v.now }
     ensures { (result ≡ rules_of v.now) × (result ≤ 64) }
 {
-    rows::read::word_at(v, place::RULES) as usize
+    u32::at(v, place::RULES) as usize
 }
 
 pub fn is_enabled(v: &[u32], i: usize) -> bool
@@ -23,7 +25,7 @@ pub fn is_enabled(v: &[u32], i: usize) -> bool
     ensures { result ≡ is_enabled (meaning v.now).rest i }
 {
     if i < rule_count(v) {
-        return rows::read::bool_at(v, place::BITS + i);
+        return bool::at(v, place::BITS + i);
     }
     false
 }
@@ -34,7 +36,7 @@ pub fn put_bit(v: &mut [u32], i: usize, on: bool)
     ensures { Means v.new (base v.old) (with_rest (with_enabled (set (meaning v.old).rest.enabled i on) (meaning v.old).rest) (meaning v.old)) }
 {
     if i < rule_count(v) {
-        rows::put::put_bool(v, place::BITS + i, on);
+        on.put(v, place::BITS + i);
     }
 }
 
@@ -54,7 +56,7 @@ pub fn last_activation(v: &[u32], i: usize) -> Option<u64>
     ensures { result ≡ last_activation_at (meaning v.now).rest i }
 {
     if i < rule_count(v) {
-        return rows::read::option64_at(v, place::ACTIVATIONS + i * ACTIVATION_WORDS);
+        return option_at(v, place::ACTIVATIONS + i * ACTIVATION_WORDS);
     }
     None
 }
@@ -65,7 +67,7 @@ pub fn put_last_activation(v: &mut [u32], i: usize, x: Option<u64>)
     ensures { Means v.new (base v.old) (with_rest (with_last_activation (set (meaning v.old).rest.last_activation i x) (meaning v.old).rest) (meaning v.old)) }
 {
     if i < rule_count(v) {
-        rows::put::put_option64(v, place::ACTIVATIONS + i * ACTIVATION_WORDS, x);
+        put_option(v, place::ACTIVATIONS + i * ACTIVATION_WORDS, x);
     }
 }
 
@@ -81,7 +83,7 @@ pub fn cycle_pos(v: &[u32], i: usize) -> Option<u32>
     ensures { result ≡ cycle_pos_at (meaning v.now).rest i }
 {
     if i < rule_count(v) {
-        return rows::read::option32_at(v, place::POSITIONS + i * POSITION_WORDS);
+        return option_at(v, place::POSITIONS + i * POSITION_WORDS);
     }
     None
 }
@@ -92,7 +94,7 @@ pub fn put_cycle_pos(v: &mut [u32], i: usize, x: Option<u32>)
     ensures { Means v.new (base v.old) (with_rest (with_cycle_pos (set (meaning v.old).rest.cycle_pos i x) (meaning v.old).rest) (meaning v.old)) }
 {
     if i < rule_count(v) {
-        rows::put::put_option32(v, place::POSITIONS + i * POSITION_WORDS, x);
+        put_option(v, place::POSITIONS + i * POSITION_WORDS, x);
     }
 }
 
@@ -108,6 +110,6 @@ pub fn unset_rules(v: &mut [u32], n: usize)
     requires { Sound v.old × (n ≤ 64) }
     ensures { Means v.new (base v.old) (with_rest (unset_rules n (meaning v.old).rest) (meaning v.old)) }
 {
-    rows::put::clear(v, place::BITS, place::VARIABLES - place::BITS);
-    rows::put::put_word(v, place::RULES, n as u32);
+    clear(v, place::BITS, place::VARIABLES - place::BITS);
+    (n as u32).put(v, place::RULES);
 }

@@ -6,6 +6,7 @@ ghost use Rattle.state.specs.Meaning.{Sound, AllNumbered, Holds, Counted, Below,
 
 use crate::place;
 use rows::PENDING_WORDS;
+use rows::row::Row;
 
 const MAX_U64: u64 = 0xFFFF_FFFF_FFFF_FFFF;
 
@@ -14,8 +15,8 @@ pub fn next_fits(v: &[u32]) -> bool
     requires { Sound v.now }
     ensures { result ≡ leb (meaning v.now).next max64 }
 {
-    let next = rows::read::wide_at(v, place::NEXT);
-    rows::read::wide_at(v, place::ACCEPTED) <= MAX_U64 - next
+    let next = u64::at(v, place::NEXT);
+    u64::at(v, place::ACCEPTED) <= MAX_U64 - next
 }
 
 // Each record behind the stored ones gets the number at its offset.
@@ -27,8 +28,8 @@ fn number_all(t: &mut [u32], stored: usize, next: u64, accepted: u64)
     let mut i = stored;
     while i < n {
         let k = 1 + i * PENDING_WORDS;
-        let offset = rows::read::wide_at(t, k);
-        rows::put::put_wide(t, k, next + offset);
+        let offset = u64::at(t, k);
+        (next + offset).put(t, k);
         i += 1;
     }
 }
@@ -39,12 +40,12 @@ pub fn assign_numbers(v: &mut [u32])
     requires { Sound v.old × (leb (meaning v.old).next max64 ≡ true) × ((meaning v.old).last_number ≤ max64) }
     ensures { AllNumbered v.new (meaning v.old) }
 {
-    let next = rows::read::wide_at(v, place::NEXT);
-    let accepted = rows::read::wide_at(v, place::ACCEPTED);
+    let next = u64::at(v, place::NEXT);
+    let accepted = u64::at(v, place::ACCEPTED);
     let stored = v[place::STORED] as usize;
     number_all(&mut v[place::PENDING..place::WEEK], stored, next, accepted);
     let count = v[place::PENDING];
-    rows::put::put_word(v, place::STORED, count);
-    rows::put::put_wide(v, place::NEXT, next + accepted);
-    rows::put::put_wide(v, place::ACCEPTED, 0);
+    count.put(v, place::STORED);
+    (next + accepted).put(v, place::NEXT);
+    0u64.put(v, place::ACCEPTED);
 }

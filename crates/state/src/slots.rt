@@ -11,6 +11,9 @@ ghost use Rattle.state.specs.Tables.{Keeps};
 use crate::{SlotList, place};
 use model::EverySlot;
 use rows::SLOT_WORDS;
+use rows::put::clear;
+use rows::row::Row;
+use rows::tables::table_at;
 
 // The word of a row where its due time begins.
 pub const DUE: usize = 3;
@@ -40,8 +43,8 @@ fn move_all(t: &mut [u32], time: u64)
     let mut i = 0;
     while i < n {
         let k = 1 + i * SLOT_WORDS;
-        let x = rows::read::slot_at(t, k);
-        rows::put::put_slot(t, k, move_on(x, time));
+        let x = EverySlot::at(t, k);
+        move_on(x, time).put(t, k);
         i += 1;
     }
 }
@@ -78,7 +81,7 @@ pub fn due_slots(v: &[u32], time: u64) -> SlotList
     ensures { Keeps (slot_due time) (meaning v.now).rest.every result.slots result.count }
 {
     let n = v[place::SLOTS] as usize;
-    let slots = rows::tables::slots_at(v, place::SLOTS + 1, n);
+    let slots = table_at(v, place::SLOTS + 1, n);
     keep_due(slots, n, time)
 }
 
@@ -88,7 +91,7 @@ pub fn join(t: &mut [u32], x: EverySlot)
     ensures { Holds 64 slot_row t.new ((most 64 slot_row).get t.old ++ (x ∷ [])) }
 {
     let n = t[0] as usize;
-    rows::put::put_slot(t, 1 + n * SLOT_WORDS, x);
+    x.put(t, 1 + n * SLOT_WORDS);
     t[0] = n as u32 + 1;
 }
 
@@ -97,5 +100,5 @@ pub fn drop_every(v: &mut [u32])
     requires { Sound v.old }
     ensures { Means v.new (base v.old) (with_rest (with_every [] (meaning v.old).rest) (meaning v.old)) }
 {
-    rows::put::clear(v, place::SLOTS, place::PENDING - place::SLOTS);
+    clear(v, place::SLOTS, place::PENDING - place::SLOTS);
 }

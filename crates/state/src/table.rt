@@ -4,6 +4,8 @@ ghost use Rattle.model.specs.Lists.{keep};
 ghost use Rattle.state.specs.Tables.{First};
 ghost use Rattle.state.specs.Cuts.{rows_in, table_of, word_in, wide_in, has_word, passes, test_fits, Fits, Table, RowSet};
 
+use rows::put::clear;
+
 // Which rows are kept.
 #[derive(Clone, Copy)]
 pub enum Test {
@@ -104,7 +106,7 @@ pub fn close_up(t: &mut [u32], width: usize, test: Test) -> usize
             j += 1;
         }
     }
-    rows::put::clear(t, 1 + j * width, (n - j) * width);
+    clear(t, 1 + j * width, (n - j) * width);
     t[0] = j as u32;
     j
 }

@@ -12,6 +12,7 @@ use crate::place::MAX_VARIABLES;
 use crate::{place, table};
 use model::{VarValue, Variable};
 use rows::VARIABLE_WORDS;
+use rows::row::Row;
 
 // The word of a row that is its name.
 const NAME: usize = 0;
@@ -36,9 +37,8 @@ pub fn variable(v: &[u32], name: u32) -> Option<VarValue>
 {
     let i = place_of(v, name);
     if i < v[place::VARIABLES] as usize {
-        let x = rows::read::variable_at(v, place::VARIABLES + 1 + i * VARIABLE_WORDS);
-        let value = x.value;
-        return Some(value);
+        let x = Variable::at(v, place::VARIABLES + 1 + i * VARIABLE_WORDS);
+        return Some(x.value);
     }
     None
 }
@@ -60,11 +60,11 @@ fn assign(t: &mut [u32], x: Variable)
     let i = table::first_with(t, VARIABLE_WORDS, NAME, x.name);
     let n = t[0] as usize;
     if i < n {
-        rows::put::put_variable(t, 1 + i * VARIABLE_WORDS, x);
+        x.put(t, 1 + i * VARIABLE_WORDS);
         return;
     }
     if n < MAX_VARIABLES {
-        rows::put::put_variable(t, 1 + n * VARIABLE_WORDS, x);
+        x.put(t, 1 + n * VARIABLE_WORDS);
         t[0] = n as u32 + 1;
     }
 }

@@ -3,9 +3,9 @@ use native.Mathlib.Omega.{arith}
 use Rattle.state.proofs.CounterWords.{week-set}
 use Rattle.state.proofs.set_prev_week_min.Goals as goal
 
-pub put_option32-requires : goal.put_option32-requires
-put_option32-requires c = omega (arith, c.requires.long)
+pub put_option-requires : goal.put_option-requires
+put_option-requires c = omega (arith, c.requires.long)
 
 pub returns : goal.returns
 returns c =
-    week-set _ c.requires _ c.args.minute (λ j. omega (arith, c.slice_known-2-1.given j)) c.put_option32.ensures
+    week-set _ c.requires _ c.args.minute (λ j. omega (arith, c.slice_known-2-1.given j)) c.put_option.ensures

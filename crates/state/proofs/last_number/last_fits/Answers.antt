@@ -3,4 +3,4 @@ use Rattle.state.proofs.TakingNumbers.{last_fits}
 use Rattle.state.proofs.last_number.last_fits.Goals as goal
 
 pub returns : goal.returns
-returns c = last_fits _ c.requires _ c.wide_at.ensures
+returns c = last_fits _ c.requires _ c.at.ensures

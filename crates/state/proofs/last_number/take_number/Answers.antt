@@ -5,12 +5,12 @@ use Rattle.state.proofs.last_number.take_number.Goals as goal
 
 pub returns-then-last-lt-MAX_U64 : goal.returns-then-last-lt-MAX_U64
 returns-then-last-lt-MAX_U64 c =
-    (takes-last _ c.requires.0 _ c.wide_at-last.ensures c.if-last-lt-MAX_U64.true _ c.put_wide.ensures, next-below _ c.requires.0 _ c.wide_at-last.ensures c.if-last-lt-MAX_U64.true)
+    (takes-last _ c.requires.0 _ c.at-last.ensures c.if-last-lt-MAX_U64.true _ c.put.ensures, next-below _ c.requires.0 _ c.at-last.ensures c.if-last-lt-MAX_U64.true)
 
 pub overflow_add-beyond : goal.overflow_add-beyond
 overflow_add-beyond c =
-    omega (arith, beyond-small _ c.requires.0 _ c.wide_at-last.ensures _ c.wide_at-beyond.ensures c.if-last-lt-MAX_U64.false c.requires.1)
+    omega (arith, beyond-small _ c.requires.0 _ c.at-last.ensures _ c.at-beyond.ensures c.if-last-lt-MAX_U64.false c.requires.1)
 
 pub returns : goal.returns
 returns c =
-    (takes-beyond _ c.requires.0 _ c.wide_at-last.ensures _ c.wide_at-beyond.ensures c.if-last-lt-MAX_U64.false c.requires.1 _ c.put_wide-2.ensures, next-beyond _ c.requires.0 _ c.wide_at-last.ensures c.if-last-lt-MAX_U64.false)
+    (takes-beyond _ c.requires.0 _ c.at-last.ensures _ c.at-beyond.ensures c.if-last-lt-MAX_U64.false c.requires.1 _ c.put-2.ensures, next-beyond _ c.requires.0 _ c.at-last.ensures c.if-last-lt-MAX_U64.false)

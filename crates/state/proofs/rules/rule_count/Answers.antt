@@ -6,5 +6,5 @@ use Rattle.state.proofs.rules.rule_count.Goals as goal
 
 pub returns : goal.returns
 returns c =
-    let e = c.word_at.ensures ∙ rules-at _ c.requires in
+    let e = c.at.ensures ∙ rules-at _ c.requires in
     (e, omega (arith, e, rules-few _ c.requires))

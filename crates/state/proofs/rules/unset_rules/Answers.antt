@@ -6,9 +6,9 @@ use Rattle.state.proofs.rules.unset_rules.Goals as goal
 pub clear-requires : goal.clear-requires
 clear-requires c = omega (arith, c.requires.0.long)
 
-pub put_word-requires : goal.put_word-requires
-put_word-requires c = omega (arith, unset-long _ _ c.requires.0 c.clear.ensures)
+pub put-requires : goal.put-requires
+put-requires c = omega (arith, unset-long _ _ c.requires.0 c.clear.ensures)
 
 pub returns : goal.returns
 returns c =
-    rules-unset _ _ _ _ c.requires.0 c.requires.1 c.clear.ensures c.put_word.ensures
+    rules-unset _ _ _ _ c.requires.0 c.requires.1 c.clear.ensures c.put.ensures

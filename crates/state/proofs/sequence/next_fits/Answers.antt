@@ -4,4 +4,4 @@ use Rattle.state.proofs.Assigning.{next_fits}
 use Rattle.state.proofs.sequence.next_fits.Goals as goal
 
 pub returns : goal.returns
-returns c = next_fits _ _ _ c.wide_at.ensures c.wide_at-next.ensures (omega arith)
+returns c = next_fits _ _ _ c.at.ensures c.at-next.ensures (omega arith)

@@ -24,16 +24,16 @@ overflow_mul-k c = omega arith
 pub overflow_add-k : goal.overflow_add-k
 overflow_add-k c = omega arith
 
-pub wide_at-offset-requires : goal.wide_at-offset-requires
-wide_at-offset-requires c = omega arith
+pub at-offset-requires : goal.at-offset-requires
+at-offset-requires c = omega arith
 
 pub overflow_add-next : goal.overflow_add-next
 overflow_add-next c =
     let v = c.loop-i.invariant in
-    omega (arith, offset-small _ _ _ c.requires.0 _ _ _ v.4 v.3 _ v.2 c.loop-i-test.true c.wide_at-offset.ensures _ c.requires.3, c.requires.2)
+    omega (arith, offset-small _ _ _ c.requires.0 _ _ _ v.4 v.3 _ v.2 c.loop-i-test.true c.at-offset.ensures _ c.requires.3, c.requires.2)
 
-pub put_wide-requires : goal.put_wide-requires
-put_wide-requires c =
+pub put-requires : goal.put-requires
+put-requires c =
     let v = c.loop-i.invariant in
     omega (arith, numbers-long _ _ _ c.requires.0 _ _ _ v.4 v.3, c.loop-i-test.true, v.1)
 
@@ -46,9 +46,9 @@ loop-i-smaller c = omega arith
 pub loop-i-preserved : goal.loop-i-preserved
 loop-i-preserved c =
     let v = c.loop-i.invariant in
-    let put = c.put_wide in
+    let put = c.put in
     let words = are_words put.new.s (λ i. omega (arith, c.slice_known-in-loop-i-1.given i)) in
-    (omega arith, v.1, omega arith, v.3, numbers_more _ _ _ c.requires.0 _ _ _ v.4 v.3 _ v.2 c.loop-i-test.true c.wide_at-offset.ensures _ put.ensures words)
+    (omega arith, v.1, omega arith, v.3, numbers_more _ _ _ c.requires.0 _ _ _ v.4 v.3 _ v.2 c.loop-i-test.true c.at-offset.ensures _ put.ensures words)
 
 pub shape_of-t : goal.shape_of-t
 shape_of-t c =

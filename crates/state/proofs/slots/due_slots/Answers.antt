@@ -11,12 +11,12 @@ use Rattle.state.proofs.slots.due_slots.Goals as goal
 pub overflow_cast-n : goal.overflow_cast-n
 overflow_cast-n c = omega (arith, slots-few _ c.requires)
 
-pub slots_at-slots-requires : goal.slots_at-slots-requires
-slots_at-slots-requires c = (omega arith, slots-few _ c.requires)
+pub table_at-slots-requires : goal.table_at-slots-requires
+table_at-slots-requires c = (omega arith, (slots-few _ c.requires, omega (arith, slots-few _ c.requires)))
 
 pub keep_due-requires : goal.keep_due-requires
 keep_due-requires c = slots-few _ c.requires
 
 pub returns : goal.returns
 returns c =
-    subst (λ (l : List EverySlot). Keeps (slot_due c.args.time) l c.keep_due.result.slots c.keep_due.result.count) (slots_read _ c.requires _ _ refl c.slots_at-slots.ensures) c.keep_due.ensures
+    subst (λ (l : List EverySlot). Keeps (slot_due c.args.time) l c.keep_due.result.slots c.keep_due.result.count) (slots_read _ c.requires _ _ refl c.table_at-slots.ensures) c.keep_due.ensures

@@ -24,11 +24,11 @@ overflow_mul-k c = omega arith
 pub overflow_add-k : goal.overflow_add-k
 overflow_add-k c = omega arith
 
-pub slot_at-x-requires : goal.slot_at-x-requires
-slot_at-x-requires c = omega arith
+pub at-x-requires : goal.at-x-requires
+at-x-requires c = omega arith
 
-pub put_slot-requires : goal.put_slot-requires
-put_slot-requires c =
+pub put-requires : goal.put-requires
+put-requires c =
     let v = c.loop-i.invariant in
     omega (arith, moves_long _ _ _ _ _ v.4 v.3 v.2, c.loop-i-test.true, v.1)
 
@@ -41,9 +41,9 @@ loop-i-smaller c = omega arith
 pub loop-i-preserved : goal.loop-i-preserved
 loop-i-preserved c =
     let v = c.loop-i.invariant in
-    let put = c.put_slot in
+    let put = c.put in
     let words = are_words put.new.s (λ i. omega (arith, c.slice_known-in-loop-i-1.given i)) in
-    (omega arith, v.1, v.2, v.3, moves_more _ _ _ _ _ v.4 v.3 v.2 _ _ _ c.loop-i-test.true c.slot_at-x.ensures c.move_on.ensures words put.ensures)
+    (omega arith, v.1, v.2, v.3, moves_more _ _ _ _ _ v.4 v.3 v.2 _ _ _ c.loop-i-test.true c.at-x.ensures c.move_on.ensures words put.ensures)
 
 pub shape_of-t : goal.shape_of-t
 shape_of-t c =

@@ -22,25 +22,25 @@ overflow_mul-i c = omega (arith, holds-count variable_row variable-laws 16 _ _ c
 pub overflow_add-i : goal.overflow_add-i
 overflow_add-i c = omega (arith, holds-count variable_row variable-laws 16 _ _ c.requires, holds-few variable_row variable-laws 16 _ _ c.requires)
 
-pub put_variable-requires : goal.put_variable-requires
-put_variable-requires c = omega (arith, holds-long variable_row variable-laws 16 _ _ c.requires, holds-count variable_row variable-laws 16 _ _ c.requires, holds-few variable_row variable-laws 16 _ _ c.requires)
+pub put-requires : goal.put-requires
+put-requires c = omega (arith, holds-long variable_row variable-laws 16 _ _ c.requires, holds-count variable_row variable-laws 16 _ _ c.requires, holds-few variable_row variable-laws 16 _ _ c.requires)
 
 pub returns-then-i-n : goal.returns-then-i-n
 returns-then-i-n c =
-    let put = c.put_variable in
+    let put = c.put in
     let good = variable-good c.args.x (words-laid _ _ _ put.new.s put.ensures (are_words put.new.s (λ i. omega (arith, c.slice_known-then-i-n-1.given i)))) in
     let k = holds-count variable_row variable-laws 16 _ _ c.requires in
     assigned-again _ _ _ _ c.requires _ c.first_with-i.ensures good _ (omega (arith, k, c.if-i-n.true)) put.ensures
 
-pub put_variable-requires-then-n-lt-MAX_VARIABLES : goal.put_variable-requires-then-n-lt-MAX_VARIABLES
-put_variable-requires-then-n-lt-MAX_VARIABLES c = omega (arith, holds-long variable_row variable-laws 16 _ _ c.requires)
+pub put-requires-then-n-lt-MAX_VARIABLES : goal.put-requires-then-n-lt-MAX_VARIABLES
+put-requires-then-n-lt-MAX_VARIABLES c = omega (arith, holds-long variable_row variable-laws 16 _ _ c.requires)
 
 pub bounds-t-0-then-n-lt-MAX_VARIABLES : goal.bounds-t-0-then-n-lt-MAX_VARIABLES
-bounds-t-0-then-n-lt-MAX_VARIABLES c = omega (arith, row-put-long variable_row variable-laws 16 _ _ _ _ _ c.requires c.if-n-lt-MAX_VARIABLES.true c.put_variable-then-n-lt-MAX_VARIABLES.ensures)
+bounds-t-0-then-n-lt-MAX_VARIABLES c = omega (arith, row-put-long variable_row variable-laws 16 _ _ _ _ _ c.requires c.if-n-lt-MAX_VARIABLES.true c.put-then-n-lt-MAX_VARIABLES.ensures)
 
 pub returns-then-n-lt-MAX_VARIABLES : goal.returns-then-n-lt-MAX_VARIABLES
 returns-then-n-lt-MAX_VARIABLES c =
-    let put = c.put_variable-then-n-lt-MAX_VARIABLES in
+    let put = c.put-then-n-lt-MAX_VARIABLES in
     let good = variable-good c.args.x (words-laid _ _ _ put.new.s put.ensures (are_words put.new.s (λ i. omega (arith, c.slice_known-then-n-lt-MAX_VARIABLES-1.given i)))) in
     assigned-new _ _ _ _ c.requires _ c.first_with-i.ensures good _ _ (holds-count variable_row variable-laws 16 _ _ c.requires) c.if-i-n.false c.if-n-lt-MAX_VARIABLES.true put.ensures
 
