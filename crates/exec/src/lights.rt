@@ -88,7 +88,7 @@ pub fn prim_cycle(image: &[u32], v: &mut [u32], job: Job, first: u32, count: u32
         return fails(v);
     }
     let at = cycle_place(v, job.index, count);
-    let place = words::saturating_add_u32(first, at);
+    let place = first.saturating_add(at);
     let scene = image::layout::word_at(image, POOL, place, 0);
     if job.dry {
         return emits(EffectKind::SceneRecall, scene, 0, 0, job.hold);

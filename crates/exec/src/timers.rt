@@ -18,7 +18,7 @@ fn arm_timer(snapshot: &[u32], v: &mut [u32], job: Job, name: u32, ms: u32) -> P
     if state::timers::timers_full(v) {
         return fails(v);
     }
-    let due = words::saturating_add_u64(world::now_ms(snapshot), ms as u64);
+    let due = world::now_ms(snapshot).saturating_add(ms as u64);
     state::timers::arm_timer(v, name, due);
     Ok(None)
 }

@@ -57,7 +57,7 @@ fn add_to(v: &mut [u32], job: Job, name: u32, step: i64, held: Option<VarValue>)
     match held {
         None => assign(v, job, name, VarValue::Int(words::bits_of(step))),
         Some(VarValue::Int(n)) => {
-            let sum = words::saturating_add_i64(words::as_i64(n), step);
+            let sum = words::as_i64(n).saturating_add(step);
             assign(v, job, name, VarValue::Int(words::bits_of(sum)))
         }
         Some(VarValue::Text(_)) => fails(v),

@@ -1,5 +1,6 @@
 -- `exec::timers::arm_timer` meets its contract. Assumes nothing.
 use mathlib.Core.Path.{sym, ◌∙◌}
+use Rattle.words.proofs.Laws.{sum_is}
 use Rattle.model.specs.Actions.{no_effect}
 use Rattle.exec.proofs.Follows.{does-nothing, answers, follows}
 use Rattle.exec.proofs.Cases.{arm-dry, arm_full, arm-wet}
@@ -17,4 +18,4 @@ returns c image flat s =
     let room = sym c.timers_full.ensures ∙ c.if-timers_full.false in
     answers
     (follows no_effect _ _ _ _ (armed-wet _ _ _ _ room c.arm_timer.ensures) (does-nothing c.arm_timer.ensures.sound))
-    (arm-wet _ _ _ _ _ _ _ c.if-job.false room (due-is _ _ _ _ c.saturating_add_u64-due.ensures c.now_ms.ensures))
+    (arm-wet _ _ _ _ _ _ _ c.if-job.false room (due-is _ _ _ _ (c.saturating_add-due.ensures ∙ sum_is _ _ _) c.now_ms.ensures))
