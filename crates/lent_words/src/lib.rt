@@ -14,11 +14,7 @@ pub const EFFECT_WORDS: usize = 5;
 pub fn clear(words: &mut [u32])
     ensures { words.new ≡ replicate (length words.old) 0 }
 {
-    let mut i = 0;
-    while i < words.len() {
-        words[i] = 0;
-        i += 1;
-    }
+    words.fill(0);
 }
 
 // Effect n, where there is room for it.
@@ -27,10 +23,6 @@ pub fn write_effect(words: &mut [u32], n: usize, x: Effect)
 {
     if n < words.len() / EFFECT_WORDS {
         let at = n * EFFECT_WORDS;
-        words[at] = x.kind;
-        words[at + 1] = x.a;
-        words[at + 2] = x.b;
-        words[at + 3] = x.c;
-        words[at + 4] = x.d;
+        words[at..at + EFFECT_WORDS].copy_from_slice(&[x.kind, x.a, x.b, x.c, x.d]);
     }
 }

@@ -8,12 +8,6 @@ use Rattle.fields.proofs.mark.Goals as goal
 pub loop-j-init : goal.loop-j-init
 loop-j-init c = (search rules, begins _ _ _ _)
 
-pub overflow_add-j : goal.overflow_add-j
-overflow_add-j c = omega arith
-
-pub loop-j-smaller : goal.loop-j-smaller
-loop-j-smaller c = omega arith
-
 pub loop-j-preserved : goal.loop-j-preserved
 loop-j-preserved c = (omega arith, goes _ _ _ _ _ _ _ _ c.loop-j.invariant.1 c.cell.ensures c.mixed-m.ensures)
 

@@ -28,12 +28,6 @@ offset_bounds-marks-i c = omega arith
 pub bounds-marks-i : goal.bounds-marks-i
 bounds-marks-i c = omega arith
 
-pub overflow_add-i : goal.overflow_add-i
-overflow_add-i c = omega arith
-
-pub loop-i-smaller : goal.loop-i-smaller
-loop-i-smaller c = omega arith
-
 pub loop-i-preserved : goal.loop-i-preserved
 loop-i-preserved c =
     let inv = c.loop-i.invariant in

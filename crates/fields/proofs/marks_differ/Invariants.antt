@@ -1,7 +1,7 @@
 -- `fields::marks_differ` meets its contract: a record whose mark no record before it has differs from them. Assumes nothing.
 use mathlib.Core.Path.{◌≡◌}
 use mathlib.Core.Bool.{true}
-use Prim.Native.Nat.{◌≤◌, ◌-◌}
+use Prim.Native.Nat.{◌≤◌}
 use lib.ListN.{length}
 use Rattle.model.specs.Lists.{every}
 use Rattle.model.specs.Field.{fresh_key}
@@ -11,6 +11,3 @@ use Rattle.fields.proofs.marks_differ.Given as goal
 abbrev pub invariant-loop-i : goal.invariant-loop-i
 invariant-loop-i l =
     (l.i ≤ l.n) × (length l.marks ≡ 256) × Kept l.s l.start l.width l.key l.marks l.i × (every l.i (fresh_key l.s l.start l.width l.key) ≡ true)
-
-abbrev pub decreases-loop-i : goal.decreases-loop-i
-decreases-loop-i l = l.n - l.i

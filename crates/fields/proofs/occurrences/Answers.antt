@@ -16,12 +16,6 @@ bounds-marks-j c = omega arith
 pub overflow_add-sum : goal.overflow_add-sum
 overflow_add-sum c = omega arith
 
-pub overflow_add-j : goal.overflow_add-j
-overflow_add-j c = omega arith
-
-pub loop-j-smaller : goal.loop-j-smaller
-loop-j-smaller c = omega arith
-
 pub loop-j-preserved : goal.loop-j-preserved
 loop-j-preserved c = (omega arith, adds _ _ _ _ c.loop-j.invariant.1 c.same-sum.ensures.0, omega arith)
 
