@@ -218,7 +218,8 @@ pub fn cerambiu_crontab(line: &[u8], sunday: u32, triggers: &mut [u32], answer: 
 pub fn cerambiu_room(image: &[u32], answer: &mut [u32]) -> u32
     ensures { tells result answer.new [] ≡ told (length answer.old) (room_for image.now) }
 {
-    let a = room::room_for(image);
-    let values = [a.outcomes, a.effects];
-    put_asked(answer, a.refusal, &values)
+    match room::room_for(image) {
+        Ok(a) => put_asked(answer, 0, &[a.outcomes, a.effects]),
+        Err(refusal) => put_asked(answer, u32::from(refusal), &[]),
+    }
 }

@@ -69,7 +69,7 @@ pub fn load(store: &mut [u32], time: u64, image: &[u32]) -> Answer
     if n != 0 {
         return Answer::Refused(n);
     }
-    let m = load::refusal(image);
+    let m = model::refusal_number(load::refusal(image));
     if m != 0 {
         return Answer::Refused(m);
     }

@@ -9,8 +9,8 @@ use borrow.Author.Tests.{eq-eqb, ne_eqb}
 use Rattle.model.specs.Load.{image_refusal}
 use Rattle.model.specs.Flat.{flatten_rules}
 use Rattle.flat.specs.Load.{Checked, stored, loaded}
-use Rattle.flat.specs.declared.Loaded.{Loaded}
-use Rattle.flat.specs.declared.Loaded.TheVariants.{Over, Steps}
+use Rattle.std.specs.Prelude.{Result, Ok, Err}
+use Rattle.model.specs.declared.Refusal.{Refusal}
 use Rattle.flat.proofs.FlatPart.{passed}
 use Rattle.flat.proofs.RuleLists.{loaded-steps}
 
@@ -21,21 +21,21 @@ pub checked : (img : List ℕ) (r : ℕ) → r ≡ image_refusal img → r ≡ 0
 checked img r e z = (passed img (sym e ∙ z)).0
 
 -- the number that an answer tells
-pub number_in : Loaded → ℕ
-number_in Over = 0
-number_in (Steps n) = n
+pub number_in : Result ℕ Refusal → ℕ
+number_in (Ok n) = n
+number_in (Err refusal) = 0
 
-pub told : (img : List ℕ) (r n : ℕ) (l : Loaded) → r ≡ image_refusal img → r ≡ 0 → l ≡ loaded (flatten_rules img) → number_in l ≡ n
+pub told : (img : List ℕ) (r n : ℕ) (l : Result ℕ Refusal) → r ≡ image_refusal img → r ≡ 0 → l ≡ loaded (flatten_rules img) → number_in l ≡ n
     → n ≡ cond (eqb (image_refusal img) 0) (length (stored (flatten_rules img))) 0
 unfolding number_in
 told img r n l e z h t =
     let a = sym (loaded-steps (flatten_rules img) (length (stored (flatten_rules img))) (passed img (sym e ∙ z)).1 refl) in
     rw (eq-eqb (image_refusal img) 0 (sym e ∙ z)) (sym t ∙ ap number_in (h ∙ a))
 
-pub over-told : (l : Loaded) → l ≡ Over → number_in l ≡ 0
+pub over-told : (l : Result ℕ Refusal) (refusal : Refusal) → l ≡ Err refusal → number_in l ≡ 0
 unfolding number_in
-over-told l e = rw e refl
+over-told l refusal e = rw e refl
 
-pub steps-told : (l : Loaded) (n : ℕ) → l ≡ Steps n → number_in l ≡ n
+pub steps-told : (l : Result ℕ Refusal) (n : ℕ) → l ≡ Ok n → number_in l ≡ n
 unfolding number_in
 steps-told l n e = rw e refl

@@ -30,7 +30,7 @@ fn given(snapshot: &[u32], image: &[u32], store: &[u32]) -> bool
     if model::refusal_number(world::refusal(snapshot)) != 0 {
         return false;
     }
-    if load::refusal(image) != 0 {
+    if load::refusal(image).is_err() {
         return false;
     }
     readable(store)

@@ -11,7 +11,6 @@ ghost use Rattle.model.specs.Snapshot.{snapshot_refusal};
 ghost use Rattle.model.specs.Store.{read};
 ghost use Rattle.flat.specs.Load.{stored};
 
-use flat::Loaded;
 
 pub mod evaluation;
 
@@ -20,7 +19,7 @@ pub mod evaluation;
 pub extern "C" fn cerambiu_tables_refusal(img: &[u32]) -> u32
     ensures { result ≡ tables_refusal img.now 0 }
 {
-    image::refusal(img)
+    model::refusal_number(image::refusal(img))
 }
 
 // 10 to 17, 0 for none.
@@ -28,7 +27,7 @@ pub extern "C" fn cerambiu_tables_refusal(img: &[u32]) -> u32
 pub extern "C" fn cerambiu_image_refusal(img: &[u32]) -> u32
     ensures { result ≡ image_refusal img.now }
 {
-    load::refusal(img)
+    model::refusal_number(load::refusal(img))
 }
 
 // How many steps a store keeps for the set of an image, a body that copies of an after share once; 0 for an image that is refused.
@@ -36,14 +35,14 @@ pub extern "C" fn cerambiu_image_refusal(img: &[u32]) -> u32
 pub extern "C" fn cerambiu_flat_steps(img: &[u32]) -> usize
     ensures { result ≡ cond (eqb (image_refusal img.now) 0) (length (stored (flatten_rules img.now))) 0 }
 {
-    if load::refusal(img) != 0 {
+    if load::refusal(img).is_err() {
         return 0;
     }
     let mut words = [0u32; 1];
     let mut lists = [0u32; 1];
     match flat::rules::flatten_rules(img, &mut words[1..], &mut lists[1..]) {
-        Loaded::Over => 0,
-        Loaded::Steps(n) => n,
+        Ok(n) => n,
+        Err(_) => 0,
     }
 }
 

@@ -19,7 +19,9 @@ use Rattle.model.specs.Store.{list_rows}
 use Rattle.model.specs.Flat.{Row, Flattened, part_of, steps_in, taken_in, too_many_steps}
 use Rattle.model.proofs.ListLaws.{length-up_from, up_from-last, map-append}
 use Rattle.model.proofs.Bools.{or-true}
-use Rattle.flat.specs.declared.Loaded.TheVariants.{Over, Steps}
+use Rattle.std.specs.Prelude.{Ok, Err}
+use Rattle.model.specs.declared.Refusal.{Refusal}
+use Rattle.model.specs.declared.Refusal.TheVariants.{FlatSteps}
 use Rattle.flat.specs.Words.{layout, same_at}
 use Rattle.flat.specs.Outcome.{Resolved, Start, Behinds, holds_at, Wrote, list_at}
 use Rattle.flat.specs.Load.{stored, step_part, list_part, loaded, RuleWrote, EachWrote, MadeOf, CheckedTables, rule_context, rule_at, rules_up_to, flatten_tables}
@@ -86,11 +88,11 @@ module _ (fs : List Flattened) where
   unfolding too_many_steps
   within h k = rw (le-ltb 2048 (steps_in fs) k, le-ltb 65536 (taken_in fs) h)
 
-  pub loaded-over : too_many_steps fs ≡ true → Over ≡ loaded fs
+  pub loaded-over : (refusal : Refusal) → refusal ≡ FlatSteps → too_many_steps fs ≡ true → Err refusal ≡ loaded fs
   unfolding loaded
-  loaded-over h = rw h
+  loaded-over refusal e h = rw (h, e)
 
-  pub loaded-steps : (n : ℕ) → too_many_steps fs ≡ false → n ≡ length (stored fs) → Steps n ≡ loaded fs
+  pub loaded-steps : (n : ℕ) → too_many_steps fs ≡ false → n ≡ length (stored fs) → Ok n ≡ loaded fs
   unfolding loaded
   loaded-steps n h e = rw (h, e)
 

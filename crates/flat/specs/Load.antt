@@ -1,20 +1,18 @@
 -- Flattening a whole image, and where each rule's part stands in the flat part.
-use Rattle.std.specs.Prelude.{Bool, true, false, cond, not, ◌&&◌, eqb, ◌≡◌, List, ◌++◌, map, ℕ, ◌+◌, ◌*◌, ◌-◌, ◌/◌, ◌≤◌, ◌<◌, length, take, get_or, replicate}
+use Rattle.std.specs.Prelude.{Bool, true, false, cond, not, ◌&&◌, eqb, ◌≡◌, List, ◌++◌, map, ℕ, ◌+◌, ◌*◌, ◌-◌, ◌/◌, ◌≤◌, ◌<◌, length, take, get_or, replicate, Result, Ok, Err}
 use Rattle.model.specs.declared.FlattenCtx.{FlattenCtx}
 use Rattle.model.specs.Lists.{up_from, flatten}
 use Rattle.model.specs.Codec.{words_of}
 use Rattle.model.specs.Parts.{list_row}
 use Rattle.model.specs.Store.{filled, no_list, list_rows, same_list}
 use Rattle.model.specs.Image.{image_sized, limits_fit, places_fit, tables_pass}
+use Rattle.model.specs.declared.Refusal.{Refusal}
+use Rattle.model.specs.declared.Refusal.TheVariants.{FlatSteps}
 use Rattle.model.specs.Flat.{Row, Flattened, part_of, too_many_steps}
 use Rattle.flat.specs.Words.{layout, same_at}
 use Rattle.flat.specs.Outcome.{Tables, list_at}
 use Rattle.flat.specs.declared.Answer.{Answer}
 use Rattle.flat.specs.declared.Answer.TheVariants.{Refused, Done}
-use Rattle.flat.specs.declared.Loaded.{Loaded}
-use Rattle.flat.specs.declared.Loaded.TheVariants.{Over, Steps}
-use Rattle.flat.specs.declared.Made.{Made}
-use Rattle.flat.specs.declared.Made.TheVariants as made
 
 -- THE WORDS OF A FLAT PART ----------------------------------------------------------------------------------------------------------
 -- the stored steps, the part of one rule behind the other
@@ -29,17 +27,17 @@ abbrev pub list_part : List Flattened → List ℕ
 list_part fs = words_of list_row (list_rows 0 fs)
 
 -- refusal 16, or so many stored steps
-unfoldable pub loaded : List Flattened → Loaded
-loaded fs = cond (too_many_steps fs) Over (Steps (length (stored fs)))
+unfoldable pub loaded : List Flattened → Result ℕ Refusal
+loaded fs = cond (too_many_steps fs) (Err FlatSteps) (Ok (length (stored fs)))
 
 -- where the set is accepted and there is room, the words are the two parts, each with 0 behind it
 pub record Parts (fs : List Flattened) (n : ℕ) (words lists : List ℕ) : Type 0 where
   pub steps : n * 4 ≤ length words → words ≡ step_part fs ++ replicate (length words - n * 4) 0
   pub rows : length fs * 2 ≤ length lists → lists ≡ list_part fs ++ replicate (length lists - length fs * 2) 0
 
-abbrev pub Stored : List Flattened → List ℕ → List ℕ → Loaded → Type 0
-Stored fs words lists Over = Unit {0}
-Stored fs words lists (Steps n) = Parts fs n words lists
+abbrev pub Stored : List Flattened → List ℕ → List ℕ → Result ℕ Refusal → Type 0
+Stored fs words lists (Err refusal) = Unit {0}
+Stored fs words lists (Ok n) = Parts fs n words lists
 
 -- one rule was flattened with so many actions allowed: the sizes of its own list and of its bodies are told; its part stands in front of the
 -- words, if they have room; and whether it stands in front of `seen`, if all before did. A list has at most 268 steps; the last keeps the
@@ -66,9 +64,9 @@ pub record EachWrote (fs : List Flattened) (n : ℕ) (same : Bool) (seen words l
   pub listed : length fs * 2 ≤ length lists → take (length fs * 2) lists ≡ list_part fs
   pub agrees : same ≡ same_at seen 0 (step_part fs)
 
-abbrev pub EachOut : List Flattened → List ℕ → List ℕ → List ℕ → Made → Type 0
-EachOut fs seen words lists made.Over = too_many_steps fs ≡ true
-EachOut fs seen words lists (made.Steps n same) = EachWrote fs n same seen words lists
+abbrev pub EachOut : List Flattened → List ℕ → List ℕ → List ℕ → Result (ℕ × Bool) Refusal → Type 0
+EachOut fs seen words lists (Err refusal) = (refusal ≡ FlatSteps) × (too_many_steps fs ≡ true)
+EachOut fs seen words lists (Ok m) = EachWrote fs m.0 m.1 seen words lists
 
 -- with 0 behind the parts
 pub record MadeOf (fs : List Flattened) (n : ℕ) (same : Bool) (seen words lists : List ℕ) : Type 0 where
@@ -77,9 +75,9 @@ pub record MadeOf (fs : List Flattened) (n : ℕ) (same : Bool) (seen words list
   pub parts : Parts fs n words lists
   pub agrees : same ≡ same_at seen 0 (step_part fs)
 
-abbrev pub Loading : List Flattened → List ℕ → List ℕ → List ℕ → Made → Type 0
-Loading fs seen words lists made.Over = too_many_steps fs ≡ true
-Loading fs seen words lists (made.Steps n same) = MadeOf fs n same seen words lists
+abbrev pub Loading : List Flattened → List ℕ → List ℕ → List ℕ → Result (ℕ × Bool) Refusal → Type 0
+Loading fs seen words lists (Err refusal) = (refusal ≡ FlatSteps) × (too_many_steps fs ≡ true)
+Loading fs seen words lists (Ok m) = MadeOf fs m.0 m.1 seen words lists
 
 -- the words of a store's flat part are those of the set's flat form
 unfoldable pub same_flat : List Flattened → List ℕ → List ℕ → Bool

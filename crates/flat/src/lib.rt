@@ -37,17 +37,3 @@ pub enum Answer {
     Refused,
     Done(usize, usize, usize, bool),
 }
-
-// What flattening a set gives: refusal 16, or so many stored steps.
-#[derive(Clone, Copy)]
-pub enum Loaded {
-    Over,
-    Steps(usize),
-}
-
-// The same, and whether they are those to be compared.
-#[derive(Clone, Copy)]
-pub enum Made {
-    Over,
-    Steps(usize, bool),
-}

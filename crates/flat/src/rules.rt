@@ -10,8 +10,8 @@ ghost use Rattle.flat.specs.Load.{RuleOut, EachOut, rule_at, Checked, CheckedTab
 use crate::cycle::flatten_list;
 use crate::records::{find_calls, wide};
 use crate::steps::{append_steps, clear, place};
-use crate::{Answer, Loaded, Made, Progress};
-use model::FlattenCtx;
+use crate::{Answer, Progress};
+use model::{FlattenCtx, Refusal};
 
 // The row of list k: where it begins, and how many steps it has; written if there is room.
 fn put_list(lists: &mut [u32], k: usize, first: u32, size: u32)
@@ -92,7 +92,7 @@ fn flatten_each(
     seen: &[u32],
     depth: usize,
     limit: u32,
-) -> Made
+) -> Result<(usize, bool), Refusal>
     requires checked_tables { CheckedTables acts.now blocks.now rules.now depth limit }
     requires resolved { Resolved acts.now blocks.now calls.now (length acts.now / 8) × (length acts.now / 8 ≤ length calls.now) }
     requires in_bounds { (1072 ≤ length own.old) × (1072 ≤ length body.old) × (length words.old ≤ 8192) × (length seen.now ≤ 8192) }
@@ -121,7 +121,7 @@ fn flatten_each(
             left,
             same,
         ) else {
-            return Made::Over;
+            return Err(Refusal::FlatSteps);
         };
         put_list(lists, k, (size + stored) as u32, listed as u32);
         size += stored + listed;
@@ -130,9 +130,9 @@ fn flatten_each(
         k += 1;
     }
     if 2048 < size {
-        return Made::Over;
+        return Err(Refusal::FlatSteps);
     }
-    Made::Steps(size, same)
+    Ok((size, same))
 }
 
 // The flat part of the set of these tables: its steps in `words`, the rows of its lists in `lists`, and 0 behind each.
@@ -145,7 +145,7 @@ fn flatten_tables(
     seen: &[u32],
     depth: usize,
     limit: u32,
-) -> Made
+) -> Result<(usize, bool), Refusal>
     requires checked_tables { CheckedTables acts.now blocks.now rules.now depth limit }
     requires words_len_bound { (length words.old ≤ 8192) × (length seen.now ≤ 8192) }
     ensures { Loading (flatten_tables acts.now blocks.now rules.now depth limit) seen.now words.new lists.new result }
@@ -154,16 +154,14 @@ fn flatten_tables(
     find_calls(acts, blocks, &mut calls);
     let mut own = [0u32; 1072];
     let mut body = [0u32; 1072];
-    let Made::Steps(size, same) = flatten_each(
+    let (size, same) = flatten_each(
         acts, blocks, rules, &calls, &mut own, &mut body, words, lists, seen, depth, limit,
-    ) else {
-        return Made::Over;
-    };
+    )?;
     let end = place(size, words.len());
     clear(words, end);
     let last = rows_end(rules.len() / 16, lists.len());
     clear(lists, last);
-    Made::Steps(size, same)
+    Ok((size, same))
 }
 
 // Word j of the trailer.
@@ -184,7 +182,12 @@ fn first_of(image: &[u32], t: usize) -> usize
 
 // The flat part of the image's set: its steps in `words`, the rows of its lists in `lists`, both if they have room; and the steps are
 // compared with `seen`, if that has any words.
-fn flatten_image(image: &[u32], words: &mut [u32], lists: &mut [u32], seen: &[u32]) -> Made
+fn flatten_image(
+    image: &[u32],
+    words: &mut [u32],
+    lists: &mut [u32],
+    seen: &[u32],
+) -> Result<(usize, bool), Refusal>
     requires checked { Checked image.now }
     requires words_len_bound { (length words.old ≤ 8192) × (length seen.now ≤ 8192) }
     ensures { Loading (flatten_rules image.now) seen.now words.new lists.new result }
@@ -209,17 +212,15 @@ fn flatten_image(image: &[u32], words: &mut [u32], lists: &mut [u32], seen: &[u3
 }
 
 // The flat part of the image's set. Lent no words, it says only whether the set is over the limits of refusal 16.
-pub fn flatten_rules(image: &[u32], words: &mut [u32], lists: &mut [u32]) -> Loaded
+pub fn flatten_rules(image: &[u32], words: &mut [u32], lists: &mut [u32]) -> Result<usize, Refusal>
     requires checked { Checked image.now }
     requires words_len_bound { length words.old ≤ 8192 }
     ensures value { result ≡ loaded (flatten_rules image.now) }
     ensures stored { Stored (flatten_rules image.now) words.new lists.new result }
 {
     let end = image.len();
-    let Made::Steps(n, _) = flatten_image(image, words, lists, &image[end..]) else {
-        return Loaded::Over;
-    };
-    Loaded::Steps(n)
+    let (n, _) = flatten_image(image, words, lists, &image[end..])?;
+    Ok(n)
 }
 
 // Whether two lists of words are the same.
@@ -249,7 +250,7 @@ pub fn same_flat(image: &[u32], lists: &[u32], steps: &[u32]) -> bool
 {
     let mut none = [0u32; 1];
     let mut rows = [0u32; 128];
-    let Made::Steps(n, same) = flatten_image(image, &mut none, &mut rows, steps) else {
+    let Ok((n, same)) = flatten_image(image, &mut none, &mut rows, steps) else {
         return false;
     };
     if !same {

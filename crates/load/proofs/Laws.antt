@@ -1,17 +1,19 @@
 -- What the answers of the checks of an image say together.
-use mathlib.Core.Path.{◌≡◌, refl, sym, ap, ◌∙◌}
-use mathlib.Core.Bool.{Bool, true, false, not}
+use mathlib.Core.Path.{◌≡◌, refl, sym, ◌∙◌}
+use mathlib.Core.Bool.{Bool, true, false, not, cond}
+use Rattle.std.specs.Prelude.{Ok, Err}
 use mathlib.Core.List.{List}
 use Prim.Native.Nat.{ℕ}
 use native.Mathlib.Omega.{arith}
 use Rattle.model.specs.Field.{unless}
 use Rattle.model.specs.Image.{image_sized, limits_fit, places_fit, tables_pass, names_differ, few_enough}
 use Rattle.model.specs.Flat.{Flattened, flatten_rules, too_many_steps}
+use Rattle.model.specs.declared.Refusal.{Refusal}
+use Rattle.model.specs.declared.Refusal.TheVariants.{FlatSteps}
+use Rattle.model.specs.Refusals.{refusal_code}
 use Rattle.model.specs.Load.{tables_refusal, image_refusal_with, image_refusal}
 use Rattle.model.proofs.Bools.{not-refused}
 use Rattle.flat.specs.Load.{Checked, loaded}
-use Rattle.flat.specs.declared.Loaded.{Loaded}
-use Rattle.flat.specs.declared.Loaded.TheVariants.{Over, Steps}
 
 -- 10 to 15 passed give what flattening asks
 pub checked : (img : List ℕ) → tables_refusal img 0 ≡ 0 → Checked img
@@ -58,26 +60,21 @@ tables-pass img r e h =
     h ∙ sym (six-passed (image_sized img) (limits_fit img) (places_fit img) (tables_pass img false) (tables_pass img true) (names_differ img) _ e)
 
 -- 16 --------------------------------------------------------------------------------------------------------------------------------
-is_over : Loaded → Bool
-is_over Over = true
-is_over (Steps n) = false
+over-case : (b : Bool) (n rest : ℕ) (refusal : Refusal) → Err refusal ≡ cond b (Err FlatSteps) (Ok n) → refusal_code refusal ≡ unless (not b) 16 rest
+over-case true n rest refusal e = let q : refusal ≡ FlatSteps = cc in rw q
+over-case false n rest refusal e = cc
 
-over-is : (fs : List Flattened) (b : Bool) → too_many_steps fs ≡ b → is_over (loaded fs) ≡ b
-unfolding loaded is_over
-over-is fs true e = rw e refl
-over-is fs false e = rw e refl
+steps-case : (b : Bool) (n rest k : ℕ) → Ok k ≡ cond b (Err FlatSteps) (Ok n) → rest ≡ unless (not b) 16 rest
+steps-case true n rest k e = cc
+steps-case false n rest k e = refl
 
-pub over : (fs : List Flattened) (rest : ℕ) (r : Loaded) → r ≡ loaded fs → r ≡ Over → 16 ≡ unless (not (too_many_steps fs)) 16 rest
-unfolding is_over
-over fs rest r e h =
-    let t : too_many_steps fs ≡ true = sym (over-is fs (too_many_steps fs) refl) ∙ ap is_over (sym e ∙ h) in
-    rw t refl
+pub over : (fs : List Flattened) (rest : ℕ) (refusal : Refusal) → Err refusal ≡ loaded fs → refusal_code refusal ≡ unless (not (too_many_steps fs)) 16 rest
+unfolding loaded
+over fs rest refusal e = over-case (too_many_steps fs) _ rest refusal e
 
-pub steps : (fs : List Flattened) (rest n : ℕ) (r : Loaded) → r ≡ loaded fs → r ≡ Steps n → rest ≡ unless (not (too_many_steps fs)) 16 rest
-unfolding is_over
-steps fs rest n r e h =
-    let t : too_many_steps fs ≡ false = sym (over-is fs (too_many_steps fs) refl) ∙ ap is_over (sym e ∙ h) in
-    rw t refl
+pub steps : (fs : List Flattened) (rest k : ℕ) → Ok k ≡ loaded fs → rest ≡ unless (not (too_many_steps fs)) 16 rest
+unfolding loaded
+steps fs rest k e = steps-case (too_many_steps fs) _ rest k e
 
 -- 17 --------------------------------------------------------------------------------------------------------------------------------
 pub few : (b few : Bool) → b ≡ few → b ≡ true → 0 ≡ unless few 17 0

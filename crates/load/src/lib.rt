@@ -6,35 +6,29 @@ ghost use Rattle.model.specs.Field.{unless};
 ghost use Rattle.model.specs.Image.{few_enough};
 ghost use Rattle.model.specs.Flat.{flatten_rules, too_many_steps};
 ghost use Rattle.model.specs.Load.{image_refusal};
+ghost use Rattle.model.specs.Refusals.{refusal_number};
 ghost use Rattle.image.specs.Accepted.{Accepted};
 
-use flat::Loaded;
+use model::Refusal;
 
 // 16 and 17 of an image that passes 10 to 15: 16 is decided first. Flattening is lent no words, so that it only counts.
-fn flat_refusal(img: &[u32]) -> u32
+fn flat_refusal(img: &[u32]) -> Result<(), Refusal>
     requires { Accepted img.now }
-    ensures { result ≡ unless (not (too_many_steps (flatten_rules img.now))) 16 (unless (few_enough img.now) 17 0) }
+    ensures { refusal_number result ≡ unless (not (too_many_steps (flatten_rules img.now))) 16 (unless (few_enough img.now) 17 0) }
 {
     let mut words = [0u32; 1];
     let mut lists = [0u32; 1];
-    match flat::rules::flatten_rules(img, &mut words[1..], &mut lists[1..]) {
-        Loaded::Over => 16,
-        Loaded::Steps(_) => {
-            if image::few_enough(img) {
-                return 0;
-            }
-            17
-        }
+    flat::rules::flatten_rules(img, &mut words[1..], &mut lists[1..])?;
+    if image::few_enough(img) {
+        return Ok(());
     }
+    Err(Refusal::TooMany)
 }
 
-// 0 for an image that load accepts, else the lowest number of a check that fails: for every slice.
-pub fn refusal(img: &[u32]) -> u32
-    ensures { result ≡ image_refusal img.now }
+// Nothing for an image that load accepts, else the lowest number of a check that fails: for every slice.
+pub fn refusal(img: &[u32]) -> Result<(), Refusal>
+    ensures { refusal_number result ≡ image_refusal img.now }
 {
-    let tables = image::refusal(img);
-    if tables != 0 {
-        return tables;
-    }
+    image::refusal(img)?;
     flat_refusal(img)
 }

@@ -1,10 +1,13 @@
 -- The number of a refusal is not 0, the number of none. Assumes nothing.
 use mathlib.Core.Path.{◌≡◌, refl}
+use mathlib.Core.Bool.{true, false}
+use Rattle.std.specs.Prelude.{Result, Ok, Err}
+use Rattle.std.specs.Result.{is_err}
 use Prim.Native.Nat.{ℕ, suc, ◌-◌}
 use native.Mathlib.Omega.{arith}
 use Rattle.model.specs.declared.Refusal.{Refusal}
 use Rattle.model.specs.declared.Refusal.TheVariants.{StoreLength, StoreRule, ImageLength, LimitRange, TablePlace, FieldRange, ListRange, RuleName, FlatSteps, TooMany, SnapshotLength, SnapshotRange, RowAddress, LentStores, SequenceNumber, ActivationNumber, LineForm, DayOrMonth, TriggerStore, EffectWords, TelegramStore}
-use Rattle.model.specs.Refusals.{refusal_code}
+use Rattle.model.specs.Refusals.{refusal_code, refusal_number}
 
 pub refusal-code-suc : (r : Refusal) → refusal_code r ≡ suc (refusal_code r - 1)
 refusal-code-suc StoreLength = refl
@@ -31,3 +34,12 @@ refusal-code-suc TelegramStore = refl
 
 pub refusal-some : (r : Refusal) → refusal_code r ≡ 0 → ⊥
 refusal-some r e = omega (arith, refusal-code-suc r)
+
+-- an answer that is no error has number 0, one that is has another
+pub zero-of : {A : Type 0} (r : Result A Refusal) → is_err r ≡ false → refusal_number r ≡ 0
+zero-of (Ok a) e = refl
+zero-of (Err refusal) e = cc
+
+pub above-zero : {A : Type 0} (r : Result A Refusal) → is_err r ≡ true → refusal_number r ≡ 0 → ⊥
+above-zero (Ok a) e z = cc
+above-zero (Err refusal) e z = refusal-some refusal z

@@ -16,12 +16,15 @@ use Rattle.model.specs.Parts.{list_row}
 use Rattle.model.specs.Store.{list_rows}
 use Rattle.model.specs.Flat.{Flattened, flatten_rule, flatten_rules, too_many_steps}
 use Rattle.model.specs.Load.{image_refusal}
+use Rattle.std.specs.Prelude.{Ok, Err}
+use Rattle.model.specs.declared.Refusal.{Refusal}
+use Rattle.model.specs.declared.Refusal.TheVariants.{TooMany}
+use Rattle.model.specs.Refusals.{refusal_code}
+use Rattle.model.proofs.RefusalLaws.{refusal-some}
 use Rattle.model.specs.Asked.{declined, shown_asked}
 use Rattle.image.specs.Accepted.{Accepted}
 use Rattle.image.proofs.Accepted.{budget-fits, rules-few}
-use Rattle.flat.specs.Load.{Parts, Stored, loaded, list_part}
-use Rattle.flat.specs.declared.Loaded.{Loaded}
-use Rattle.flat.specs.declared.Loaded.TheVariants.{Over, Steps}
+use Rattle.flat.specs.Load.{Parts, loaded, list_part}
 use Rattle.flat.proofs.FlatPart.{rules-length}
 use Rattle.flat.proofs.Counts.{few-steps}
 use Rattle.load.proofs.Laws.{over, steps, few, many, tables-pass}
@@ -95,16 +98,15 @@ begins-stored img lists rest e i h =
     zero-sum : (k : ℕ) → 0 + k ≡ k
     zero-sum k = omega arith
 
-not-over : (fs : List Flattened) (n : ℕ) (r : Loaded) → r ≡ loaded fs → r ≡ Steps n → too_many_steps fs ≡ false
-not-over fs n r e is = not-true (too_many_steps fs) (not-refused (not (too_many_steps fs)) 15 0 (sym (steps fs 0 n r e is))).0
+not-over : (fs : List Flattened) (n : ℕ) → Ok n ≡ loaded fs → too_many_steps fs ≡ false
+not-over fs n e = not-true (too_many_steps fs) (not-refused (not (too_many_steps fs)) 15 0 (sym (steps fs 0 n e))).0
 
-pub listed : (img words lists : List ℕ) (n : ℕ) (r : Loaded) → Accepted img → few_enough img ≡ true → length lists ≡ 128 → r ≡ loaded (flatten_rules img) → r ≡ Steps n
-    → Stored (flatten_rules img) words lists r → Listed img lists
-listed img words lists n r ok f len e is st =
-    let p : Parts (flatten_rules img) n words lists = subst (Stored (flatten_rules img) words lists) is st in
+pub listed : (img words lists : List ℕ) (n : ℕ) → Accepted img → few_enough img ≡ true → length lists ≡ 128 → Ok n ≡ loaded (flatten_rules img)
+    → Parts (flatten_rules img) n words lists → Listed img lists
+listed img words lists n ok f len e p =
     let c = rules-length img in
     let d = rules-few img f in
-    record { image = ok; few = f; steps = few-steps (flatten_rules img) (not-over (flatten_rules img) n r e is); begins = begins-stored img lists _ (p.rows (omega arith)); sizes = sizes-stored img lists _ (p.rows (omega arith)) }
+    record { image = ok; few = f; steps = few-steps (flatten_rules img) (not-over (flatten_rules img) n e); begins = begins-stored img lists _ (p.rows (omega arith)); sizes = sizes-stored img lists _ (p.rows (omega arith)) }
 
 -- THE NUMBERS -----------------------------------------------------------------------------------------------------------------------
 pub record Known (img : List ℕ) (b : ℕ) (s : Sums) : Type 0 where
@@ -141,31 +143,30 @@ known-with img lists s h k =
 pub known : (img lists : List ℕ) (b : ℕ) (s : Sums) → Listed img lists → b ≡ budget img → Summed img s → Known img b s
 known img lists b s h e k = subst (λ n. Known img n s) (sym e) (known-with img lists s h k)
 
-pub room-made : (img : List ℕ) (b : ℕ) (r : Needed) (s : Sums) → Known img b s → r.refusal ≡ 0 → r.outcomes ≡ 32 + s.starts
+pub room-made : (img : List ℕ) (b : ℕ) (r : Needed) (s : Sums) → Known img b s → r.outcomes ≡ 32 + s.starts
     → r.effects ≡ max (min b s.longest) (32 * min (b - 1) s.longest + s.effects) → Needs img r
-room-made img b r s k er ex ey = record { accepted = er; outcomes = ex ∙ k.outcomes; effects = ey ∙ k.effects }
+room-made img b r s k ex ey = record { outcomes = ex ∙ k.outcomes; effects = ey ∙ k.effects }
 
 -- THE ANSWERS -----------------------------------------------------------------------------------------------------------------------
-pub refused-is : (img : List ℕ) (n : ℕ) (r : Needed) → r.refusal ≡ n → n ≡ image_refusal img → (n ≡ 0 → ⊥) → shown r ≡ room_for img
+pub refused-is : (img : List ℕ) (refusal : Refusal) → refusal_code refusal ≡ image_refusal img → shown (Err refusal) ≡ room_for img
 unfolding shown room_for shown_asked declined
-refused-is img n r er e h =
-    let a : eqb r.refusal 0 ≡ false = ne_eqb r.refusal 0 (λ z. h (sym er ∙ z)) in
-    let b : eqb (image_refusal img) 0 ≡ false = ne_eqb (image_refusal img) 0 (λ z. h (e ∙ z)) in
-    rw (a, b) (ap (λ k. record { number = k; values = []; lent = [] }) (er ∙ e))
+refused-is img refusal e =
+    let a : eqb (refusal_code refusal) 0 ≡ false = ne_eqb (refusal_code refusal) 0 (refusal-some refusal) in
+    let b : eqb (image_refusal img) 0 ≡ false = ne_eqb (image_refusal img) 0 (λ z. refusal-some refusal (e ∙ z)) in
+    rw (a, b) (ap (λ k. record { number = k; values = []; lent = [] }) e)
 
-pub room-is : (img : List ℕ) (r : Needed) → Needs img r → 0 ≡ image_refusal img → shown r ≡ room_for img
+pub room-is : (img : List ℕ) (r : Needed) → Needs img r → 0 ≡ image_refusal img → shown (Ok r) ≡ room_for img
 unfolding shown room_for shown_asked
 room-is img r h e =
-    let a : eqb r.refusal 0 ≡ true = eq-eqb r.refusal 0 h.accepted in
     let b : eqb (image_refusal img) 0 ≡ true = eq-eqb (image_refusal img) 0 (sym e) in
-    rw (a, b, h.outcomes, h.effects, h.accepted)
+    rw (b, h.outcomes, h.effects)
 
-module _ (img : List ℕ) (ok : Accepted img) (l : Loaded) (made : l ≡ loaded (flatten_rules img)) (r : Needed) where
-  pub over-is : l ≡ Over → r.refusal ≡ 16 → shown r ≡ room_for img
-  over-is h er = refused-is img 16 r er (tables-pass img 16 ok.passes (over (flatten_rules img) _ l made h)) (λ e. omega arith)
+module _ (img : List ℕ) (ok : Accepted img) where
+  pub over-is : (refusal : Refusal) → Err refusal ≡ loaded (flatten_rules img) → shown (Err refusal) ≡ room_for img
+  over-is refusal h = refused-is img refusal (tables-pass img (refusal_code refusal) ok.passes (over (flatten_rules img) _ refusal h))
 
-  pub many_is : (n : ℕ) (b : Bool) → l ≡ Steps n → b ≡ few_enough img → b ≡ false → r.refusal ≡ 17 → shown r ≡ room_for img
-  many_is n b h e f er = refused-is img 17 r er (tables-pass img 17 ok.passes (many b (few_enough img) e f ∙ steps (flatten_rules img) _ n l made h)) (λ z. omega arith)
+  pub many_is : (n : ℕ) (b : Bool) → Ok n ≡ loaded (flatten_rules img) → b ≡ few_enough img → b ≡ false → shown (Err TooMany) ≡ room_for img
+  many_is n b h e f = refused-is img TooMany (tables-pass img 17 ok.passes (many b (few_enough img) e f ∙ steps (flatten_rules img) _ n h))
 
-  pub few-is : (n : ℕ) (b : Bool) → l ≡ Steps n → b ≡ few_enough img → b ≡ true → Needs img r → shown r ≡ room_for img
-  few-is n b h e f k = room-is img r k (tables-pass img 0 ok.passes (few b (few_enough img) e f ∙ steps (flatten_rules img) _ n l made h))
+  pub few-is : (n : ℕ) (b : Bool) (r : Needed) → Ok n ≡ loaded (flatten_rules img) → b ≡ few_enough img → b ≡ true → Needs img r → shown (Ok r) ≡ room_for img
+  few-is n b r h e f k = room-is img r k (tables-pass img 0 ok.passes (few b (few_enough img) e f ∙ steps (flatten_rules img) _ n h))

@@ -11,15 +11,13 @@ ghost use Rattle.image.specs.Accepted.{Accepted};
 ghost use Rattle.room.specs.Room.{is_timer_trigger, is_every_trigger, starts_of};
 ghost use Rattle.room.specs.Needed.{room_for, shown, Needs, begin_in, size_in, Summed, Listed};
 
-use flat::Loaded;
 use image::layout::{budget, size_of};
 use image::rule::{trigger_at, trigger_count};
-use model::Trigger;
+use model::{Refusal, Trigger};
 
-// Load refuses the image, with this number; or, where that is 0, its set needs room for so many outcomes and so many effects.
+// The set of an image needs room for so many outcomes and so many effects.
 #[derive(Clone, Copy)]
 pub struct Needed {
-    pub refusal: u32,
     pub outcomes: u32,
     pub effects: u32,
 }
@@ -181,16 +179,6 @@ fn most_effects(b: u64, longest: u64, starts: u64) -> u64
     larger(smaller(b, longest), 32 * smaller(b - 1, longest) + starts)
 }
 
-fn refused(number: u32) -> Needed
-    ensures { result.refusal ≡ number }
-{
-    Needed {
-        refusal: number,
-        outcomes: 0,
-        effects: 0,
-    }
-}
-
 // The room that the set needs, from the rows of its lists.
 fn room(image: &[u32], lists: &[u32]) -> Needed
     requires { Listed image.now lists.now }
@@ -201,37 +189,29 @@ fn room(image: &[u32], lists: &[u32]) -> Needed
     let outcomes = 32 + s.starts;
     let effects = most_effects(b, s.longest, s.effects);
     Needed {
-        refusal: 0,
         outcomes: outcomes as u32,
         effects: effects as u32,
     }
 }
 
 // Of an image that passes 10 to 15: 16 is decided first. Flattening is lent no words for the steps, and the rows of 64 lists.
-fn flat_needed(image: &[u32]) -> Needed
+fn flat_needed(image: &[u32]) -> Result<Needed, Refusal>
     requires { Accepted image.now }
     ensures { shown result ≡ room_for image.now }
 {
     let mut words = [0u32; 1];
     let mut lists = [0u32; 128];
-    match flat::rules::flatten_rules(image, &mut words[1..], &mut lists) {
-        Loaded::Over => refused(16),
-        Loaded::Steps(_) => {
-            if image::few_enough(image) {
-                return room(image, &lists);
-            }
-            refused(17)
-        }
+    flat::rules::flatten_rules(image, &mut words[1..], &mut lists)?;
+    if image::few_enough(image) {
+        return Ok(room(image, &lists));
     }
+    Err(Refusal::TooMany)
 }
 
-// What an image needs: for every slice.
-pub fn room_for(image: &[u32]) -> Needed
+// What an image needs, or why load refuses it: for every slice.
+pub fn room_for(image: &[u32]) -> Result<Needed, Refusal>
     ensures { shown result ≡ room_for image.now }
 {
-    let tables = image::refusal(image);
-    if tables != 0 {
-        return refused(tables);
-    }
+    image::refusal(image)?;
     flat_needed(image)
 }

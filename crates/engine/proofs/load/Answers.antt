@@ -16,8 +16,8 @@ pub returns-then-m-ne0 : goal.returns-then-m-ne0
 returns-then-m-ne0 c =
     let a = c.args in
     let k = said _ (is_store _ _ c.refusal-n.ensures (omega (arith, c.if-n-ne0.false))) in
-    load-refused a.time a.image.now _ _ k c.refusal-m.ensures (λ e. omega (arith, e, c.if-m-ne0.true))
+    load-refused a.time a.image.now _ _ k (c.refusal_number-m.ensures ∙ c.refusal.ensures) (λ e. omega (arith, e, c.if-m-ne0.true))
 
 pub load-requires : goal.load-requires
 load-requires c =
-    (is_store _ _ c.refusal-n.ensures (omega (arith, c.if-n-ne0.false)), sym c.refusal-m.ensures ∙ omega (arith, c.if-m-ne0.false))
+    (is_store _ _ c.refusal-n.ensures (omega (arith, c.if-n-ne0.false)), sym (c.refusal_number-m.ensures ∙ c.refusal.ensures) ∙ omega (arith, c.if-m-ne0.false))

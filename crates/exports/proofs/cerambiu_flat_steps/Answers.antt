@@ -1,23 +1,26 @@
+use mathlib.Core.Path.{sym, ◌∙◌}
 use native.Mathlib.Omega.{arith}
+use Rattle.model.specs.Refusals.{refusal_number}
+use Rattle.model.proofs.RefusalLaws.{zero-of, above-zero}
 use Rattle.exports.proofs.Steps.{refused, checked, told, over-told, steps-told}
 use Rattle.exports.proofs.cerambiu_flat_steps.Goals as goal
 
-pub returns-then-refusal-ne0 : goal.returns-then-refusal-ne0
-returns-then-refusal-ne0 c = refused _ _ _ c.refusal.ensures (λ e. omega (arith, e, c.if-refusal-ne0.true))
+pub returns-then-is_err : goal.returns-then-is_err
+returns-then-is_err c = refused (refusal_number c.refusal.result) _ _ c.refusal.ensures (above-zero c.refusal.result (sym c.is_err.ensures.value ∙ c.if-is_err.true))
 
 pub flatten_rules-requires : goal.flatten_rules-requires
 flatten_rules-requires c =
     record {
-      checked = checked _ _ c.refusal.ensures (omega (arith, c.if-refusal-ne0.false));
+      checked = checked _ (refusal_number c.refusal.result) c.refusal.ensures (zero-of c.refusal.result (sym c.is_err.ensures.value ∙ c.if-is_err.false));
       words_len_bound = omega arith;
     }
 
-pub returns-in-Over : goal.returns-in-Over
-returns-in-Over c =
-    told _ _ _ _ c.refusal.ensures (omega (arith, c.if-refusal-ne0.false)) c.flatten_rules.ensures.value
-    (over-told _ c.in-Over.is)
+pub returns-in-Err : goal.returns-in-Err
+returns-in-Err c =
+    told _ (refusal_number c.refusal.result) _ _ c.refusal.ensures (zero-of c.refusal.result (sym c.is_err.ensures.value ∙ c.if-is_err.false)) c.flatten_rules.ensures.value
+    (over-told _ _ c.in-Err.is)
 
-pub returns-in-Steps : goal.returns-in-Steps
-returns-in-Steps c =
-    told _ _ _ _ c.refusal.ensures (omega (arith, c.if-refusal-ne0.false)) c.flatten_rules.ensures.value
-    (steps-told _ _ c.in-Steps.is)
+pub returns-in-Ok : goal.returns-in-Ok
+returns-in-Ok c =
+    told _ (refusal_number c.refusal.result) _ _ c.refusal.ensures (zero-of c.refusal.result (sym c.is_err.ensures.value ∙ c.if-is_err.false)) c.flatten_rules.ensures.value
+    (steps-told _ _ c.in-Ok.is)

@@ -1,22 +1,16 @@
 use mathlib.Core.Path.{◌∙◌}
-use native.Mathlib.Omega.{arith}
+use borrow.Author.Rules.{rules}
 use Rattle.load.proofs.Laws.{checked, over, steps, few, many}
 use Rattle.load.proofs.flat_refusal.Goals as goal
 
--- the counting pass is lent no words
-pub flatten_rules-requires : goal.flatten_rules-requires
-flatten_rules-requires c = record {
-  checked = checked _ c.requires.passes;
-  words_len_bound = omega arith;
-}
+pub flatten_rules-requires-clause-checked : goal.flatten_rules-requires-clause-checked
+flatten_rules-requires-clause-checked c = checked _ c.requires.passes
+
+pub returns-in_err-flatten_rules : goal.returns-in_err-flatten_rules
+returns-in_err-flatten_rules c = search (rules, over)
 
 pub returns-then-few_enough : goal.returns-then-few_enough
-returns-then-few_enough c =
-    few _ _ c.few_enough.ensures c.if-few_enough.true ∙ steps _ _ _ _ c.flatten_rules.ensures.value c.in-Steps.is
+returns-then-few_enough c = few _ _ c.few_enough.ensures c.if-few_enough.true ∙ steps _ _ _ c.in_ok-flatten_rules.ensures.value
 
-pub returns-in-Over : goal.returns-in-Over
-returns-in-Over c = over _ _ _ c.flatten_rules.ensures.value c.in-Over.is
-
-pub returns-else-few_enough : goal.returns-else-few_enough
-returns-else-few_enough c =
-    many _ _ c.few_enough.ensures c.if-few_enough.false ∙ steps _ _ _ _ c.flatten_rules.ensures.value c.in-Steps.is
+pub returns : goal.returns
+returns c = many _ _ c.few_enough.ensures c.if-few_enough.false ∙ steps _ _ _ c.in_ok-flatten_rules.ensures.value

@@ -34,4 +34,4 @@ overflow_cast-result-2 c =
 
 pub returns : goal.returns
 returns c =
-    room-made _ _ _ _ (known _ _ _ _ c.requires c.budget-b.ensures c.sum_rules-s.ensures) refl refl c.most_effects-effects.ensures
+    room-made _ _ _ _ (known _ _ _ _ c.requires c.budget-b.ensures c.sum_rules-s.ensures) refl c.most_effects-effects.ensures

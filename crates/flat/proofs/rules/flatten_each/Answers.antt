@@ -66,8 +66,8 @@ pub returns-in_default : goal.returns-in_default
 returns-in_default c =
     let a = c.args in
     let l = c.loop-k in
-    rule-refused a.acts.now a.blocks.now a.rules.now a.depth a.limit l.k (length a.rules.now / 16) l.left c.loop-k-test.true l.invariant.3.taken_is
-    (rw c.in_default.is at c.flatten_rule.ensures)
+    (refl, rule-refused a.acts.now a.blocks.now a.rules.now a.depth a.limit l.k (length a.rules.now / 16) l.left c.loop-k-test.true l.invariant.3.taken_is
+    (rw c.in_default.is at c.flatten_rule.ensures))
 
 pub overflow_add-size : goal.overflow_add-size
 overflow_add-size c =
@@ -137,7 +137,7 @@ pub returns-then-size-gt2048 : goal.returns-then-size-gt2048
 returns-then-size-gt2048 c =
     let a = c.args in
     let l = c.loop-k in
-    all-over a.acts.now a.blocks.now a.rules.now a.depth a.limit l.k l.invariant.0 c.loop-k-test.false a.seen.now (length a.words.now) (length a.lists.now) l.words l.lists l.size l.left l.same l.invariant.3 c.if-size-gt2048.true
+    (refl, all-over a.acts.now a.blocks.now a.rules.now a.depth a.limit l.k l.invariant.0 c.loop-k-test.false a.seen.now (length a.words.now) (length a.lists.now) l.words l.lists l.size l.left l.same l.invariant.3 c.if-size-gt2048.true)
 
 pub shape_of-own : goal.shape_of-own
 shape_of-own c = c.loop-k.invariant.1

@@ -2,9 +2,11 @@
 use native.Mathlib.Omega.{arith}
 use lib.ListN.{length}
 use Rattle.model.specs.Flat.{flatten_rules}
+use Rattle.std.proofs.Common.{rules}
+use Rattle.flat.specs.Load.{loaded}
 use Rattle.flat.proofs.Words.{tail-size}
 use Rattle.flat.proofs.Checked.{short}
-use Rattle.flat.proofs.RuleLists.{loaded-over, loaded-steps}
+use Rattle.flat.proofs.RuleLists.{loaded-steps}
 use Rattle.flat.proofs.rules.flatten_rules.Goals as goal
 
 pub offset_bounds-image-end : goal.offset_bounds-image-end
@@ -27,18 +29,14 @@ flatten_image-requires c =
       words_len_bound = (c.requires.words_len_bound, omega (arith, tail-size i (length i)));
     }
 
-pub returns-in_default : goal.returns-in_default
-returns-in_default c =
-    let fs = flatten_rules c.args.image.now in
-    record {
-      value = loaded-over fs (rw c.in_default.is at c.flatten_image.ensures);
-      stored = tt;
-    }
+pub returns-in_err-n-clause-value : goal.returns-in_err-n-clause-value
+unfolding loaded
+returns-in_err-n-clause-value c = rw c.in_err-n.ensures.1 (search rules)
 
 pub returns : goal.returns
 returns c =
     let fs = flatten_rules c.args.image.now in
-    let z = rw c.in-Steps.is at c.flatten_image.ensures in
+    let z = c.in_ok-n.ensures in
     record {
       value = loaded-steps fs _ z.few z.count;
       stored = z.parts;

@@ -18,9 +18,6 @@ flatten_each-requires c =
       in_bounds = (omega arith, omega arith, c.requires.words_len_bound.0, c.requires.words_len_bound.1);
     }
 
-pub returns-in_default : goal.returns-in_default
-returns-in_default c = rw c.in_default.is at c.flatten_each.ensures
-
 pub clear-requires : goal.clear-requires
 clear-requires c = c.place-end.ensures.0
 
@@ -31,8 +28,8 @@ pub returns : goal.returns
 returns c =
     let a = c.args in
     let f = c.flatten_each in
-    let z = rw c.in-Steps.is at f.ensures in
+    let z = c.in_ok-size.ensures in
     let p = c.clear in
     let q = c.clear-2 in
-    cleared (flatten_tables a.acts.now a.blocks.now a.rules.now a.depth a.limit) c.in-Steps.size c.in-Steps.same a.seen.now f.new.words f.new.lists p.new.words q.new.words (length a.rules.now / 16) c.place-end.result c.rows_end-last.result z
+    cleared (flatten_tables a.acts.now a.blocks.now a.rules.now a.depth a.limit) c.in_ok-size.size c.in_ok-size.same a.seen.now f.new.words f.new.lists p.new.words q.new.words (length a.rules.now / 16) c.place-end.result c.rows_end-last.result z
     (rules-count a.acts.now a.blocks.now a.rules.now a.depth a.limit) c.place-end.ensures.1 p.ensures p.auto.words c.rows_end-last.ensures.1 q.ensures q.auto.words

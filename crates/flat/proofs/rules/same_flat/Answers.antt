@@ -14,32 +14,32 @@ flatten_image-requires c = record {
 pub returns-in_default : goal.returns-in_default
 returns-in_default c =
     let a = c.args in
-    not_made (flatten_rules a.image.now) a.lists.now a.steps.now (rw c.in_default.is at c.flatten_image.ensures)
+    not_made (flatten_rules a.image.now) a.lists.now a.steps.now (rw c.in_default.is at c.flatten_image.ensures).1
 
 pub returns-then-not-same : goal.returns-then-not-same
 returns-then-not-same c =
     let a = c.args in
     let f = c.flatten_image in
-    let z = rw c.in-Steps.is at f.ensures in
+    let z = rw c.in-Ok.is at f.ensures in
     other-words (flatten_rules a.image.now) a.lists.now a.steps.now _ _ f.new.words f.new.lists z c.if-not-same.true
 
 pub overflow_mul-n : goal.overflow_mul-n
 overflow_mul-n c =
     let i = c.args.image.now in
-    let z = rw c.in-Steps.is at c.flatten_image.ensures in
+    let z = rw c.in-Ok.is at c.flatten_image.ensures in
     omega (arith, z.count, few-stored i z.few)
 
 pub returns-then-n-steps : goal.returns-then-n-steps
 returns-then-n-steps c =
     let a = c.args in
     let f = c.flatten_image in
-    let z = rw c.in-Steps.is at f.ensures in
+    let z = rw c.in-Ok.is at f.ensures in
     other-count (flatten_rules a.image.now) a.lists.now a.steps.now _ _ f.new.words f.new.lists z c.if-n-steps.true
 
 pub returns : goal.returns
 returns c =
     let a = c.args in
     let f = c.flatten_image in
-    let z = rw c.in-Steps.is at f.ensures in
+    let z = rw c.in-Ok.is at f.ensures in
     let s = c.same_words in
     same_rows (flatten_rules a.image.now) a.lists.now a.steps.now _ _ f.new.words f.new.lists z c.if-not-same.false c.if-n-steps.false f.auto.lists (omega (arith, rules-length a.image.now, c.requires.rules_bound)) s.result s.ensures

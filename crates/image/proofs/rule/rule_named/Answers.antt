@@ -18,8 +18,8 @@ returns-then-word_at-name c =
 
 pub loop-i-preserved : goal.loop-i-preserved
 loop-i-preserved c =
-  search-goes _ _ _ c.loop-i-test.true (ne_eqb _ _ (λ e. c.if-word_at-name.false (c.word_at.ensures ∙ e)))
-      ∙ c.loop-i.invariant
+    search-goes _ _ _ c.loop-i-test.true (ne_eqb _ _ (λ e. c.if-word_at-name.false (c.word_at.ensures ∙ e)))
+    ∙ c.loop-i.invariant
 
 pub returns : goal.returns
 returns c = rw (← c.loop-i.invariant, search-ends _ _ _ c.loop-i-test.false)

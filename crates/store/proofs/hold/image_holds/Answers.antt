@@ -2,6 +2,8 @@
 use mathlib.Core.Path.{refl, sym, ◌∙◌}
 use native.Mathlib.Omega.{arith}
 use borrow.Author.Tests.{not-true, not-false}
+use Rattle.model.specs.Refusals.{refusal_number}
+use Rattle.model.proofs.RefusalLaws.{zero-of, above-zero}
 use Rattle.image.proofs.Accepted.{sized, rules-few}
 use Rattle.load.proofs.Laws.{checked}
 use Rattle.store.proofs.Parts.{counted-set}
@@ -9,15 +11,17 @@ use Rattle.store.proofs.FlatForm.{steps-few}
 use Rattle.store.proofs.SetRules as laws
 use Rattle.store.proofs.hold.image_holds.Goals as goal
 
-pub returns-then-refusal-ne0-clause-holds : goal.returns-then-refusal-ne0-clause-holds
-returns-then-refusal-ne0-clause-holds c = laws.tables-refused c.args.store.now c.args.image.now c.refusal.result c.refusal.ensures c.if-refusal-ne0.true
+pub returns-then-is_err-clause-holds : goal.returns-then-is_err-clause-holds
+returns-then-is_err-clause-holds c =
+    laws.tables-refused c.args.store.now c.args.image.now (refusal_number c.refusal.result) c.refusal.ensures
+    (above-zero c.refusal.result (sym c.is_err.ensures.value ∙ c.if-is_err.true))
 
 pub few_enough-requires : goal.few_enough-requires
-few_enough-requires c = sized c.args.image.now (sym c.refusal.ensures ∙ c.if-refusal-ne0.false)
+few_enough-requires c = sized c.args.image.now (sym c.refusal.ensures ∙ zero-of c.refusal.result (sym c.is_err.ensures.value ∙ c.if-is_err.false))
 
 pub returns-then-not-few_enough-clause-holds : goal.returns-then-not-few_enough-clause-holds
 returns-then-not-few_enough-clause-holds c =
-    laws.counts-refused c.args.store.now c.args.image.now (sym c.refusal.ensures ∙ c.if-refusal-ne0.false)
+    laws.counts-refused c.args.store.now c.args.image.now (sym c.refusal.ensures ∙ zero-of c.refusal.result (sym c.is_err.ensures.value ∙ c.if-is_err.false))
     (sym c.few_enough.ensures ∙ not-true c.few_enough.result c.if-not-few_enough.true-raw)
 
 pub slice_bounds-same_flat-end-2 : goal.slice_bounds-same_flat-end-2
@@ -28,14 +32,14 @@ slice_bounds-same_flat-end-2 c =
 pub same_flat-requires : goal.same_flat-requires
 same_flat-requires c =
     let img = c.args.image.now in record {
-      checked = checked img (sym c.refusal.ensures ∙ c.if-refusal-ne0.false);
+      checked = checked img (sym c.refusal.ensures ∙ zero-of c.refusal.result (sym c.is_err.ensures.value ∙ c.if-is_err.false));
       rules_bound = rules-few img (sym c.few_enough.ensures ∙ not-false c.few_enough.result c.if-not-few_enough.false-raw);
       steps_len_bound = steps-few c.args.store.now c.requires.0 _ _ c.word_at.ensures refl;
     }
 
 pub returns-clause-holds : goal.returns-clause-holds
 returns-clause-holds c =
-    laws.image_holds c.args.store.now c.args.image.now (sym c.refusal.ensures ∙ c.if-refusal-ne0.false) c.requires.0 c.requires.1
+    laws.image_holds c.args.store.now c.args.image.now (sym c.refusal.ensures ∙ zero-of c.refusal.result (sym c.is_err.ensures.value ∙ c.if-is_err.false)) c.requires.0 c.requires.1
     (sym c.few_enough.ensures ∙ not-false c.few_enough.result c.if-not-few_enough.false-raw) _ _ _ c.word_at.ensures refl c.same_flat.ensures
 
 pub returns-clause-accepted : goal.returns-clause-accepted
