@@ -24,15 +24,7 @@ fn are_effects(effects: &[u32]) -> bool
     if effects.len() % EFFECT_WORDS != 0 {
         return false;
     }
-    let n = effects.len() / EFFECT_WORDS;
-    let mut k = 0;
-    while k < n {
-        if !has_kind(effects, k) {
-            return false;
-        }
-        k += 1;
-    }
-    true
+    (0..effects.len() / EFFECT_WORDS).all(|k| has_kind(effects, k))
 }
 
 // Whether record k cuts.
@@ -57,15 +49,13 @@ fn is_set_from(effects: &[u32], lamp: u32, k: usize) -> bool
     ensures { result ≡ is_set zero lamp (effects_from k effects.now) }
 {
     let n = effects.len() / EFFECT_WORDS;
-    let mut j = k;
-    while j < n {
+    for j in k..n {
         if cuts_at(effects, j) {
             return false;
         }
         if sets_at(effects, lamp, j) {
             return true;
         }
-        j += 1;
     }
     false
 }
@@ -114,10 +104,8 @@ fn put_kept(list: &mut [u32], effects: &[u32]) -> usize
 {
     let end = effects.len() / EFFECT_WORDS;
     let mut n = 0;
-    let mut k = 0;
-    while k < end {
+    for k in 0..end {
         n = put_if_kept(list, n, effects, k);
-        k += 1;
     }
     n
 }
