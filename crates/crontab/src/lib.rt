@@ -19,14 +19,7 @@ use model::Refusal;
 fn fields_fit(line: &[u8]) -> bool
     ensures { result ≡ every 5 (field_fits line.now) }
 {
-    let mut k = 0;
-    while k < 5 {
-        if !parts::fits(line, k) {
-            return false;
-        }
-        k += 1;
-    }
-    true
+    (0..5).all(|k| parts::fits(line, k))
 }
 
 fn of_the_form(line: &[u8], sunday: u32) -> bool

@@ -12,11 +12,9 @@ pub fn marks(line: &[u8], k: usize, n: usize) -> [bool; 60]
     ensures { Marked (field_covers line.now k) n result }
 {
     let mut a = [false; 60];
-    let mut v = 0;
-    while v < n {
+    for v in 0..n {
         let on = parts::covered(line, k, v as u32);
         a[v] = on;
-        v += 1;
     }
     a
 }
@@ -37,10 +35,8 @@ pub fn count(hours: &[bool; 60], minutes: &[bool; 60]) -> u32
     ensures { (result ≡ length (marked_minutes hours.now minutes.now)) × (result ≤ 1440) }
 {
     let mut n: u32 = 0;
-    let mut t = 0;
-    while t < 1440 {
+    for t in 0..1440 {
         let on = is_marked(hours, minutes, t);
-        t += 1;
         if on {
             n += 1;
         }
@@ -68,10 +64,8 @@ pub fn days_of(line: &[u8], sunday: u32) -> u32
     ensures { result ≡ days line.now sunday }
 {
     let mut ds: u32 = 0;
-    let mut d = 0;
-    while d < 7 {
+    for d in 0..7 {
         ds += day_bit(line, sunday, d);
-        d += 1;
     }
     ds
 }

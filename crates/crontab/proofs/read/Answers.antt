@@ -1,5 +1,5 @@
 -- `crontab::read` meets its contract. Assumes nothing.
-use mathlib.Core.Path.{sym, ap, ◌∙◌}
+use mathlib.Core.Path.{ap, ◌∙◌}
 use lib.ListN.{length}
 use Rattle.std.proofs.lemmas.Result.{err_from_is_err_and}
 use Rattle.crontab.proofs.Lines.{refused-form, refused-room, accepted-is, sunday-low, marked-minutes, written_as}

@@ -1,6 +1,6 @@
 -- `crontab::table::count` meets its contract. Assumes nothing.
 use mathlib.Core.Path.{◌≡◌}
-use Prim.Native.Nat.{◌≤◌, ◌-◌, ◌+◌}
+use Prim.Native.Nat.{◌≤◌, ◌+◌}
 use lib.ListN.{length}
 use Rattle.crontab.specs.Scanned.{marked, marked_minutes}
 use Rattle.crontab.proofs.Lines.{left}
@@ -9,6 +9,3 @@ use Rattle.crontab.proofs.table.count.Given as goal
 abbrev pub invariant-loop-t : goal.invariant-loop-t
 invariant-loop-t l =
     (l.t ≤ 1440) × ((l.n ≤ l.t) × (l.n + length (left (marked l.hours l.minutes) l.t) ≡ length (marked_minutes l.hours l.minutes)))
-
-abbrev pub decreases-loop-t : goal.decreases-loop-t
-decreases-loop-t l = 1440 - l.t

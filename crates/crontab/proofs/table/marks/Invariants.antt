@@ -1,11 +1,8 @@
 -- `crontab::table::marks` meets its contract. Assumes nothing.
-use Prim.Native.Nat.{◌≤◌, ◌-◌}
+use Prim.Native.Nat.{◌≤◌}
 use Rattle.model.specs.Crontab.{field_covers}
 use Rattle.crontab.specs.Scanned.{Marked}
 use Rattle.crontab.proofs.table.marks.Given as goal
 
 abbrev pub invariant-loop-v : goal.invariant-loop-v
 invariant-loop-v l = (l.v ≤ l.n) × Marked (field_covers l.line l.k) l.v l.a
-
-abbrev pub decreases-loop-v : goal.decreases-loop-v
-decreases-loop-v l = l.n - l.v
