@@ -10,10 +10,7 @@ use Rattle.model.specs.Activate as model
 use Rattle.model.specs.Rules.{cooldown_of}
 use Rattle.model.specs.State.{Rest, last_activation_at}
 use Rattle.model.specs.World.{world_of}
-use Rattle.eval.specs.Answers.{verdict_of}
 use Rattle.eval.specs.Equals.{RuleHolds}
-use Rattle.eval.specs.declared.Verdict.{Verdict}
-use Rattle.eval.specs.declared.Verdict.TheVariants as verdict
 use Rattle.activate.specs.Decisions.{is_auto, InCooldownIs, CooldownHolds, Decides}
 use Rattle.activate.specs.declared.Mode.{Mode}
 use Rattle.activate.specs.declared.decide.Decision.{Decision}
@@ -37,18 +34,18 @@ module _ (snapshot image : List ℕ) (i : ℕ) (m : Mode) (s : Rest) (auto : Boo
   asks_none f flat = rw (sym h ∙ f)
 
 -- the cooldown, then the conditions
-abbrev pub decision_by : Verdict → Decision
-decision_by verdict.Yes = Begins
-decision_by verdict.No = Rejected
-decision_by verdict.Unevaluable = Unevaluable
+abbrev pub decision_by : Option Bool → Decision
+decision_by (Some true) = Begins
+decision_by (Some false) = Rejected
+decision_by None = Unevaluable
 
 module _ (snapshot image : List ℕ) (i : ℕ) (m : Mode) (s : Rest) (b : Bool) (h : CooldownHolds snapshot image i m s b) where
   pub cooling : b ≡ true → Decides snapshot image i m s InCooldown
   unfolding model.decide
   cooling t flat = rw (sym (h flat) ∙ t)
 
-  pub judged : b ≡ false → (v w : Verdict) → RuleHolds snapshot image s i v → v ≡ w → Decides snapshot image i m s (decision_by w)
+  pub judged : b ≡ false → (w : Option Bool) → RuleHolds snapshot image s i w → Decides snapshot image i m s (decision_by w)
   unfolding model.decide
-  judged f v verdict.Yes k e flat = rw (sym (h flat) ∙ f, sym (k flat) ∙ ap verdict_of e)
-  judged f v verdict.No k e flat = rw (sym (h flat) ∙ f, sym (k flat) ∙ ap verdict_of e)
-  judged f v verdict.Unevaluable k e flat = rw (sym (h flat) ∙ f, sym (k flat) ∙ ap verdict_of e)
+  judged f (Some true) k flat = rw (sym (h flat) ∙ f, sym (k flat))
+  judged f (Some false) k flat = rw (sym (h flat) ∙ f, sym (k flat))
+  judged f None k flat = rw (sym (h flat) ∙ f, sym (k flat))

@@ -7,7 +7,6 @@ ghost use Rattle.state.specs.Meaning.{Sound, meaning};
 ghost use Rattle.activate.specs.Decisions.{is_auto, InCooldownIs, CooldownHolds, Decides};
 
 use crate::Mode;
-use eval::Verdict;
 use eval::conditions::conditions_hold;
 use exec::Env;
 
@@ -59,8 +58,8 @@ pub fn decide(env: &Env, v: &[u32], i: u32, mode: Mode) -> Decision
         return Decision::InCooldown;
     }
     match conditions_hold(env.snapshot, env.image, v, i) {
-        Verdict::Yes => Decision::Begins,
-        Verdict::No => Decision::Rejected,
-        Verdict::Unevaluable => Decision::Unevaluable,
+        Some(true) => Decision::Begins,
+        Some(false) => Decision::Rejected,
+        None => Decision::Unevaluable,
     }
 }

@@ -12,16 +12,9 @@ use lib.Pow.{pow_mono}
 use lib.Signed.{lt_z, le_z}
 use borrow.Author.Tests.{eqb-true, eqb-false, eq-eqb, ne_eqb}
 use mir.Syntax.{w64}
-use mir.Val.{SFits, to_z, of_z}
-use mir.Facts.{to_z-of_z}
-use Rattle.words.specs.Signed.{signed32, saturating_add_i64, eq_z}
+use mir.Val.{SFits, of_z}
+use Rattle.words.specs.Signed.{eq_z}
 use Rattle.model.specs.Arith.{compare_i64, has_day}
-
-pub stored-sum : (z : ℤ) → SFits w64 z → (delta : ℕ) → saturating_add_i64 (to_z w64 (of_z w64 z)) (signed32 delta) ≡ saturating_add_i64 z (signed32 delta)
-stored-sum z f delta = rw (to_z-of_z f)
-
-pub stored-compared : (cmp : ℕ) (a b : ℤ) → SFits w64 a → SFits w64 b → compare_i64 cmp (to_z w64 (of_z w64 a)) (to_z w64 (of_z w64 b)) ≡ compare_i64 cmp a b
-stored-compared cmp a b f g = rw (to_z-of_z f, to_z-of_z g)
 
 -- two tests of equality that hold together
 same_test : (a b c d : ℕ) → (a ≡ b → c ≡ d) → (c ≡ d → a ≡ b) → eqb a b ≡ eqb c d
@@ -48,6 +41,3 @@ no-comparison cmp a b h = sym (get_or-eq_default (eq_z a b ∷ not (eq_z a b) �
 pub no-day : (days day : ℕ) → days < 2 ^ 32 → 32 ≤ day → false ≡ has_day days day
 unfolding has_day
 no-day days day h l = let e : days / 2 ^ day ≡ 0 = div-eq_of_lt (lt_of_lt_of_le h (pow_mono l)) in rw e
-
-pub stored-left : (cmp : ℕ) (a : ℤ) → SFits w64 a → (b : ℤ) → compare_i64 cmp (to_z w64 (of_z w64 a)) b ≡ compare_i64 cmp a b
-stored-left cmp a f b = rw (to_z-of_z f)

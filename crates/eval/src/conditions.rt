@@ -8,7 +8,6 @@ ghost use Rattle.state.specs.Meaning.{Sound, meaning};
 ghost use Rattle.eval.specs.Dispatch.{past_groups, past_devices};
 ghost use Rattle.eval.specs.Equals.{Evaluates, ConditionAt, RuleHolds};
 
-use crate::Verdict;
 use crate::state_conditions::{compare_var, last_fired_older_than, rule_enabled, timer_running};
 use crate::world_conditions::{
     controller_active, day_in, device_online, group_state, hcl_state, input_light_is,
@@ -17,7 +16,12 @@ use crate::world_conditions::{
 use model::Condition;
 
 // Kinds 11 on: rules, timers, the controller, variables.
-fn eval_state_condition(snapshot: &[u32], image: &[u32], v: &[u32], condition: Condition) -> Verdict
+fn eval_state_condition(
+    snapshot: &[u32],
+    image: &[u32],
+    v: &[u32],
+    condition: Condition,
+) -> Option<bool>
     requires sized { Sized image.now }
     requires sound { Sound v.now }
     requires condition_value { past_devices condition ≡ true }
@@ -36,7 +40,7 @@ fn eval_state_condition(snapshot: &[u32], image: &[u32], v: &[u32], condition: C
             tag,
             operand,
         } => compare_var(snapshot, image, v, name, cmp, tag, operand),
-        _ => Verdict::Unevaluable,
+        _ => None,
     }
 }
 
@@ -46,7 +50,7 @@ fn eval_device_condition(
     image: &[u32],
     v: &[u32],
     condition: Condition,
-) -> Verdict
+) -> Option<bool>
     requires sized { Sized image.now }
     requires sound { Sound v.now }
     requires condition_value { past_groups condition ≡ true }
@@ -75,7 +79,12 @@ fn eval_device_condition(
 }
 
 // Kinds 0 on: first times, lamps and groups.
-pub fn eval_condition(snapshot: &[u32], image: &[u32], v: &[u32], condition: Condition) -> Verdict
+pub fn eval_condition(
+    snapshot: &[u32],
+    image: &[u32],
+    v: &[u32],
+    condition: Condition,
+) -> Option<bool>
     requires sized { Sized image.now }
     requires sound { Sound v.now }
     ensures { Evaluates snapshot.now image.now (meaning v.now).rest condition result }
@@ -103,7 +112,7 @@ pub fn eval_condition(snapshot: &[u32], image: &[u32], v: &[u32], condition: Con
 }
 
 // Condition i of the image.
-pub fn condition_at(snapshot: &[u32], image: &[u32], v: &[u32], i: u32) -> Verdict
+pub fn condition_at(snapshot: &[u32], image: &[u32], v: &[u32], i: u32) -> Option<bool>
     requires sized { Sized image.now }
     requires sound { Sound v.now }
     ensures { ConditionAt snapshot.now image.now (meaning v.now).rest i result }
@@ -113,26 +122,19 @@ pub fn condition_at(snapshot: &[u32], image: &[u32], v: &[u32], i: u32) -> Verdi
 }
 
 // The conditions of a rule: the first that does not hold decides.
-pub fn conditions_hold(snapshot: &[u32], image: &[u32], v: &[u32], rule: u32) -> Verdict
+pub fn conditions_hold(snapshot: &[u32], image: &[u32], v: &[u32], rule: u32) -> Option<bool>
     requires accepted { Accepted image.now }
     requires sound { Sound v.now }
     requires rule_bound { rule < size_of image.now rules }
     ensures { RuleHolds snapshot.now image.now (meaning v.now).rest rule result }
 {
     let n = image::rule::condition_count(image, rule);
-    let mut k = 0;
-    while k < n {
+    for k in 0..n {
         let condition = image::rule::condition_at(image, rule, k);
-        k += 1;
-        match eval_condition(snapshot, image, v, condition) {
-            Verdict::Yes => {}
-            Verdict::No => {
-                return Verdict::No;
-            }
-            Verdict::Unevaluable => {
-                return Verdict::Unevaluable;
-            }
+        let holds = eval_condition(snapshot, image, v, condition)?;
+        if !holds {
+            return Some(false);
         }
     }
-    Verdict::Yes
+    Some(true)
 }

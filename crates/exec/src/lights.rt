@@ -11,7 +11,6 @@ ghost use Rattle.exec.specs.Results.{Performs, PerformsIn, LevelAt, Dims};
 
 use crate::answers::{EffectKind, emits, fails};
 use crate::{Env, Job, PrimResult};
-use eval::Number;
 use eval::values::value_at;
 
 // The table of pool words.
@@ -113,10 +112,7 @@ fn level_at(env: &Env, v: &[u32], i: u32) -> Option<u32>
     requires { Sound v.now }
     ensures { LevelAt env.now.snapshot.now env.now.image.now (meaning v.now).rest i result }
 {
-    match value_at(env.snapshot, env.image, v, i) {
-        Number::Value(n) => curve::level_of(n),
-        Number::Unevaluable => None,
-    }
+    curve::level_of(value_at(env.snapshot, env.image, v, i)?)
 }
 
 // A value in parts per million of full light.

@@ -10,7 +10,6 @@ use crate::actions::prim_at;
 use crate::answers::fails;
 use crate::places::{advance, body_start, enter_then};
 use crate::{Env, Job, PrimResult, StepResult, Unevaluable};
-use eval::Verdict;
 use eval::conditions::condition_at;
 use model::{Point, Step};
 use state::reasons::Reason;
@@ -105,9 +104,9 @@ pub fn run_branch(
     ensures { (b : ℕ) → StepsIn env.now.snapshot.now env.now.image.now job v.old b sp (Branch c t n) (step_done v.new result) }
 {
     match condition_at(env.snapshot, env.image, v, c) {
-        Verdict::Yes => goes_on(enter_then(sp, t, n)),
-        Verdict::No => goes_on(advance(sp, t)),
-        Verdict::Unevaluable => after_prim(fails(v), advance(sp, t + n)),
+        Some(true) => goes_on(enter_then(sp, t, n)),
+        Some(false) => goes_on(advance(sp, t)),
+        None => after_prim(fails(v), advance(sp, t + n)),
     }
 }
 

@@ -9,7 +9,6 @@ ghost use Rattle.exec.specs.Results.{PerformsIn, Assigns, Adds, Selects};
 
 use crate::answers::{EffectKind, emits, fails};
 use crate::{Env, Job, PrimResult};
-use eval::Number;
 use eval::values::value_at;
 use model::VarValue;
 
@@ -69,11 +68,11 @@ pub fn var_add(env: &Env, v: &mut [u32], job: Job, name: u32, delta: u32) -> Pri
     ensures { PerformsIn env.now.snapshot.now env.now.image.now job v.old (VarAdd name delta) (action_done v.new result) }
 {
     match value_at(env.snapshot, env.image, v, delta) {
-        Number::Value(step) => {
+        Some(step) => {
             let held = state::variables::variable(v, name);
             add_to(v, job, name, step, held)
         }
-        Number::Unevaluable => fails(v),
+        None => fails(v),
     }
 }
 
@@ -108,7 +107,7 @@ pub fn panel_select(
     ensures { PerformsIn env.now.snapshot.now env.now.image.now job v.old (PanelSelect adapter group selected) (action_done v.new result) }
 {
     match value_at(env.snapshot, env.image, v, selected) {
-        Number::Value(n) => select(env.image, v, job, adapter, group, n),
-        Number::Unevaluable => fails(v),
+        Some(n) => select(env.image, v, job, adapter, group, n),
+        None => fails(v),
     }
 }

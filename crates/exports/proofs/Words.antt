@@ -1,7 +1,8 @@
 -- The answers of evaluation as words. Assumes nothing.
 use mathlib.Core.Path.{◌≡◌, refl, ap, ◌∙◌}
-use mathlib.Core.Bool.{true, false}
+use mathlib.Core.Bool.{Bool, true, false}
 use mathlib.Core.List.{List, map}
+use Rattle.std.specs.Prelude.{Option, None, Some}
 use Prim.Native.Nat.{ℕ}
 use lib.IntN.{ℤ}
 use mir.Syntax.{w64}
@@ -17,17 +18,14 @@ use Rattle.model.specs.State as model
 use Rattle.model.specs.Steps.{FlatStep}
 use Rattle.state.specs.Meaning.{AllNumbered, meaning}
 use Rattle.store.specs.Volatile.{changing_in}
-use Rattle.eval.specs.Answers.{number_of, verdict_of, env_of}
+use Rattle.eval.specs.Answers.{env_of}
 use Rattle.eval.specs.Equals.{ConditionAt, ValueAt}
-use Rattle.eval.specs.declared.Number.{Number}
-use Rattle.eval.specs.declared.Number.TheVariants as number
-use Rattle.eval.specs.declared.Verdict.{Verdict}
 use Rattle.exports.specs.Answers.{given, env_in, rest_in, verdict_code, condition_answer, marked, number_words, value_answer}
 
-pub none-words : (r : Number) (w : List ℕ) → r ≡ number.Unevaluable → w ≡ marked 2 0 → w ≡ number_words (number_of r)
+pub none-words : (r : Option ℤ) (w : List ℕ) → r ≡ None → w ≡ marked 2 0 → w ≡ number_words r
 none-words r w e h = rw e h
 
-pub some_words : (r : Number) (w : List ℕ) (z : ℤ) (b : ℕ) → SFits w64 z → r ≡ number.Value z → b ≡ bits64 (to_z w64 (of_z w64 z)) → w ≡ marked 1 b → w ≡ number_words (number_of r)
+pub some_words : (r : Option ℤ) (w : List ℕ) (z : ℤ) (b : ℕ) → SFits w64 z → r ≡ Some z → b ≡ bits64 (to_z w64 (of_z w64 z)) → w ≡ marked 1 b → w ≡ number_words r
 some_words r w z b fits e f h = rw e (h ∙ ap (marked 1) (f ∙ ap bits64 (to_z-of_z fits)))
 
 -- the lists of the image's set
@@ -44,14 +42,14 @@ module _ (snapshot image store : List ℕ) (i : ℕ) where
   no_value g = rw g refl
 
   module _ (g : given snapshot image store ≡ true) (v : List ℕ) (m : AllNumbered v (volatile_in (size_of image rules) (changing_in store))) where
-    pub condition-told : (r : Verdict) (n : ℕ) → ConditionAt snapshot image (meaning v).rest i r → n ≡ verdict_code (verdict_of r) → n ≡ condition_answer snapshot image store i
+    pub condition-told : (r : Option Bool) (n : ℕ) → ConditionAt snapshot image (meaning v).rest i r → n ≡ verdict_code r → n ≡ condition_answer snapshot image store i
     unfolding condition_answer env_in rest_in set_of
     condition-told r n h e =
         rw g
         (e ∙ ap verdict_code (h (flats image))
         ∙ ap (λ (s : model.Volatile). verdict_code (condition_at (env_of snapshot image (flats image)) s.rest i)) m.says)
 
-    pub value-told : (r : Number) (w : List ℕ) → ValueAt snapshot image (meaning v).rest i r → w ≡ number_words (number_of r) → w ≡ value_answer snapshot image store i
+    pub value-told : (r : Option ℤ) (w : List ℕ) → ValueAt snapshot image (meaning v).rest i r → w ≡ number_words r → w ≡ value_answer snapshot image store i
     unfolding value_answer env_in rest_in set_of
     value-told r w h e =
         rw g

@@ -1,6 +1,5 @@
 // Conditions and values of an image, by their place in its tables. What is given is checked first: nothing is asked of the caller.
 ghost use Rattle.std.specs.Prelude.{◌≡◌, true, length};
-ghost use Rattle.eval.specs.Answers.{verdict_of};
 ghost use Rattle.exports.specs.Answers as answers;
 ghost use Rattle.model.specs.Image.{size_of};
 ghost use Rattle.model.specs.Rows.{rules};
@@ -8,7 +7,6 @@ ghost use Rattle.model.specs.Store.{volatile_in};
 ghost use Rattle.state.specs.Meaning.{AllNumbered, state_words};
 ghost use Rattle.store.specs.Volatile.{changing_in};
 
-use eval::{Number, Verdict};
 use state::place::WORDS;
 use store::table::VARIABLES;
 
@@ -45,13 +43,13 @@ fn begin(snapshot: &[u32], image: &[u32], store: &[u32], v: &mut [u32])
     store::volatile::begin(store, count, v);
 }
 
-fn verdict_code(v: Verdict) -> u32
-    ensures { result ≡ answers.verdict_code (verdict_of v) }
+fn verdict_code(v: Option<bool>) -> u32
+    ensures { result ≡ answers.verdict_code v }
 {
     match v {
-        Verdict::No => 0,
-        Verdict::Yes => 1,
-        Verdict::Unevaluable => 2,
+        Some(false) => 0,
+        Some(true) => 1,
+        None => 2,
     }
 }
 
@@ -92,7 +90,7 @@ pub extern "C" fn cerambiu_value(
     let mut v = [0u32; WORDS];
     begin(snapshot, image, store, &mut v);
     match eval::values::value_at(snapshot, image, &v, i) {
-        Number::Value(z) => put_number(answer, 1, words::bits_of(z)),
-        Number::Unevaluable => put_number(answer, 2, 0),
+        Some(z) => put_number(answer, 1, words::bits_of(z)),
+        None => put_number(answer, 2, 0),
     }
 }

@@ -18,16 +18,16 @@ value_at-requires c =
       sound = c.begin.ensures.sound;
     }
 
-pub returns-in-Value : goal.returns-in-Value
-returns-in-Value c =
+pub returns-in-Some : goal.returns-in-Some
+returns-in-Some c =
     value-told _ _ _ _ (sym c.given.ensures ∙ not-false _ c.if-not-given.false-raw) _ c.begin.ensures
     c.value_at.result _
     c.value_at.ensures
-    (some_words _ _ _ _ (record { sfits = c.in-Value.known_told-1-own.given.0.1 }) c.in-Value.is c.bits_of.ensures c.put_number-in-Value.ensures)
+    (some_words _ _ _ _ (record { sfits = c.in-Some.known_told-1-own.given.0.1 }) c.in-Some.is c.bits_of.ensures c.put_number-in-Some.ensures)
 
-pub returns-in-Unevaluable : goal.returns-in-Unevaluable
-returns-in-Unevaluable c =
+pub returns-in-None : goal.returns-in-None
+returns-in-None c =
     value-told _ _ _ _ (sym c.given.ensures ∙ not-false _ c.if-not-given.false-raw) _ c.begin.ensures
     c.value_at.result _
     c.value_at.ensures
-    (none-words _ _ c.in-Unevaluable.is c.put_number-in-Unevaluable.ensures)
+    (none-words _ _ c.in-None.is c.put_number-in-None.ensures)

@@ -1,7 +1,6 @@
 -- `wheel::continuations::resume_one` meets its contract. Assumes nothing.
 use mathlib.Core.Path.{sym, ◌∙◌}
 use Rattle.image.proofs.Rules.{named_rule}
-use Rattle.eval.proofs.Options.{found_at, found_none}
 use Rattle.activate.specs.Carried.{carried}
 use Rattle.activate.proofs.FlatRules.{image-accepted}
 use Rattle.wheel.proofs.Due.{small-budget, has-rule}
@@ -17,7 +16,7 @@ rule_named-requires c =
 pub resume-requires : goal.resume-requires
 resume-requires c =
     let h = c.requires.holds.0 in
-    let n = found_at _ _ (sym c.in-Some.is ∙ c.rule_named.ensures) in
+    let n = sym c.rule_named.ensures ∙ c.in-Some.is in
     record {
       accepted = (image-accepted _ h.accepted, part-fits _ _ _ h.kept _ (named_rule _ _ _ n).0 _ _ c.rule_steps-part.ensures c.rule_own-own.ensures h.accepted, n);
       budget_bound = (small-budget _ _ c.requires.holds.1 h.accepted, c.requires.room);
@@ -25,10 +24,10 @@ resume-requires c =
 
 pub returns-in-Some : goal.returns-in-Some
 returns-in-Some c =
-    let n = found_at _ _ (sym c.in-Some.is ∙ c.rule_named.ensures) in
+    let n = sym c.rule_named.ensures ∙ c.in-Some.is in
     let says = part_says _ _ _ c.requires.holds.0.kept _ (named_rule _ _ _ n).0 _ _ c.rule_steps-part.ensures c.rule_own-own.ensures in
     resumed c.args.snapshot.now c.args.image.now _ _ _ (carried c.args.v.now c.args.x) _ _ _ _ _ says c.args.c c.resume.ensures
 
 pub returns-in-None : goal.returns-in-None
 returns-in-None c =
-    absurd (has-rule _ _ c.requires.holds.1 (found_none _ (sym c.in-None.is ∙ c.rule_named.ensures)))
+    absurd (has-rule _ _ c.requires.holds.1 (sym c.rule_named.ensures ∙ c.in-None.is))

@@ -2,7 +2,6 @@
 use mathlib.Core.Path.{sym, ◌∙◌}
 use Rattle.model.specs.Wheel.{by_every, activate_if_enabled, activate_each}
 use Rattle.image.proofs.Rules.{named_rule}
-use Rattle.eval.proofs.Options.{found_at, found_none}
 use Rattle.activate.specs.Carried.{carried}
 use Rattle.activate.proofs.FlatRules.{image-accepted}
 use Rattle.wheel.specs.Tick.{tick_env, rules_of_slot}
@@ -18,16 +17,16 @@ rule_named-requires c =
 pub activate_if_enabled-requires : goal.activate_if_enabled-requires
 activate_if_enabled-requires c =
     record {
-      holds = (c.requires.holds, (named_rule _ _ _ (found_at _ _ (sym c.in-Some.is ∙ c.rule_named.ensures))).0);
+      holds = (c.requires.holds, (named_rule _ _ _ (sym c.rule_named.ensures ∙ c.in-Some.is)).0);
       room = c.requires.room;
     }
 
 pub returns-in-Some : goal.returns-in-Some
 returns-in-Some c =
     let e = tick_env c.args.snapshot.now c.args.image.now in
-    same-part 1 (activate_if_enabled e by_every _) (activate_each e by_every (rules_of_slot c.args.image.now c.args.slot)) (slot_of e c.args.image.now c.args.slot _ _ (found_at _ _ (sym c.in-Some.is ∙ c.rule_named.ensures))) c.activate_if_enabled.ensures
+    same-part 1 (activate_if_enabled e by_every _) (activate_each e by_every (rules_of_slot c.args.image.now c.args.slot)) (slot_of e c.args.image.now c.args.slot _ _ (sym c.rule_named.ensures ∙ c.in-Some.is)) c.activate_if_enabled.ensures
 
 pub returns-in-None : goal.returns-in-None
 returns-in-None c =
     let e = tick_env c.args.snapshot.now c.args.image.now in
-    skips 1 (activate_each e by_every (rules_of_slot c.args.image.now c.args.slot)) (carried c.args.v.now c.args.x) _ _ c.requires.room.sound (slot-none e c.args.image.now c.args.slot _ (found_none _ (sym c.in-None.is ∙ c.rule_named.ensures)))
+    skips 1 (activate_each e by_every (rules_of_slot c.args.image.now c.args.slot)) (carried c.args.v.now c.args.x) _ _ c.requires.room.sound (slot-none e c.args.image.now c.args.slot _ (sym c.rule_named.ensures ∙ c.in-None.is))

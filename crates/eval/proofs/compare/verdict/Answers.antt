@@ -1,8 +1,0 @@
--- `eval::compare::verdict` meets its contract. Assumes nothing.
-use Rattle.eval.proofs.compare.verdict.Goals as goal
-
-pub returns-then-b : goal.returns-then-b
-returns-then-b c = rw c.if-b.true
-
-pub returns : goal.returns
-returns c = rw c.if-b.false

@@ -1,8 +1,0 @@
--- `eval::world_conditions::input_light_is` meets its contract. Assumes nothing.
-use Rattle.model.specs.Eval.{eval_condition}
-use Rattle.state.specs.Meaning.{meaning}
-use Rattle.eval.proofs.world_conditions.input_light_is.Goals as goal
-
-pub returns : goal.returns
-unfolding eval_condition
-returns c = λ flat. let a = c.args in rw (c.light_is.ensures, c.input_light-left.ensures (meaning a.v.now).rest a.image.now flat, c.value_at.ensures flat)
