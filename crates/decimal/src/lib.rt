@@ -25,7 +25,9 @@ fn value_of(word: &[u8]) -> Option<u64>
 {
     let mut n: u64 = 0;
     for b in word {
-        n = n.checked_mul(10)?.checked_add(u64::from(b.saturating_sub(b'0')))?;
+        n = n
+            .checked_mul(10)?
+            .checked_add(u64::from(b.saturating_sub(b'0')))?;
     }
     Some(n)
 }

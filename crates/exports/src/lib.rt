@@ -11,7 +11,6 @@ ghost use Rattle.model.specs.Snapshot.{snapshot_refusal};
 ghost use Rattle.model.specs.Store.{read};
 ghost use Rattle.flat.specs.Load.{stored};
 
-
 pub mod evaluation;
 
 // 10 to 15, 0 for none: the checks that do not flatten.

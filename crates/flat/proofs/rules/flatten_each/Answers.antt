@@ -65,9 +65,11 @@ shape_of-lists-in_default c = c.loop-k.invariant.3.rows-room-is
 pub returns-in_default : goal.returns-in_default
 returns-in_default c =
     let a = c.args in
-    let l = c.loop-k in
-    (refl, rule-refused a.acts.now a.blocks.now a.rules.now a.depth a.limit l.k (length a.rules.now / 16) l.left c.loop-k-test.true l.invariant.3.taken_is
-    (rw c.in_default.is at c.flatten_rule.ensures))
+    let l = c.loop-k in (
+      refl,
+      rule-refused a.acts.now a.blocks.now a.rules.now a.depth a.limit l.k (length a.rules.now / 16) l.left c.loop-k-test.true l.invariant.3.taken_is
+          (rw c.in_default.is at c.flatten_rule.ensures),
+    )
 
 pub overflow_add-size : goal.overflow_add-size
 overflow_add-size c =
