@@ -1,23 +1,15 @@
--- `world::check::tables_fit` meets its contract: a loop that leaves at the first number where the test fails. Assumes nothing.
-use native.Mathlib.Omega.{arith}
+-- `world::check::tables_fit` meets its contract. Assumes nothing.
+use mathlib.Core.Path.{◌∙◌}
 use borrow.Author.Rules.{rules}
-use Rattle.fields.proofs.Every.{starts, goes, leaves, ends}
+use Rattle.std.proofs.lemmas.Iterator.{YieldsList-from_slice}
+use Rattle.model.specs.Snapshot.{table_fits}
+use Rattle.fields.proofs.Chains.{computes-all}
+use Rattle.world.specs.Tables.{number}
+use Rattle.world.specs.declared.table.Table.{Table}
+use Rattle.world.proofs.Tables.{tables, all-tables}
 use Rattle.world.proofs.check.tables_fit.Goals as goal
 
-pub loop-t-init : goal.loop-t-init
-loop-t-init c = (search rules, starts _)
-
-pub returns-then-not-table_fits : goal.returns-then-not-table_fits
-returns-then-not-table_fits c = leaves _ _ _ _ c.loop-t-test.true c.table_fits.ensures c.if-not-table_fits.true-raw
-
-pub overflow_add-t : goal.overflow_add-t
-overflow_add-t c = omega arith
-
-pub loop-t-smaller : goal.loop-t-smaller
-loop-t-smaller c = omega arith
-
-pub loop-t-preserved : goal.loop-t-preserved
-loop-t-preserved c = (search rules, goes _ _ _ c.loop-t.invariant.1 c.table_fits.ensures c.if-not-table_fits.false-raw)
-
 pub returns : goal.returns
-returns c = ends _ _ _ c.loop-t-test.false c.loop-t.invariant.0 c.loop-t.invariant.1
+returns c =
+    computes-all {l = tables} _ _ (λ (t : Table). table_fits c.args.s.now (number t)) _ c.all.ensures.ran (YieldsList-from_slice tables cc) (λ x b q k. search rules)
+    ∙ all-tables (table_fits c.args.s.now)

@@ -1,26 +1,8 @@
--- `world::rows::has_address` meets its contract: a loop that leaves at the first number where the test fails. Assumes nothing.
-use native.Mathlib.Omega.{arith}
-use Rattle.fields.proofs.Every.{starts, goes, leaves, ends}
+-- `world::rows::has_address` meets its contract. Assumes nothing.
+use mathlib.Core.Path.{refl}
 use borrow.Author.Rules.{rules}
+use Rattle.fields.proofs.Chains.{computes-every}
 use Rattle.world.proofs.rows.has_address.Goals as goal
 
-pub loop-j-init : goal.loop-j-init
-loop-j-init c = (search rules, starts _)
-
-pub agrees-requires : goal.agrees-requires
-agrees-requires c = omega (arith, c.key-n.ensures.1)
-
-pub returns-then-not-agrees : goal.returns-then-not-agrees
-returns-then-not-agrees c = rw (← c.key-n.ensures.0) (leaves _ _ _ _ c.loop-j-test.true c.agrees.ensures c.if-not-agrees.true-raw)
-
-pub overflow_add-j : goal.overflow_add-j
-overflow_add-j c = omega arith
-
-pub loop-j-smaller : goal.loop-j-smaller
-loop-j-smaller c = omega arith
-
-pub loop-j-preserved : goal.loop-j-preserved
-loop-j-preserved c = (search rules, goes _ _ _ c.loop-j.invariant.1 c.agrees.ensures c.if-not-agrees.false-raw)
-
 pub returns : goal.returns
-returns c = rw (← c.key-n.ensures.0) (ends _ _ _ c.loop-j-test.false c.loop-j.invariant.0 c.loop-j.invariant.1)
+returns c = rw (← c.key.ensures.0) (computes-every _ _ _ _ _ _ c.all.ensures.ran refl (λ x b q k. search rules))

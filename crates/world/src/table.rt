@@ -1,0 +1,98 @@
+// Where the words of a snapshot stand: 14 words before the rows, then the rows of five tables.
+ghost use Rattle.std.specs.Prelude.{◌≡◌, ◌+◌, ◌*◌, ◌<◌, ◌≤◌, ◌^◌};
+ghost use Rattle.model.specs.Snapshot.{row_width, key_of, count_of, start_of, cell_at};
+ghost use Rattle.world.specs.Limits.{Counted};
+ghost use Rattle.world.specs.Tables.{number};
+
+#[derive(Clone, Copy)]
+pub enum Table {
+    Lamps,
+    Groups,
+    Devices,
+    Inputs,
+    HclTargets,
+}
+
+impl Table {
+    pub const ALL: [Table; 5] = [
+        Table::Lamps,
+        Table::Groups,
+        Table::Devices,
+        Table::Inputs,
+        Table::HclTargets,
+    ];
+
+    // The words of a row.
+    pub fn width(self) -> u32
+        ensures { (result ≡ row_width (number self)) × (result ≤ 11) }
+    {
+        match self {
+            Table::Lamps => 9,
+            Table::Groups => 5,
+            Table::Devices => 3,
+            Table::Inputs => 11,
+            Table::HclTargets => 3,
+        }
+    }
+
+    // How many of them are its address.
+    pub fn key(self) -> u32
+        ensures { (result ≡ key_of (number self)) × (result ≤ 3) }
+    {
+        match self {
+            Table::Lamps | Table::Groups | Table::Devices => 2,
+            Table::Inputs => 3,
+            Table::HclTargets => 1,
+        }
+    }
+
+    // The rows of the table.
+    pub fn count(self, s: &[u32]) -> u32
+        ensures { result ≡ count_of s.now (number self) }
+    {
+        fields::word(s, 9 + self as usize)
+    }
+
+    // Its first word.
+    #[tactic(auto, unfolding(model::specs::Snapshot::start_of))]
+    pub fn start(self, s: &[u32]) -> usize
+        ensures { (result ≡ start_of s.now (number self)) × (result < 2 ^ 37) }
+    {
+        let groups = 14 + 9 * Table::Lamps.count(s) as usize;
+        let devices = groups + 5 * Table::Groups.count(s) as usize;
+        let inputs = devices + 3 * Table::Devices.count(s) as usize;
+        let hcl = inputs + 11 * Table::Inputs.count(s) as usize;
+        match self {
+            Table::Lamps => 14,
+            Table::Groups => groups,
+            Table::Devices => devices,
+            Table::Inputs => inputs,
+            Table::HclTargets => hcl,
+        }
+    }
+
+    // The same as a word, where the counts are in range.
+    pub fn start_word(self, s: &[u32]) -> u32
+        requires { Counted s.now }
+        ensures { result ≡ start_of s.now (number self) }
+    {
+        self.start(s) as u32
+    }
+
+    // Word j of row i; 0 past the end of the snapshot.
+    #[tactic(auto, unfolding(model::specs::Snapshot::cell_at))]
+    pub fn cell(self, s: &[u32], i: u32, j: u32) -> u32
+        ensures { result ≡ cell_at s.now (number self) i j }
+    {
+        let row = self.start(s) + self.width() as usize * i as usize;
+        fields::word(s, row + j as usize)
+    }
+}
+
+// The number of words as counted.
+#[tactic(auto, unfolding(model::specs::Snapshot::start_of))]
+pub fn counted_length(s: &[u32]) -> usize
+    ensures { result ≡ start_of s.now 5 }
+{
+    Table::HclTargets.start(s) + 3 * Table::HclTargets.count(s) as usize
+}
