@@ -401,14 +401,14 @@ pub struct Jump {
 }
 
 // A place in one of a rule's lists, with its jump, which it has exactly while it is inside a then-region. List 0 is the rule's own, list p + 1 the body of the after at place p of it.
-#[derive(Clone, Copy)]
+#[derive(Clone, Copy, Default)]
 pub struct Point {
     pub list: u32,
     pub place: u32,
     pub jump: Option<Jump>,
 }
 
-#[derive(Clone, Copy)]
+#[derive(Clone, Copy, Default)]
 pub struct NamedTimer {
     pub name: u32,
     pub due: u64,
@@ -428,7 +428,7 @@ pub struct Variable {
 }
 
 // `place` is the trigger's place among all triggers of its rule.
-#[derive(Clone, Copy)]
+#[derive(Clone, Copy, Default)]
 pub struct EverySlot {
     pub rule: u32,
     pub place: u32,
@@ -437,7 +437,7 @@ pub struct EverySlot {
 }
 
 // A continuation: where it goes on, when, with what budget, and under which trigger, sequence number and activation number.
-#[derive(Clone, Copy)]
+#[derive(Clone, Copy, Default)]
 pub struct Pending {
     pub rule: u32,
     pub point: Point,

@@ -1,17 +1,18 @@
-// Tables of rows: the first n are read into an array.
-ghost use Rattle.std.specs.Prelude.{◌≡◌, ◌≤◌, ◌+◌, ◌*◌, ◌^◌, take};
+// Tables of rows.
+ghost use Rattle.std.specs.Prelude.{◌≡◌, ◌≤◌, ◌+◌, ◌*◌, ◌^◌};
 ghost use Rattle.rows.specs.Places.{table_at};
 
 use crate::row::Row;
+use arrayvec::ArrayVec;
 
-pub fn table_at<T: Row, const N: usize>(s: &[u32], k: usize, n: usize) -> [T; N]
+// The n rows that stand from k on.
+pub fn table_at<T: Row + Default, const N: usize>(s: &[u32], k: usize, n: usize) -> ArrayVec<T, N>
     requires { (n ≤ N) × (k + n * T.WORDS ≤ 2 ^ 64) }
-    ensures { take n result ≡ table_at T.codec n s.now k }
+    ensures { result.items ≡ table_at T.codec n s.now k }
 {
-    // Words past the end read as 0.
-    let mut a = [T::at(&[], 0); N];
+    let mut rows = ArrayVec::new();
     for i in 0..n {
-        a[i] = T::at(s, k + i * T::WORDS);
+        rows.push(T::at(s, k + i * T::WORDS));
     }
-    a
+    rows
 }
