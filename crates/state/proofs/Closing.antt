@@ -11,7 +11,12 @@ use lib.ListN.{length, take, drop, get_or, set, length-set}
 use lib.Seq.{length-take-le, take-suc, drop-set-lt, drop-drop, get_or-drop}
 use Rattle.model.specs.Lists.{keep}
 use Rattle.state.proofs.Lists.{joins}
-use Rattle.state.specs.Tables.{Keeps}
+
+-- a has, below the count, the elements of l that pass
+pub record Keeps {A : Type 0} (p : A → Bool) (l a : List A) (count : ℕ) : Type 0 where
+  pub holds : take count a ≡ keep p l
+  pub counted : count ≡ length (keep p l)
+  pub fewer : count ≤ length l
 
 pub record Closing {A : Type 0} (p : A → Bool) (a₀ a : List A) (i j : ℕ) : Type 0 where
   pub long : length a ≡ length a₀

@@ -84,7 +84,7 @@ module _ (w : List ℕ) (s : Sound w) where
   slots-few = rw slots-count (holds-few slot_row slot_laws 64 _ _ slots-hold)
 
   -- all that are read
-  pub slots_read : (n : ℕ) (l : List EverySlot) → n ≡ get_or w (place_of slots_part) 0 → take n l ≡ table_at slot_row n w (place_of slots_part + 1) → take n l ≡ (meaning w).rest.every
+  pub slots_read : (n : ℕ) (l : List EverySlot) → n ≡ get_or w (place_of slots_part) 0 → l ≡ table_at slot_row n w (place_of slots_part + 1) → l ≡ (meaning w).rest.every
   slots_read n l e f = f ∙ ap (λ (i : ℕ). table_at slot_row i w (place_of slots_part + 1)) e ∙ table-read slot_row slot_laws 64 w (place_of slots_part) (words_in slots_part) (meaning w).rest.every slots-hold
 
   -- the part comes back

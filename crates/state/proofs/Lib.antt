@@ -3,12 +3,11 @@ pub mod Lists
 pub mod Closing
 pub mod Found
 pub mod Numbers
-pub mod Order
+pub mod Inserting
 pub mod Mapped
 pub mod Behind
 pub mod Selecting
 pub mod Listing
-pub mod Lengths
 pub mod Cutting
 pub mod Tables
 pub mod Typed

@@ -16,12 +16,12 @@ use Rattle.model.specs.Lists.{flatten, keep, find}
 use Rattle.model.proofs.CodecLaws.{rest_of}
 use Rattle.rows.specs.Places.{laid}
 use Rattle.rows.proofs.Writing.{laid-long, lays, one_set}
-use Rattle.state.specs.Tables.{First, Keeps}
+use Rattle.state.specs.Tables.{First}
 use Rattle.state.specs.Cuts.{cut, sum, rows_in, table_of, Fits, Table, RowSet, word_in, wide_of, wide_in, has_word, passes, test_fits}
 use Rattle.state.specs.declared.table.Test.{Test}
 use Rattle.state.specs.declared.table.Test.TheVariants.{Other, Later}
 use Rattle.state.proofs.Found.{goes_on, stops, ends}
-use Rattle.state.proofs.Closing.{Closing, keep_append, starts, keeps, skips, done}
+use Rattle.state.proofs.Closing.{Keeps, Closing, keep_append, starts, keeps, skips, done}
 use Rattle.state.proofs.Cutting.{laid-drop, laid-behind, word-behind, word-before, cut-long, cut_at, cut-laid, cut-first, sum_same, sum_first, size_same, row-end}
 
 module _ (f : ℕ) (p : List ℕ) (h : Fits f p) where

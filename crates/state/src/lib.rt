@@ -21,7 +21,6 @@ ghost use Rattle.rows.specs.Places.{table_at, laid};
 ghost use Rattle.state.specs.Meaning.{Sound, Means, meaning, base};
 
 use counters::{Counter, Counters};
-use model::{EverySlot, NamedTimer};
 use rows::put::put_words;
 use rows::row::{Row, option_at, put_option};
 
@@ -36,19 +35,6 @@ pub mod slots;
 pub mod table;
 pub mod timers;
 pub mod variables;
-
-// Some records of each kind, in order.
-#[derive(Clone, Copy)]
-pub struct TimerList {
-    pub timers: [NamedTimer; 16],
-    pub count: usize,
-}
-
-#[derive(Clone, Copy)]
-pub struct SlotList {
-    pub slots: [EverySlot; 64],
-    pub count: usize,
-}
 
 fn counters_at(s: &[u32], k: usize) -> Counters
     requires { k ≤ 16384 }

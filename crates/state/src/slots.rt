@@ -1,14 +1,15 @@
 // The Every slots, at most 64: rows of rule, place, period and due time.
 ghost use Rattle.std.specs.Prelude.{◌≡◌, [], ◌∷◌, ◌++◌, map, ◌≤◌, ◌<◌, get_or, take};
 ghost use Rattle.model.specs.Codec.{most};
+ghost use Rattle.model.specs.Lists.{keep};
 ghost use Rattle.model.specs.Parts.{slot_row};
 ghost use Rattle.model.specs.State.{with_rest, with_every};
 ghost use Rattle.model.specs.Wheel.{moved};
 ghost use Rattle.state.specs.Meaning.{Sound, Means, Holds, Counted, meaning, base};
 ghost use Rattle.state.specs.Named.{slot_due};
-ghost use Rattle.state.specs.Tables.{Keeps};
 
-use crate::{SlotList, place};
+use crate::place;
+use arrayvec::ArrayVec;
 use model::EverySlot;
 use rows::SLOT_WORDS;
 use rows::put::clear;
@@ -24,12 +25,7 @@ fn move_on(x: EverySlot, time: u64) -> EverySlot
 {
     if x.due <= time {
         let due = words::saturating_add_u64(time, x.period as u64);
-        EverySlot {
-            rule: x.rule,
-            place: x.place,
-            period: x.period,
-            due,
-        }
+        EverySlot { due, ..x }
     } else {
         x
     }
@@ -40,12 +36,10 @@ fn move_all(t: &mut [u32], time: u64)
     ensures { Holds 64 slot_row t.new (map (moved time) ((most 64 slot_row).get t.old)) }
 {
     let n = t[0] as usize;
-    let mut i = 0;
-    while i < n {
+    for i in 0..n {
         let k = 1 + i * SLOT_WORDS;
         let x = EverySlot::at(t, k);
         move_on(x, time).put(t, k);
-        i += 1;
     }
 }
 
@@ -57,32 +51,15 @@ pub fn move_slots(v: &mut [u32], time: u64)
     move_all(&mut v[place::SLOTS..place::PENDING], time);
 }
 
-fn keep_due(slots: [EverySlot; 64], n: usize, time: u64) -> SlotList
-    requires { n ≤ 64 }
-    ensures { Keeps (slot_due time) (take n slots) result.slots result.count }
-{
-    let mut a = slots;
-    let mut i = 0;
-    let mut j = 0;
-    while i < n {
-        let x = a[i];
-        i += 1;
-        if x.due <= time {
-            a[j] = x;
-            j += 1;
-        }
-    }
-    SlotList { slots: a, count: j }
-}
-
 // The due slots, in their order.
-pub fn due_slots(v: &[u32], time: u64) -> SlotList
+pub fn due_slots(v: &[u32], time: u64) -> ArrayVec<EverySlot, 64>
     requires { Sound v.now }
-    ensures { Keeps (slot_due time) (meaning v.now).rest.every result.slots result.count }
+    ensures { result.items ≡ keep (slot_due time) (meaning v.now).rest.every }
 {
     let n = v[place::SLOTS] as usize;
-    let slots = table_at(v, place::SLOTS + 1, n);
-    keep_due(slots, n, time)
+    let mut due: ArrayVec<EverySlot, 64> = table_at(v, place::SLOTS + 1, n);
+    due.retain(|x| x.due <= time);
+    due
 }
 
 // A slot joins behind the others.

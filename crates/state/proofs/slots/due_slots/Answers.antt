@@ -1,22 +1,18 @@
 -- `state::slots::due_slots` meets its contract. Assumes nothing.
 use native.Mathlib.Omega.{arith}
-use mathlib.Core.Path.{refl, subst}
-use mathlib.Core.List.{List}
-use Rattle.model.specs.declared.EverySlot.{EverySlot}
+use mathlib.Core.Path.{refl, ap, ◌∙◌}
+use Rattle.std.proofs.Common.{rules}
+use Rattle.arrayvec.proofs.ArrayVecLemmas.{filter-from_retain}
+use Rattle.model.specs.Lists.{keep}
 use Rattle.state.specs.Named.{slot_due}
-use Rattle.state.specs.Tables.{Keeps}
 use Rattle.state.proofs.EverySlots.{slots-few, slots_read}
+use Rattle.state.proofs.Lists.{filter-keep}
 use Rattle.state.proofs.slots.due_slots.Goals as goal
 
-pub overflow_cast-n : goal.overflow_cast-n
-overflow_cast-n c = omega (arith, slots-few _ c.requires)
-
-pub table_at-slots-requires : goal.table_at-slots-requires
-table_at-slots-requires c = (omega arith, (slots-few _ c.requires, omega (arith, slots-few _ c.requires)))
-
-pub keep_due-requires : goal.keep_due-requires
-keep_due-requires c = slots-few _ c.requires
+pub table_at-due-requires : goal.table_at-due-requires
+table_at-due-requires c = let few = slots-few _ c.requires in (omega arith, (few, omega arith))
 
 pub returns : goal.returns
 returns c =
-    subst (λ (l : List EverySlot). Keeps (slot_due c.args.time) l c.keep_due.result.slots c.keep_due.result.count) (slots_read _ c.requires _ _ refl c.table_at-slots.ensures) c.keep_due.ensures
+    filter-from_retain _ (slot_due c.args.time) _ (λ x b f' y r. search rules) _ _ c.retain.ensures.filtered
+    ∙ filter-keep (slot_due c.args.time) _ ∙ ap (keep (slot_due c.args.time)) (slots_read _ c.requires _ _ refl c.table_at-due.ensures)
