@@ -17,7 +17,6 @@ use Rattle.model.specs.declared.Pending.{Pending}
 use Rattle.model.proofs.PartsLaws.{slot_laws}
 use Rattle.state.specs.Meaning.{Means, Sound, meaning, base, part, slots_part}
 use Rattle.state.specs.Named.{timer_later, slot_due}
-use Rattle.state.specs.Tables.{Keeps}
 use Rattle.state.proofs.Frame.{table-part}
 use Rattle.state.proofs.Typed.{holds-few}
 use Rattle.activate.specs.Handled.{Room}
@@ -73,8 +72,3 @@ module _ (snapshot image : List ℕ) (now : ℕ) (is : now ≡ (world_of snapsho
 
 pub due-fit : (p : Pending → Bool) (now : ℕ) (ps cs : List Pending) → cs ≡ due_now now ps → all p ps ≡ true → all p cs ≡ true
 due-fit p now ps cs e a = rw e (all-due p now ps a)
-
--- no more slots are due than there are
-pub few-slots : (w : List ℕ) {p : EverySlot → Bool} (a : List EverySlot) (n : ℕ) → Sound w → Keeps p (meaning w).rest.every a n → n ≤ 64
-unfolding meaning
-few-slots w a n s k = omega (arith, k.fewer, holds-few slot_row slot_laws 64 (part slots_part w) (meaning w).rest.every (table-part slot_row slot_laws slots_part 64 (omega arith) refl w s))

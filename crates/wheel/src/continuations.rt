@@ -78,8 +78,16 @@ pub fn fire_continuations(
     ensures { Fires 32 (fire_continuations (tick_env snapshot.now image.now)) (carried v.old x) outcomes.old effects.old (carried v.new result) outcomes.new effects.new }
 {
     let time = world::now_ms(snapshot);
-    let order = due_now(v, time);
+    let due = due_now(v, time);
     without_due(v, time);
-    let due = &order.indices[..order.count];
-    resume_all(snapshot, image, store, outcomes, effects, v, x, due)
+    resume_all(
+        snapshot,
+        image,
+        store,
+        outcomes,
+        effects,
+        v,
+        x,
+        due.as_slice(),
+    )
 }

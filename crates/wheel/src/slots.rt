@@ -71,8 +71,16 @@ pub fn fire_every(
     ensures { Fires 64 (fire_every (tick_env snapshot.now image.now)) (carried v.old x) outcomes.old effects.old (carried v.new result) outcomes.new effects.new }
 {
     let time = world::now_ms(snapshot);
-    let list = due_slots(v, time);
+    let due = due_slots(v, time);
     move_slots(v, time);
-    let due = &list.slots[..list.count];
-    fire_slots(snapshot, image, store, outcomes, effects, v, x, due)
+    fire_slots(
+        snapshot,
+        image,
+        store,
+        outcomes,
+        effects,
+        v,
+        x,
+        due.as_slice(),
+    )
 }

@@ -119,8 +119,17 @@ pub fn fire_timers(
     ensures { Fires 1024 (fire_timers (tick_env snapshot.now image.now)) (carried v.old x) outcomes.old effects.old (carried v.new result) outcomes.new effects.new }
 {
     let time = world::now_ms(snapshot);
-    let list = due_timers(v, time);
+    let due = due_timers(v, time);
     without_due(v, time);
-    let due = &list.timers[..list.count];
-    fire_due_timers(snapshot, image, store, outcomes, effects, v, x, order, due)
+    fire_due_timers(
+        snapshot,
+        image,
+        store,
+        outcomes,
+        effects,
+        v,
+        x,
+        order,
+        due.as_slice(),
+    )
 }

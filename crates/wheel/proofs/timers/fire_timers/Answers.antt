@@ -1,6 +1,5 @@
 -- `wheel::timers::fire_timers` meets its contract. Assumes nothing.
-use native.Mathlib.Omega.{arith}
-use lib.Seq.{length-take-le}
+use mathlib.Core.Path.{◌∙◌}
 use Rattle.activate.specs.Carried.{carried}
 use Rattle.wheel.proofs.Fired.{timers-room, timers-fire}
 use Rattle.wheel.proofs.timers.fire_timers.Goals as goal
@@ -8,10 +7,10 @@ use Rattle.wheel.proofs.timers.fire_timers.Goals as goal
 pub fire_due_timers-requires : goal.fire_due_timers-requires
 fire_due_timers-requires c =
     record {
-      holds = (c.requires.holds.0, c.requires.holds.1, omega (arith, length-take-le c.due_timers-list.result.count c.due_timers-list.result.timers, c.due_timers-list.ensures.1));
+      holds = (c.requires.holds.0, c.requires.holds.1, c.as_slice.ensures.fits);
       room = timers-room c.args.snapshot.now c.args.image.now _ c.now_ms-time.ensures (carried c.args.v.now c.args.x) _ c.without_due.ensures 1024 c.requires.room;
     }
 
 pub returns : goal.returns
 returns c =
-    timers-fire c.args.snapshot.now c.args.image.now _ c.now_ms-time.ensures (carried c.args.v.now c.args.x) _ c.without_due.ensures _ c.due_timers-list.ensures.0 c.fire_due_timers.ensures
+    timers-fire c.args.snapshot.now c.args.image.now _ c.now_ms-time.ensures (carried c.args.v.now c.args.x) _ c.without_due.ensures _ (c.as_slice.ensures.value ∙ c.due_timers-due.ensures) c.fire_due_timers.ensures
