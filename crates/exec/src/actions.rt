@@ -11,6 +11,7 @@ use model::Action;
 const ACTIONS: u32 = 4;
 
 // One arm for each kind.
+#[tactic(auto, unfolding(model::specs::Actions::run_prim))]
 pub fn run_prim(env: &Env, v: &mut [u32], job: Job, action: Action) -> PrimResult
     requires { Sound v.old }
     ensures { PerformsIn env.now.snapshot.now env.now.image.now job v.old action (action_done v.new result) }

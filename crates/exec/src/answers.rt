@@ -35,6 +35,7 @@ pub fn emits(kind: EffectKind, a: u32, b: u32, c: u32, d: u32) -> PrimResult
 }
 
 // It is counted.
+#[tactic(auto, unfolding(model::specs::Actions::fails))]
 pub fn fails(v: &mut [u32]) -> PrimResult
     requires { Sound v.old }
     ensures { Does v.old (action_done v.new result) (model_actions.fails (meaning v.old).rest) }

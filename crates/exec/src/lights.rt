@@ -23,6 +23,7 @@ fn hold_or(hold: u32, rule: u32) -> u32
     if hold == 2 { rule } else { hold }
 }
 
+#[tactic(auto, unfolding(model::specs::Actions::run_prim, model::specs::Actions::prim_light))]
 pub fn prim_light(
     v: &mut [u32],
     job: Job,
@@ -43,6 +44,7 @@ pub fn prim_light(
     fails(v)
 }
 
+#[tactic(auto, unfolding(model::specs::Actions::run_prim, model::specs::Actions::prim_recall))]
 pub fn prim_recall(
     v: &mut [u32],
     job: Job,
@@ -60,6 +62,7 @@ pub fn prim_recall(
     fails(v)
 }
 
+#[tactic(auto, unfolding(model::specs::Actions::run_prim, model::specs::Actions::prim_apply))]
 pub fn prim_apply(v: &mut [u32], job: Job, answer: u32, scene: u32) -> PrimResult
     requires { Sound v.old }
     ensures { Performs job v.old (Apply answer scene) (action_done v.new result) }

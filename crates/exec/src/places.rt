@@ -6,29 +6,17 @@ ghost use Rattle.model.specs.Exec as model_exec;
 
 use model::{Jump, Point};
 
+#[tactic(auto, unfolding(model::specs::Steps::arrive))]
 pub fn arrive(list: u32, place: u32, jump: Option<Jump>) -> Point
     ensures { result ≡ model_steps.arrive list place jump }
 {
     match jump {
-        None => Point {
+        Some(j) if place == j.at => Point {
             list,
-            place,
+            place: j.to,
             jump: None,
         },
-        Some(j) => {
-            if place == j.at {
-                return Point {
-                    list,
-                    place: j.to,
-                    jump: None,
-                };
-            }
-            Point {
-                list,
-                place,
-                jump: Some(j),
-            }
-        }
+        _ => Point { list, place, jump },
     }
 }
 

@@ -51,6 +51,7 @@ pub fn primitive(env: &Env, v: &mut [u32], job: Job, sp: Point, i: u32) -> StepR
 }
 
 // What follows a wait is scheduled, and the run ends: also where the continuation is dropped.
+#[tactic(auto, unfolding(model::specs::Exec::exec))]
 fn run_wait(snapshot: &[u32], v: &mut [u32], job: Job, left: u32, sp: Point, ms: u32) -> StepResult
     requires { Sound v.old × (accepted v.old < max64) × (suc sp.place ≤ max32) }
     ensures { StepsAt snapshot.now job v.old left sp (Wait ms) (step_done v.new result) }
@@ -66,6 +67,7 @@ fn run_wait(snapshot: &[u32], v: &mut [u32], job: Job, left: u32, sp: Point, ms:
 }
 
 // The body is scheduled, and the run goes on behind the step: also where the continuation is dropped.
+#[tactic(auto, unfolding(model::specs::Exec::exec))]
 fn run_after(snapshot: &[u32], v: &mut [u32], job: Job, left: u32, sp: Point, ms: u32) -> StepResult
     requires { Sound v.old × (accepted v.old < max64) × (suc sp.place ≤ max32) }
     ensures { StepsAt snapshot.now job v.old left sp (After ms) (step_done v.new result) }
@@ -91,6 +93,7 @@ fn run_after(snapshot: &[u32], v: &mut [u32], job: Job, left: u32, sp: Point, ms
 }
 
 // A condition that cannot be evaluated skips both regions.
+#[tactic(auto, unfolding(model::specs::Exec::exec, model::specs::Exec::run_branch))]
 pub fn run_branch(
     env: &Env,
     v: &mut [u32],
@@ -117,6 +120,7 @@ pub fn fail(v: &mut [u32], job: Job, sp: Point) -> StepResult
     after_prim(fails(v), advance(sp, 0))
 }
 
+#[tactic(auto, unfolding(model::specs::Exec::exec))]
 pub fn exec(env: &Env, v: &mut [u32], job: Job, left: u32, sp: Point, step: Step) -> StepResult
     requires { Sound v.old × (accepted v.old < max64) × (suc sp.place + reach step ≤ max32) }
     ensures { StepsIn env.now.snapshot.now env.now.image.now job v.old left sp step (step_done v.new result) }

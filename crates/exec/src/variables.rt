@@ -27,6 +27,7 @@ fn assign(v: &mut [u32], job: Job, name: u32, value: VarValue) -> PrimResult
 }
 
 // A text of more bytes than the limit is refused, in a dry run too.
+#[tactic(auto, unfolding(model::specs::Actions::run_prim, model::specs::Actions::prim_var_set))]
 pub fn var_set(
     image: &[u32],
     v: &mut [u32],
@@ -63,6 +64,7 @@ fn add_to(v: &mut [u32], job: Job, name: u32, step: i64, held: Option<VarValue>)
     }
 }
 
+#[tactic(auto, unfolding(model::specs::Actions::run_prim))]
 pub fn var_add(env: &Env, v: &mut [u32], job: Job, name: u32, delta: u32) -> PrimResult
     requires { Sound v.old }
     ensures { PerformsIn env.now.snapshot.now env.now.image.now job v.old (VarAdd name delta) (action_done v.new result) }
@@ -95,6 +97,7 @@ fn select(
     fails(v)
 }
 
+#[tactic(auto, unfolding(model::specs::Actions::run_prim))]
 pub fn panel_select(
     env: &Env,
     v: &mut [u32],

@@ -9,6 +9,3 @@ use Rattle.exec.proofs.rules.set_rule_bit.Goals as goal
 
 pub returns-in-Some : goal.returns-in-Some
 returns-in-Some c e = answers (c.set_bit_at.ensures e) (bit_found e (job_of c.args.job) (meaning c.args.v.now).rest c.args.rule c.args.on _ _ (found_at _ _ (sym c.in-Some.is ∙ c.rule_named.ensures)))
-
-pub returns-in-None : goal.returns-in-None
-returns-in-None c e = answers c.fails.ensures (bit-nothing e (job_of c.args.job) (meaning c.args.v.now).rest c.args.rule c.args.on _ (found_nothing _ (sym c.in-None.is ∙ c.rule_named.ensures)))

@@ -6,16 +6,6 @@ use Rattle.exec.specs.Results.{job_of}
 use Rattle.exec.proofs.Stepped.{steps-as, then_is, else_is, neither-is}
 use Rattle.exec.proofs.steps.run_branch.Goals as goal
 
-pub returns-in-Some-true : goal.returns-in-Some-true
-returns-in-Some-true c b flat =
-    steps-as (c.goes_on.ensures _ c.requires.0)
-    (then_is (env_of c.args.env.now.snapshot.now c.args.env.now.image.now flat) (job_of c.args.job) b c.args.sp _ c.args.v.now c.args.c c.args.t c.args.n (ap Some (sym c.in-Some-true.field-0-test) ∙ c.in-Some-true.ensures flat) c.enter_then.ensures)
-
-pub returns-in-Some-false : goal.returns-in-Some-false
-returns-in-Some-false c b flat =
-    steps-as (c.goes_on-in-Some-false.ensures _ c.requires.0)
-    (else_is (env_of c.args.env.now.snapshot.now c.args.env.now.image.now flat) (job_of c.args.job) b c.args.sp _ c.args.v.now c.args.c c.args.t c.args.n (ap Some (sym c.in-Some-false.field-0-test) ∙ c.in-Some-false.ensures flat) c.advance.ensures)
-
 pub returns-in-None : goal.returns-in-None
 returns-in-None c b flat =
     steps-as (c.after_prim.ensures _ _ _ c.fails.ensures)

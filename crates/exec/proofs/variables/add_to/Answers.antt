@@ -7,11 +7,5 @@ use Rattle.exec.proofs.Follows.{answers}
 use Rattle.exec.proofs.Cases.{stored-bits, stored-sum, add-absent, add-integer, add-text}
 use Rattle.exec.proofs.variables.add_to.Goals as goal
 
-pub returns-in-None : goal.returns-in-None
-returns-in-None c e = answers (c.assign.ensures e) (add-absent e (job_of c.args.job) (meaning c.args.v.now).rest c.args.name c.args.step _ _ c.in-None.is (stored-bits c.args.step _ c.ranges.step c.bits_of.ensures))
-
 pub returns-in-Some-Int : goal.returns-in-Some-Int
 returns-in-Some-Int c e = answers (c.assign-in-Some-Int.ensures e) (add-integer e (job_of c.args.job) (meaning c.args.v.now).rest c.args.name c.args.step _ _ _ _ _ _ c.in-Some-Int.is (rw c.in-Some-Int.is at c.in-Some-Int.field-0-is) c.as_i64.ensures (stored-sum c.as_i64.result c.args.step _ (record { sfits = c.as_i64.type_inv }) c.ranges.step (c.saturating_add-sum.ensures ∙ signed-sum-is _)) (stored-bits c.saturating_add-sum.result _ (record { sfits = c.saturating_add-sum.type_inv }) c.bits_of-in-Some-Int.ensures))
-
-pub returns-in-Some-Text : goal.returns-in-Some-Text
-returns-in-Some-Text c e = answers c.fails.ensures (add-text e (job_of c.args.job) (meaning c.args.v.now).rest c.args.name c.args.step _ _ _ c.in-Some-Text.is (rw c.in-Some-Text.is at c.in-Some-Text.field-0-is))

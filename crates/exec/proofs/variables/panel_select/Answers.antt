@@ -9,6 +9,3 @@ use Rattle.exec.proofs.variables.panel_select.Goals as goal
 
 pub returns-in-Some : goal.returns-in-Some
 returns-in-Some c flat = answers (c.select.ensures c.args.env.now.snapshot.now flat) (panel (env_of c.args.env.now.snapshot.now c.args.env.now.image.now flat) (job_of c.args.job) (meaning c.args.v.now).rest c.args.adapter c.args.group c.args.selected _ (stored_some c.in-Some.n _ (record { sfits = c.in-Some.known_told-1-own.given.0.1 }) (sym c.in-Some.is ∙ c.value_at.ensures flat)))
-
-pub returns-in-None : goal.returns-in-None
-returns-in-None c flat = answers c.fails.ensures (panel (env_of c.args.env.now.snapshot.now c.args.env.now.image.now flat) (job_of c.args.job) (meaning c.args.v.now).rest c.args.adapter c.args.group c.args.selected _ (sym c.in-None.is ∙ c.value_at.ensures flat))
