@@ -12,7 +12,7 @@ use Rattle.std.specs.Prelude.{slice_get}
 use Rattle.std.specs.List.{slice_range}
 use Rattle.std.proofs.Common.{get_or-take}
 use lib.Seq.{get_or-drop}
-use borrow.Author.Tests.{leb-true, ne_eqb}
+use borrow.Author.Tests.{leb-true}
 use Rattle.model.specs.Codec.{rows_at}
 use Rattle.model.specs.Actions as actions
 use Rattle.model.specs.Flat.{list_in, step_at}
@@ -22,27 +22,10 @@ use Rattle.model.specs.State.{Env}
 use Rattle.model.specs.Steps.{FlatStep}
 use Rattle.model.specs.declared.Point.{Point}
 use Rattle.model.specs.declared.Step.{Step}
-use Rattle.model.specs.declared.Step.TheVariants.{Primitive, Wait, Branch, After, Fail}
 use Rattle.model.proofs.Bools.{both}
 use Rattle.flat.specs.Words.{step_of, steps_in, body_words, list_words, Says}
 use Rattle.exec.specs.Paid.{reach}
 use Rattle.exec.specs.Lists.{step_in, is_near, FlatWords, NearLists, IsNear}
-
-module _ (k a b c : ℕ) where
-  pub is-primitive : k ≡ 0 → Primitive a ≡ step_of (k, (a, (b, c)))
-  is-primitive e = rw e
-
-  pub is-wait : k ≡ 1 → Wait a ≡ step_of (k, (a, (b, c)))
-  is-wait e = rw e
-
-  pub is-branch : k ≡ 2 → Branch a b c ≡ step_of (k, (a, (b, c)))
-  is-branch e = rw e
-
-  pub is-after : k ≡ 3 → After a ≡ step_of (k, (a, (b, c)))
-  is-after e = rw e
-
-  pub is-fail : (k ≡ 0 → ⊥) → (k ≡ 1 → ⊥) → (k ≡ 2 → ⊥) → (k ≡ 3 → ⊥) → Fail ≡ step_of (k, (a, (b, c)))
-  is-fail n0 n1 n2 n3 = rw (ne_eqb k 0 n0, ne_eqb k 1 n1, ne_eqb k 2 n2, ne_eqb k 3 n3)
 
 -- ---- the step at a place
 -- the four words of row p

@@ -3,7 +3,7 @@ use Prim.Native.Nat.{ℕ}
 use mathlib.Core.Path.{◌≡◌, refl, ap, subst, ◌∙◌}
 use mathlib.Core.Bool.{Bool, true, false, cond}
 use mathlib.Core.List.{List}
-use Rattle.std.specs.Prelude.{Option, None, Some, Ok}
+use Rattle.std.specs.Prelude.{None, Some, Ok}
 use lib.Dec.{leb}
 use lib.ListN.{length, set}
 use Rattle.words.specs.Saturating.{saturating_add, max64}
@@ -36,13 +36,6 @@ follows f v w r s m d =
       effect = d.effect ∙ ap (λ (x : model-state.Volatile). (f x.rest).effect) m.says;
       reason = d.reason ∙ ap (λ (x : model-state.Volatile). (f x.rest).reason) m.says;
     }
-
--- a search by name
-pub found_at : (o : Option ℕ) (i : ℕ) → Some i ≡ o → Some i ≡ o
-found_at o i e = e
-
-pub found_nothing : (o : Option ℕ) → None ≡ o → None ≡ o
-found_nothing o e = e
 
 -- a state that takes one more timer, and one more value of a variable
 pub armed-wet : (v w : List ℕ) (name due : ℕ) → leb 16 (length (meaning v).rest.timers) ≡ false → Means w (base v) (armed name due (meaning v)) → Means w (base v) (with_rest (add_timer name due (meaning v).rest) (meaning v))

@@ -54,16 +54,9 @@ Assigns j v name value r = (e : Env) → Does v r (model.var_set e (job_of j) (m
 abbrev pub Adds : Job → List ℕ → ℕ → Option ℤ → Option VarValue → ActionDone → Type 0
 Adds j v name step held r = (e : Env) → Does v r (model.var_add e (job_of j) (meaning v).rest name step held)
 
-abbrev pub Selects : List ℕ → Job → List ℕ → ℕ → ℕ → Option ℤ → ActionDone → Type 0
-Selects image j v adapter group n r =
-    (snapshot : List ℕ) (flat : List (List FlatStep)) → Does v r (model.selects (env_of snapshot image flat) (job_of j) (meaning v).rest adapter group n)
-
 -- the level of value i
 abbrev pub LevelAt : List ℕ → List ℕ → Rest → ℕ → Option ℕ → Type 0
 LevelAt snapshot image s i r = (flat : List (List FlatStep)) → r ≡ model.level_at (value_at (env_of snapshot image flat) s i)
-
-abbrev pub Dims : Job → List ℕ → ℕ → ℕ → Option ℕ → ActionDone → Type 0
-Dims j v target hold level r = (e : Env) → Does v r (model.dims e (job_of j) (meaning v).rest target hold level)
 
 abbrev pub SetsBit : Job → List ℕ → ℕ → Bool → Option ℕ → ActionDone → Type 0
 SetsBit j v rule on i r = (e : Env) → Does v r (model.set_rule_bit e (job_of j) (meaning v).rest rule on i)

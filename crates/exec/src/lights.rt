@@ -7,7 +7,7 @@ ghost use Rattle.model.specs.declared.Action.TheVariants.{Light, Recall, Apply, 
 ghost use Rattle.image.specs.Sized.{Sized};
 ghost use Rattle.state.specs.Meaning.{Sound, meaning};
 ghost use Rattle.exec.specs.Done.{action_done};
-ghost use Rattle.exec.specs.Results.{Performs, PerformsIn, LevelAt, Dims};
+ghost use Rattle.exec.specs.Results.{Performs, PerformsIn, LevelAt};
 
 use crate::answers::{EffectKind, emits, fails};
 use crate::{Env, Job, PrimResult};
@@ -82,6 +82,7 @@ fn cycle_place(v: &[u32], index: u32, count: u32) -> u32
 }
 
 // The sum saturates: past the end of the image there is no word, however far.
+#[tactic(auto, unfolding(model::specs::Actions::run_prim, model::specs::Actions::prim_cycle))]
 pub fn prim_cycle(image: &[u32], v: &mut [u32], job: Job, first: u32, count: u32) -> PrimResult
     requires { Sized image.now × Sound v.old }
     ensures { (snapshot : List ℕ) → PerformsIn snapshot image.now job v.old (Cycle first count) (action_done v.new result) }
@@ -99,17 +100,6 @@ pub fn prim_cycle(image: &[u32], v: &mut [u32], job: Job, first: u32, count: u32
     emits(EffectKind::SceneRecall, scene, 0, 0, job.hold)
 }
 
-// A level, or none.
-fn dim(v: &mut [u32], job: Job, target: u32, hold: u32, level: Option<u32>) -> PrimResult
-    requires { Sound v.old }
-    ensures { Dims job v.old target hold level (action_done v.new result) }
-{
-    match level {
-        Some(n) => emits(EffectKind::Level, target, n, hold_or(hold, job.hold), 0),
-        None => fails(v),
-    }
-}
-
 // The level of value i, where it can be evaluated and has one.
 fn level_at(env: &Env, v: &[u32], i: u32) -> Option<u32>
     requires { Sound v.now }
@@ -119,6 +109,7 @@ fn level_at(env: &Env, v: &[u32], i: u32) -> Option<u32>
 }
 
 // A value in parts per million of full light.
+#[tactic(auto, unfolding(model::specs::Actions::run_prim))]
 pub fn prim_percent(
     env: &Env,
     v: &mut [u32],
@@ -130,6 +121,8 @@ pub fn prim_percent(
     requires { Sound v.old }
     ensures { PerformsIn env.now.snapshot.now env.now.image.now job v.old (Percent target hold value) (action_done v.new result) }
 {
-    let level = level_at(env, v, value);
-    dim(v, job, target, hold, level)
+    match level_at(env, v, value) {
+        Some(level) => emits(EffectKind::Level, target, level, hold_or(hold, job.hold), 0),
+        None => fails(v),
+    }
 }

@@ -8,6 +8,7 @@ ghost use Rattle.exec.specs.Results.{Performs, PerformsIn, Arms};
 use crate::answers::fails;
 use crate::{Job, PrimResult};
 
+#[tactic(auto, unfolding(model::specs::Actions::arm_timer))]
 fn arm_timer(snapshot: &[u32], v: &mut [u32], job: Job, name: u32, ms: u32) -> PrimResult
     requires { Sound v.old }
     ensures { Arms snapshot.now job v.old name ms (action_done v.new result) }
@@ -23,6 +24,7 @@ fn arm_timer(snapshot: &[u32], v: &mut [u32], job: Job, name: u32, ms: u32) -> P
     Ok(None)
 }
 
+#[tactic(auto, unfolding(model::specs::Actions::run_prim))]
 pub fn timer_start(snapshot: &[u32], v: &mut [u32], job: Job, timer: u32, ms: u32) -> PrimResult
     requires { Sound v.old }
     ensures { (image : List ℕ) → PerformsIn snapshot.now image job v.old (TimerStart timer ms) (action_done v.new result) }
@@ -33,6 +35,7 @@ pub fn timer_start(snapshot: &[u32], v: &mut [u32], job: Job, timer: u32, ms: u3
     arm_timer(snapshot, v, job, timer, ms)
 }
 
+#[tactic(auto, unfolding(model::specs::Actions::run_prim, model::specs::Actions::arm_timer))]
 pub fn timer_restart(snapshot: &[u32], v: &mut [u32], job: Job, timer: u32, ms: u32) -> PrimResult
     requires { Sound v.old }
     ensures { (image : List ℕ) → PerformsIn snapshot.now image job v.old (TimerRestart timer ms) (action_done v.new result) }
@@ -44,6 +47,7 @@ pub fn timer_restart(snapshot: &[u32], v: &mut [u32], job: Job, timer: u32, ms: 
     arm_timer(snapshot, v, job, timer, ms)
 }
 
+#[tactic(auto, unfolding(model::specs::Actions::run_prim))]
 pub fn timer_cancel(v: &mut [u32], job: Job, timer: u32) -> PrimResult
     requires { Sound v.old }
     ensures { Performs job v.old (TimerCancel timer) (action_done v.new result) }

@@ -5,13 +5,14 @@ ghost use Rattle.model.specs.declared.Action.TheVariants.{VarSet, VarAdd, PanelS
 ghost use Rattle.image.specs.Sized.{Sized};
 ghost use Rattle.state.specs.Meaning.{Sound};
 ghost use Rattle.exec.specs.Done.{action_done};
-ghost use Rattle.exec.specs.Results.{PerformsIn, Assigns, Adds, Selects};
+ghost use Rattle.exec.specs.Results.{PerformsIn, Assigns, Adds};
 
 use crate::answers::{EffectKind, emits, fails};
 use crate::{Env, Job, PrimResult};
 use eval::values::value_at;
 use model::VarValue;
 
+#[tactic(auto, unfolding(model::specs::Actions::var_set, state::specs::Named::lacks_room))]
 fn assign(v: &mut [u32], job: Job, name: u32, value: VarValue) -> PrimResult
     requires { Sound v.old }
     ensures { Assigns job v.old name value (action_done v.new result) }
@@ -79,24 +80,6 @@ pub fn var_add(env: &Env, v: &mut [u32], job: Job, name: u32, delta: u32) -> Pri
 }
 
 // From 0 to the group limit.
-fn select(
-    image: &[u32],
-    v: &mut [u32],
-    job: Job,
-    adapter: u32,
-    group: u32,
-    selected: i64,
-) -> PrimResult
-    requires { Sized image.now × Sound v.old }
-    ensures { Selects image.now job v.old adapter group (Some selected) (action_done v.new result) }
-{
-    let bits = words::bits_of(selected);
-    if bits <= image::layout::group_limit(image) as u64 {
-        return emits(EffectKind::PanelSelect, adapter, group, bits as u32, 0);
-    }
-    fails(v)
-}
-
 #[tactic(auto, unfolding(model::specs::Actions::run_prim))]
 pub fn panel_select(
     env: &Env,
@@ -109,8 +92,12 @@ pub fn panel_select(
     requires { Sound v.old }
     ensures { PerformsIn env.now.snapshot.now env.now.image.now job v.old (PanelSelect adapter group selected) (action_done v.new result) }
 {
-    match value_at(env.snapshot, env.image, v, selected) {
-        Some(n) => select(env.image, v, job, adapter, group, n),
-        None => fails(v),
+    let Some(n) = value_at(env.snapshot, env.image, v, selected) else {
+        return fails(v);
+    };
+    let most = image::layout::group_limit(env.image);
+    match u32::try_from(n) {
+        Ok(n) if n <= most => emits(EffectKind::PanelSelect, adapter, group, n, 0),
+        _ => fails(v),
     }
 }

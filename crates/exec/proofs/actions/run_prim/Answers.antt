@@ -1,7 +1,6 @@
 -- `exec::actions::run_prim` meets its contract: one callee for each kind. Assumes nothing.
 use Rattle.model.specs.Actions.{run_prim}
 use Rattle.eval.specs.Answers.{env_of}
-use Rattle.exec.proofs.Follows.{does-nothing}
 use Rattle.exec.proofs.actions.run_prim.Goals as goal
 
 pub returns-in-TimerCancel : goal.returns-in-TimerCancel

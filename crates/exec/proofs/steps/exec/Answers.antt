@@ -1,6 +1,5 @@
 -- `exec::steps::exec` meets its contract. Assumes nothing.
 use Rattle.eval.specs.Answers.{env_of}
-use Rattle.exec.proofs.Stepped.{reach-at}
 use Rattle.exec.proofs.steps.exec.Goals as goal
 
 pub returns-in-Primitive : goal.returns-in-Primitive

@@ -1,9 +1,7 @@
 -- `exec::steps::run_branch` meets its contract. Assumes nothing.
-use mathlib.Core.Path.{sym, ap, ◌∙◌}
-use Rattle.std.specs.Prelude.{Some}
 use Rattle.eval.specs.Answers.{env_of}
 use Rattle.exec.specs.Results.{job_of}
-use Rattle.exec.proofs.Stepped.{steps-as, then_is, else_is, neither-is}
+use Rattle.exec.proofs.Stepped.{steps-as, neither-is}
 use Rattle.exec.proofs.steps.run_branch.Goals as goal
 
 pub returns-in-None : goal.returns-in-None

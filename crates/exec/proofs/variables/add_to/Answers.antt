@@ -4,7 +4,7 @@ use Rattle.words.proofs.Laws.{signed-sum-is}
 use Rattle.state.specs.Meaning.{meaning}
 use Rattle.exec.specs.Results.{job_of}
 use Rattle.exec.proofs.Follows.{answers}
-use Rattle.exec.proofs.Cases.{stored-bits, stored-sum, add-absent, add-integer, add-text}
+use Rattle.exec.proofs.Cases.{stored-bits, stored-sum, add-integer}
 use Rattle.exec.proofs.variables.add_to.Goals as goal
 
 pub returns-in-Some-Int : goal.returns-in-Some-Int

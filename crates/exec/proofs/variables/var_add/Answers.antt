@@ -1,5 +1,5 @@
 -- `exec::variables::var_add` meets its contract. Assumes nothing.
-use mathlib.Core.Path.{sym, ap, refl, ◌∙◌}
+use mathlib.Core.Path.{sym, ◌∙◌}
 use Rattle.state.specs.Meaning.{meaning}
 use Rattle.exec.specs.Results.{job_of}
 use Rattle.eval.specs.Answers.{env_of}
