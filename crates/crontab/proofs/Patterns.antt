@@ -3,6 +3,7 @@ use mathlib.Core.Path.{◌≡◌, refl, sym, ◌∙◌}
 use mathlib.Core.Bool.{Bool, true, false, cond, not, ◌&&◌, and-false}
 use mathlib.Core.List.{List, [], ◌∷◌}
 use Rattle.std.specs.Prelude.{Option, None, Some}
+use Rattle.std.specs.Option.{is_some}
 use mathlib.Core.Logic.{⊎_elim}
 use native.Mathlib.Nat.{eq-or-lt_of_le}
 use Prim.Native.Nat.{ℕ, suc, ◌+◌, ◌-◌, ◌≤◌, ◌<◌, min}
@@ -12,9 +13,7 @@ use lib.Dec.{eqb, leb, ltb}
 use lib.ListN.{length, get_or, take, drop, length-drop}
 use lib.Seq.{drop-drop, take-length, take_all}
 use Rattle.model.specs.Lists.{all, any}
-use Rattle.model.specs.declared.Element.{Element}
-use Rattle.model.specs.declared.Element.TheVariants.{Malformed, Range}
-use Rattle.model.specs.Crontab.{until, split, onto, is_comma, is_hyphen, number_of, range_of, element_of, elements_of, is_range, holds, is_asterisk, is_pattern, covers}
+use Rattle.model.specs.Crontab.{until, split, onto, is_comma, is_hyphen, number_of, range_of, element_of, elements_of, holds, is_asterisk, is_pattern, covers}
 use Rattle.crontab.specs.Scanned.{one_of, small, part}
 use Rattle.crontab.proofs.Scans.{until-one}
 
@@ -59,28 +58,28 @@ module _ (lo hi : ℕ) (s : List ℕ) (at end : ℕ) (e : end ≡ at + until (on
 
 -- The invariants of the loops over elements at `at`: the elements from there on decide.
 abbrev pub RangesLeft : ℕ → ℕ → List ℕ → ℕ → Type 0
-RangesLeft lo hi s at = all is_range (elements_of lo hi (drop at s)) ≡ all is_range (elements_of lo hi s)
+RangesLeft lo hi s at = all is_some (elements_of lo hi (drop at s)) ≡ all is_some (elements_of lo hi s)
 
 abbrev pub HoldersLeft : ℕ → ℕ → List ℕ → ℕ → ℕ → Type 0
 HoldersLeft lo hi s v at = any (holds v) (elements_of lo hi (drop at s)) ≡ any (holds v) (elements_of lo hi s)
 
 module _ (lo hi : ℕ) (s : List ℕ) (star : is_asterisk s ≡ false) where
-  module _ (at end : ℕ) (x : Element) (e : end ≡ at + until (one_of 44 44) (drop at s)) (f : end ≤ length s) (is : x ≡ element_of lo hi (part s at end)) where
+  module _ (at end : ℕ) (x : Option (ℕ × ℕ)) (e : end ≡ at + until (one_of 44 44) (drop at s)) (f : end ≤ length s) (is : x ≡ element_of lo hi (part s at end)) where
     module _ (inv : RangesLeft lo hi s at) where
-      pub ranges-on : (r : Bool) → r ≡ is_range x → not r ≡ false → end < length s → RangesLeft lo hi s (end + 1)
+      pub ranges-on : (r : Bool) → r ≡ is_some x → not r ≡ false → end < length s → RangesLeft lo hi s (end + 1)
       ranges-on r q t h = rw (elements-here lo hi s at end e f h, ← is, ← q, not-false r t) at inv
 
-      pub ranges-stop : (r : Bool) → r ≡ is_range x → not r ≡ true → false ≡ is_pattern lo hi s
+      pub ranges-stop : (r : Bool) → r ≡ is_some x → not r ≡ true → false ≡ is_pattern lo hi s
       unfolding is_pattern
       ranges-stop r q t = rw star (go (ltb end (length s)) refl)
         where
-          go : (b : Bool) → ltb end (length s) ≡ b → false ≡ all is_range (elements_of lo hi s)
+          go : (b : Bool) → ltb end (length s) ≡ b → false ≡ all is_some (elements_of lo hi s)
           go true w = rw (elements-here lo hi s at end e f (ltb-true end (length s) w), ← is, ← q, not-true r t) at inv
           go false w =
               let g : end ≡ length s = omega (arith, ltb-false end (length s) w) in
               rw (elements-last lo hi s at end e f g, ← is, ← q, not-true r t) at inv
 
-      pub ranges-end : (r : Bool) → r ≡ is_range x → not r ≡ false → end ≡ length s → true ≡ is_pattern lo hi s
+      pub ranges-end : (r : Bool) → r ≡ is_some x → not r ≡ false → end ≡ length s → true ≡ is_pattern lo hi s
       unfolding is_pattern
       ranges-end r q t h = rw star (rw (elements-last lo hi s at end e f h, ← is, ← q, not-false r t) at inv)
 
@@ -125,62 +124,41 @@ asterisk-not (b ∷ []) h = absurd (h refl)
 asterisk-not (b ∷ (d ∷ bs)) h = let k : suc (length bs) ≡ 0 → ⊥ = λ e. omega arith in rw (ne_eqb (suc (length bs)) 0 k, and-false)
 
 -- ELEMENTS
--- a test that fails in its last part
-fails-last : (s t r : Bool) (e : Element) → r ≡ false → cond (s && (t && r)) e Malformed ≡ Malformed
-fails-last s t r e q = rw (q, and-false, and-false)
-
-fails-second : (s t r : Bool) (e : Element) → t ≡ false → cond (s && (t && r)) e Malformed ≡ Malformed
-fails-second s t r e q = rw (q, and-false)
-
 -- numbers from 100 on are in no field
-pub range_small : (lo hi : ℕ) (a b : Option ℕ) → hi < 100
-    → cond (leb lo (small a) && (leb (small a) (small b) && leb (small b) hi)) (Range (small a) (small b)) Malformed ≡ range_of lo hi a b
+range_small : (lo hi : ℕ) (a b : Option ℕ) → hi < 100 → range_of lo hi (small a) (small b) ≡ range_of lo hi a b
 unfolding range_of
-range_small lo hi a None h = go a
+range_small lo hi None b h = refl
+range_small lo hi (Some n) None h = go (leb n 99)
   where
-    go : (a : Option ℕ) → cond (leb lo (small a) && (leb (small a) 100 && leb 100 hi)) (Range (small a) 100) Malformed ≡ range_of lo hi a None
-    go None = fails-last (leb lo 100) (leb 100 100) (leb 100 hi) (Range 100 100) (lt-leb 100 hi h)
-    go (Some n) = fails-last (leb lo (min n 100)) (leb (min n 100) 100) (leb 100 hi) (Range (min n 100) 100) (lt-leb 100 hi h)
-range_small lo hi None (Some m) h = go (leb 100 m) refl
+    go : (t : Bool) → range_of lo hi (cond t (Some n) None) None ≡ None
+    go true = refl
+    go false = refl
+range_small lo hi (Some n) (Some m) h = go (leb n 99) (leb m 99) refl refl
   where
-    go : (t : Bool) → leb 100 m ≡ t → cond (leb lo 100 && (leb 100 (min m 100) && leb (min m 100) hi)) (Range 100 (min m 100)) Malformed ≡ Malformed
-    go true e =
-        let q : min m 100 ≡ 100 = omega (arith, leb-true 100 m e) in
-        rw q (fails-last (leb lo 100) (leb 100 100) (leb 100 hi) (Range 100 100) (lt-leb 100 hi h))
-    go false e =
-        let q : min m 100 < 100 = omega (arith, leb-false 100 m e) in
-        fails-second (leb lo 100) (leb 100 (min m 100)) (leb (min m 100) hi) (Range 100 (min m 100)) (lt-leb 100 (min m 100) q)
-range_small lo hi (Some n) (Some m) h = go (leb 100 m) (leb 100 n) refl refl
-  where
-    go : (t u : Bool) → leb 100 m ≡ t → leb 100 n ≡ u
-        → cond (leb lo (min n 100) && (leb (min n 100) (min m 100) && leb (min m 100) hi)) (Range (min n 100) (min m 100)) Malformed ≡ cond (leb lo n && (leb n m && leb m hi)) (Range n m) Malformed
-    go true u e d =
-        let k : hi < m = omega (arith, leb-true 100 m e) in
-        let q : min m 100 ≡ 100 = omega (arith, leb-true 100 m e) in
-        rw q (fails-last (leb lo (min n 100)) (leb (min n 100) 100) (leb 100 hi) (Range (min n 100) 100) (lt-leb 100 hi h)) ∙ sym (fails-last (leb lo n) (leb n m) (leb m hi) (Range n m) (lt-leb m hi k))
+    go : (t u : Bool) → leb n 99 ≡ t → leb m 99 ≡ u → range_of lo hi (cond t (Some n) None) (cond u (Some m) None) ≡ cond (leb lo n && (leb n m && leb m hi)) (Some (n, m)) None
+    go true true e d = refl
+    go true false e d =
+        let k : hi < m = omega (arith, leb-false m 99 d) in
+        rw (lt-leb m hi k, and-false, and-false)
     go false true e d =
-        let k : m < n = omega (arith, leb-true 100 n d, leb-false 100 m e) in
-        let q : min m 100 < min n 100 = omega (arith, leb-true 100 n d, leb-false 100 m e) in
-        fails-second (leb lo (min n 100)) (leb (min n 100) (min m 100)) (leb (min m 100) hi) (Range (min n 100) (min m 100)) (lt-leb (min n 100) (min m 100) q)
-        ∙ sym (fails-second (leb lo n) (leb n m) (leb m hi) (Range n m) (lt-leb n m k))
+        let k : m < n = omega (arith, leb-false n 99 e, leb-true m 99 d) in
+        rw (lt-leb n m k, and-false)
     go false false e d =
-        let k : min m 100 ≡ m = omega (arith, leb-false 100 m e) in
-        let q : min n 100 ≡ n = omega (arith, leb-false 100 n d) in
-        rw (k, q)
+        let k : hi < m = omega (arith, leb-false m 99 d) in
+        rw (lt-leb m hi k, and-false, and-false)
 
 module _ (lo hi : ℕ) (s : List ℕ) (i : ℕ) (is : i ≡ 0 + until (one_of 45 45) (drop 0 s)) where
   place : until is_hyphen s ≡ i
   place = omega (arith, until-one 45 s)
 
-  pub range-is : hi < 100 → {r : Element} (a b : ℕ) → i < length s → a ≡ small (number_of (take i s)) → b ≡ small (number_of (take (length s - (i + 1)) (drop (i + 1) s)))
-      → r ≡ cond (leb lo a && (leb a b && leb b hi)) (Range a b) Malformed → r ≡ element_of lo hi s
+  pub range-is : hi < 100 → {r : Option (ℕ × ℕ)} (a b : Option ℕ) → i < length s → a ≡ small (number_of (take i s)) → b ≡ small (number_of (take (length s - (i + 1)) (drop (i + 1) s)))
+      → r ≡ range_of lo hi a b → r ≡ element_of lo hi s
   unfolding element_of
   range-is k a b h p q e =
       let g : length (drop (i + 1) s) ≤ length s - (i + 1) = rw length-drop (omega arith) in
       e ∙ rw (p, q, take_all (length s - (i + 1)) (drop (i + 1) s) g, place, lt-ltb i (length s) h) (range_small lo hi (number_of (take i s)) (number_of (drop (i + 1) s)) k)
 
-  pub number_is : hi < 100 → {r : Element} (n : ℕ) → length s ≤ i → n ≡ small (number_of s)
-      → r ≡ cond (leb lo n && (leb n n && leb n hi)) (Range n n) Malformed → r ≡ element_of lo hi s
+  pub number_is : hi < 100 → {r : Option (ℕ × ℕ)} (n : Option ℕ) → length s ≤ i → n ≡ small (number_of s) → r ≡ range_of lo hi n n → r ≡ element_of lo hi s
   unfolding element_of
   number_is k n h p e = e ∙ rw (p, place, le-ltb i (length s) h) (range_small lo hi (number_of s) (number_of s) k)
 

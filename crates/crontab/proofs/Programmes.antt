@@ -2,6 +2,7 @@
 use mathlib.Core.Path.{◌≡◌, refl, sym, ap, ◌∙◌}
 use mathlib.Core.Bool.{Bool, true, false, cond, not, ◌&&◌, ◌||◌, false≢true}
 use Rattle.std.specs.Prelude.{Option, None, Some}
+use Rattle.std.specs.Option.{is_some}
 use mathlib.Core.List.{List, [], ◌∷◌, ◌++◌, map, append_assoc}
 use Prim.Native.Nat.{ℕ, zero, suc, ◌+◌, ◌*◌, ◌-◌, ◌/◌, ◌%◌, ◌≤◌, ◌<◌}
 use native.Mathlib.Nat.{div-add-mod, mod-lt}
@@ -21,9 +22,7 @@ use Rattle.model.specs.Rules.{trigger_of, record_in}
 use Rattle.model.specs.Wheel.{minute_due, due_wall_kind, WallKind, by_time}
 use Rattle.model.specs.State.{Env}
 use Rattle.model.proofs.Bools.{both, every-at, not-refused, neither}
-use Rattle.model.specs.declared.Element.{Element}
-use Rattle.model.specs.declared.Element.TheVariants.{Malformed, Range}
-use Rattle.model.specs.Crontab.{until, is_hyphen, split, onto, is_comma, range_of, element_of, elements_of, is_range, holds, is_asterisk, is_pattern, covers, number_of, field_fits, field_covers, field, starts, minutes, day_here, days, of_the_form, refusal, trigger_words, table_words, crontab, answer_of}
+use Rattle.model.specs.Crontab.{until, is_hyphen, split, onto, is_comma, range_of, element_of, elements_of, holds, is_asterisk, is_pattern, covers, number_of, field_fits, field_covers, field, starts, minutes, day_here, days, of_the_form, refusal, trigger_words, table_words, crontab, answer_of}
 use Rattle.model.specs.Asked.{declined}
 use Rattle.model.specs.CrontabMeaning.{matches, day_there, triggers_in, minute_before, due_at, earlier, in_order, on_days}
 use Rattle.crontab.specs.Programme.{Programme}
@@ -139,28 +138,28 @@ unfolding minutes
 order-minutes line ds = order ds (starts line) 0 1440
 
 -- DAYS: a pattern covers a number
-range-in : (lo hi a b : ℕ) (t : Bool) (p q : ℕ) → (t ≡ leb lo p && (leb p q && leb q hi)) → cond t (Range p q) Malformed ≡ Range a b → (a ≤ b) × (b ≤ hi)
-range-in lo hi a b true p q e h =
-    let x : p ≡ a = cc in
-    let y : q ≡ b = cc in
+range-in : (lo hi : ℕ) (r : ℕ × ℕ) (t : Bool) (p q : ℕ) → (t ≡ leb lo p && (leb p q && leb q hi)) → cond t (Some (p, q)) None ≡ Some r → (r.0 ≤ r.1) × (r.1 ≤ hi)
+range-in lo hi r true p q e h =
+    let x : p ≡ r.0 = cc in
+    let y : q ≡ r.1 = cc in
     let k = both (leb lo p) (leb p q && leb q hi) (sym e) in
     let m = both (leb p q) (leb q hi) k.1 in
     (omega (arith, leb-true p q m.0), omega (arith, leb-true q hi m.1))
-range-in lo hi a b false p q e h = let z : ◌≡◌ {A = ℕ} 0 1 = cc in absurd (omega arith)
+range-in lo hi r false p q e h = let z : ◌≡◌ {A = ℕ} 0 1 = cc in absurd (omega arith)
 
-range-bounds : (lo hi a b : ℕ) (p q : Option ℕ) → range_of lo hi p q ≡ Range a b → (a ≤ b) × (b ≤ hi)
+range-bounds : (lo hi : ℕ) (r : ℕ × ℕ) (p q : Option ℕ) → range_of lo hi p q ≡ Some r → (r.0 ≤ r.1) × (r.1 ≤ hi)
 unfolding range_of
-range-bounds lo hi a b None q e = let z : ◌≡◌ {A = ℕ} 0 1 = cc in absurd (omega arith)
-range-bounds lo hi a b (Some p) None e = let z : ◌≡◌ {A = ℕ} 0 1 = cc in absurd (omega arith)
-range-bounds lo hi a b (Some p) (Some q) e = range-in lo hi a b (leb lo p && (leb p q && leb q hi)) p q refl e
+range-bounds lo hi r None q e = let z : ◌≡◌ {A = ℕ} 0 1 = cc in absurd (omega arith)
+range-bounds lo hi r (Some p) None e = let z : ◌≡◌ {A = ℕ} 0 1 = cc in absurd (omega arith)
+range-bounds lo hi r (Some p) (Some q) e = range-in lo hi r (leb lo p && (leb p q && leb q hi)) p q refl e
 
-element-bounds : (lo hi a b : ℕ) (s : List ℕ) → element_of lo hi s ≡ Range a b → (a ≤ b) × (b ≤ hi)
+element-bounds : (lo hi : ℕ) (r : ℕ × ℕ) (s : List ℕ) → element_of lo hi s ≡ Some r → (r.0 ≤ r.1) × (r.1 ≤ hi)
 unfolding element_of
-element-bounds lo hi a b s e = go (ltb (until is_hyphen s) (length s)) e
+element-bounds lo hi r s e = go (ltb (until is_hyphen s) (length s)) e
   where
-    go : (t : Bool) → cond t (range_of lo hi (number_of (take (until is_hyphen s) s)) (number_of (drop (until is_hyphen s + 1) s))) (range_of lo hi (number_of s) (number_of s)) ≡ Range a b → (a ≤ b) × (b ≤ hi)
-    go true h = range-bounds lo hi a b (number_of (take (until is_hyphen s) s)) (number_of (drop (until is_hyphen s + 1) s)) h
-    go false h = range-bounds lo hi a b (number_of s) (number_of s) h
+    go : (t : Bool) → cond t (range_of lo hi (number_of (take (until is_hyphen s) s)) (number_of (drop (until is_hyphen s + 1) s))) (range_of lo hi (number_of s) (number_of s)) ≡ Some r → (r.0 ≤ r.1) × (r.1 ≤ hi)
+    go true h = range-bounds lo hi r (number_of (take (until is_hyphen s) s)) (number_of (drop (until is_hyphen s + 1) s)) h
+    go false h = range-bounds lo hi r (number_of s) (number_of s) h
 
 split-some : (p : ℕ → Bool) (s : List ℕ) → split p s ≡ [] → ⊥
 unfolding split
@@ -172,24 +171,24 @@ split-some p (b ∷ bs) e = go (p b) (split p bs) e
     go false [] h = let z : ◌≡◌ {A = ℕ} 0 1 = cc in omega arith
     go false (w ∷ ws) h = let z : ◌≡◌ {A = ℕ} 0 1 = cc in omega arith
 
-first_holds : (lo hi : ℕ) (w : List ℕ) (e : Element) → element_of lo hi w ≡ e → is_range e ≡ true → ((v : ℕ) → v ≤ hi → holds v e ≡ false) → ⊥
-first_holds lo hi w Malformed q t h = false≢true t
-first_holds lo hi w (Range a b) q t h =
-    let k = element-bounds lo hi a b w q in
-    let n : leb a a && leb a b ≡ true = rw (le-leb a a (omega arith), le-leb a b k.0) in
-    false≢true (sym (h a (omega arith)) ∙ n)
+first_holds : (lo hi : ℕ) (w : List ℕ) (e : Option (ℕ × ℕ)) → element_of lo hi w ≡ e → is_some e ≡ true → ((v : ℕ) → v ≤ hi → holds v e ≡ false) → ⊥
+first_holds lo hi w None q t h = false≢true t
+first_holds lo hi w (Some r) q t h =
+    let k = element-bounds lo hi r w q in
+    let n : leb r.0 r.0 && leb r.0 r.1 ≡ true = rw (le-leb r.0 r.0 (omega arith), le-leb r.0 r.1 k.0) in
+    false≢true (sym (h r.0 (omega (arith, k.0, k.1))) ∙ n)
 
 -- where all elements are ranges, one of them covers something
 pub covers-some : (lo hi : ℕ) (s : List ℕ) → is_pattern lo hi s ≡ true → ((v : ℕ) → v ≤ hi → covers lo hi s v ≡ false) → ⊥
 unfolding is_pattern covers elements_of
 covers-some lo hi s e h = go (is_asterisk s) (split is_comma s) (split-some is_comma s) e h
   where
-    go : (t : Bool) (ws : List (List ℕ)) → (ws ≡ [] → ⊥) → t || all is_range (map (element_of lo hi) ws) ≡ true
+    go : (t : Bool) (ws : List (List ℕ)) → (ws ≡ [] → ⊥) → t || all is_some (map (element_of lo hi) ws) ≡ true
         → ((v : ℕ) → v ≤ hi → t || any (holds v) (map (element_of lo hi) ws) ≡ false) → ⊥
     go true ws n e h = false≢true (sym (h 0 (omega arith)))
     go false [] n e h = n refl
     go false (w ∷ ws) n e h =
-        first_holds lo hi w (element_of lo hi w) refl (both (is_range (element_of lo hi w)) (all is_range (map (element_of lo hi) ws)) e).0
+        first_holds lo hi w (element_of lo hi w) refl (both (is_some (element_of lo hi w)) (all is_some (map (element_of lo hi) ws)) e).0
         (λ v l. (neither (holds v (element_of lo hi w)) (any (holds v) (map (element_of lo hi) ws)) (h v l)).0)
 
 -- no bit of 0

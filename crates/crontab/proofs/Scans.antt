@@ -2,7 +2,7 @@
 use mathlib.Core.Path.{◌≡◌, refl, sym, ap, ◌∙◌}
 use mathlib.Core.Bool.{Bool, true, false, cond, ◌||◌}
 use mathlib.Core.List.{List, [], ◌∷◌}
-use Rattle.std.specs.Prelude.{None, Some}
+use Rattle.std.specs.Prelude.{Option, None, Some}
 use Prim.Native.Nat.{ℕ, suc, ◌+◌, ◌-◌, ◌≤◌, ◌<◌}
 use native.Mathlib.Numerals.{add-one}
 use native.Mathlib.Omega.{arith}
@@ -84,7 +84,7 @@ field-part l k at end f e =
     rw n f.same
 
 -- NUMBERS
-pub number-empty : (l : List ℕ) → length l ≡ 0 → 100 ≡ small (number_of l)
+pub number-empty : (l : List ℕ) → length l ≡ 0 → None ≡ small (number_of l)
 unfolding number_of
 number-empty [] h = refl
 number-empty (b ∷ bs) h = absurd (omega arith)
@@ -94,23 +94,25 @@ unfolding number_of
 number-some [] h = absurd (h refl)
 number-some (b ∷ bs) h = refl
 
--- a number below 100, or 100 for another and for none
-abbrev pub small_of : Result ℕ NotANumber → ℕ
-small_of (Ok n) = n
-small_of (Err e) = 100
+-- a number below 100
+abbrev pub small_of : Result ℕ NotANumber → Option ℕ
+small_of (Ok n) = Some n
+small_of (Err e) = None
 
 pub small-read : (l : List ℕ) → (length l ≡ 0 → ⊥) → small_of (argument_of 99 l) ≡ small (number_of l)
 unfolding argument_of
-small-read l h = rw (number-some l h) (go (all is_digit l) (leb (value_from 0 l) 99) refl)
+small-read l h = rw (number-some l h) (go (all is_digit l))
   where
-    go : (a b : Bool) → leb (value_from 0 l) 99 ≡ b
-        → small_of (cond a (cond b (Ok (value_from 0 l)) (Err TooLarge)) (Err NoNumber)) ≡ small (cond a (Some (value_from 0 l)) None)
-    go true true e = omega (arith, leb-true (value_from 0 l) 99 e)
-    go true false e = omega (arith, leb-false (value_from 0 l) 99 e)
-    go false b e = refl
+    small-most : (b : Bool) → small_of (cond b (Ok (value_from 0 l)) (Err TooLarge)) ≡ cond b (Some (value_from 0 l)) None
+    small-most true = refl
+    small-most false = refl
+
+    go : (a : Bool) → small_of (cond a (cond (leb (value_from 0 l) 99) (Ok (value_from 0 l)) (Err TooLarge)) (Err NoNumber)) ≡ small (cond a (Some (value_from 0 l)) None)
+    go true = small-most (leb (value_from 0 l) 99)
+    go false = refl
 
 -- what `decimal` read
-pub read_small : (l : List ℕ) (a : Result ℕ NotANumber) (n : ℕ) → (length l ≡ 0 → ⊥) → a ≡ argument_of 99 l → small_of a ≡ n → n ≡ small (number_of l)
+pub read_small : (l : List ℕ) (a : Result ℕ NotANumber) (n : Option ℕ) → (length l ≡ 0 → ⊥) → a ≡ argument_of 99 l → small_of a ≡ n → n ≡ small (number_of l)
 read_small l a n h e q = sym q ∙ ap small_of e ∙ small-read l h
 
 pub field-starts : (l : List ℕ) (k at left : ℕ) → left ≤ 0 → at ≤ length l → field left (drop at l) ≡ field k l → StartsField l k at

@@ -1,5 +1,5 @@
 -- What the parts of the reader find.
-use Rattle.std.specs.Prelude.{ℕ, ◌+◌, ◌-◌, ◌*◌, ◌≤◌, ◌<◌, ◌≡◌, Bool, false, ◌&&◌, ◌||◌, List, [], ◌∷◌, min, ◌/◌, ◌%◌, eqb, length, take, drop, get_or}
+use Rattle.std.specs.Prelude.{ℕ, ◌+◌, ◌-◌, ◌*◌, ◌≤◌, ◌<◌, ◌≡◌, Bool, false, cond, ◌&&◌, ◌||◌, List, [], ◌∷◌, ◌/◌, ◌%◌, eqb, leb, length, take, drop, get_or}
 use Rattle.std.specs.Prelude.{Option, None, Some}
 use Rattle.std.proofs.lemmas.List.Edits.{sets}
 use Rattle.model.specs.Lists.{keep, up_from}
@@ -9,10 +9,10 @@ use Rattle.model.specs.Crontab.{field, behind_first, of_the_form, every_date}
 abbrev pub one_of : ℕ → ℕ → ℕ → Bool
 one_of a b x = eqb x a || eqb x b
 
--- a number below 100, or 100 for another and for none
-abbrev pub small : Option ℕ → ℕ
-small None = 100
-small (Some n) = min n 100
+-- a number, if it is below 100
+abbrev pub small : Option ℕ → Option ℕ
+small None = None
+small (Some n) = cond (leb n 99) (Some n) None
 
 abbrev pub part : List ℕ → ℕ → ℕ → List ℕ
 part s from to = take (to - from) (drop from s)

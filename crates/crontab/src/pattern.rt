@@ -1,27 +1,21 @@
 // Patterns: an asterisk, or numbers and ranges joined by commas.
-ghost use Rattle.std.specs.Prelude.{◌≡◌, ◌<◌, cond, ◌&&◌, leb, length};
-ghost use Rattle.model.specs.declared.Element.TheVariants.{Malformed, Range};
-ghost use Rattle.model.specs.Crontab.{element_of, is_range, holds, is_asterisk, is_pattern, covers};
+ghost use Rattle.std.specs.Prelude.{◌≡◌, ◌<◌};
+ghost use Rattle.model.specs.Crontab.{range_of, element_of, holds, is_asterisk, is_pattern, covers};
 
 use crate::scan;
-use model::Element;
 
-fn range_of(a: u32, b: u32, lo: u32, hi: u32) -> Element
-    ensures { result ≡ cond (leb lo a && (leb a b && leb b hi)) (Range a b) Malformed }
+// The numbers from the first to the last, if they are the field's.
+#[tactic(auto, unfolding(model::specs::Crontab::range_of))]
+fn range_of(a: Option<u32>, b: Option<u32>, lo: u32, hi: u32) -> Option<(u32, u32)>
+    ensures { result ≡ range_of lo hi a b }
 {
-    if a < lo {
-        return Element::Malformed;
-    }
-    if b < a {
-        return Element::Malformed;
-    }
-    if hi < b {
-        return Element::Malformed;
-    }
-    Element::Range(a, b)
+    let first = a?;
+    let last = b?;
+    let fits = lo <= first && first <= last && last <= hi;
+    fits.then_some((first, last))
 }
 
-fn element(s: &[u8], lo: u32, hi: u32) -> Element
+fn element(s: &[u8], lo: u32, hi: u32) -> Option<(u32, u32)>
     requires { hi < 100 }
     ensures { result ≡ element_of lo hi s.now }
 {
@@ -45,22 +39,10 @@ pub fn is_asterisk(s: &[u8]) -> bool
     s[0] == 42
 }
 
-fn is_range(e: Element) -> bool
-    ensures { result ≡ is_range e }
+fn holds(range: Option<(u32, u32)>, v: u32) -> bool
+    ensures { result ≡ holds v range }
 {
-    match e {
-        Element::Malformed => false,
-        Element::Range(_, _) => true,
-    }
-}
-
-fn in_range(e: Element, v: u32) -> bool
-    ensures { result ≡ holds v e }
-{
-    match e {
-        Element::Malformed => false,
-        Element::Range(a, b) => a <= v && v <= b,
-    }
+    range.is_some_and(|(first, last)| first <= v && v <= last)
 }
 
 // Whether every element is a number or a range of the field's.
@@ -74,7 +56,7 @@ pub fn is_pattern(s: &[u8], lo: u32, hi: u32) -> bool
     let mut at = 0;
     loop {
         let end = scan::find(s, at, 44, 44);
-        if !is_range(element(&s[at..end], lo, hi)) {
+        if element(&s[at..end], lo, hi).is_none() {
             return false;
         }
         if end == s.len() {
@@ -95,7 +77,7 @@ pub fn covered(s: &[u8], lo: u32, hi: u32, v: u32) -> bool
     let mut at = 0;
     loop {
         let end = scan::find(s, at, 44, 44);
-        if in_range(element(&s[at..end], lo, hi), v) {
+        if holds(element(&s[at..end], lo, hi), v) {
             return true;
         }
         if end == s.len() {

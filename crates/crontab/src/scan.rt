@@ -49,15 +49,15 @@ pub fn next_field(s: &[u8], at: usize) -> usize
     blanks_end(s, end)
 }
 
-// What decimal digits stand for; 100 for 100 and more, and for what is no number.
-pub fn number(s: &[u8]) -> u32
+// The number that decimal digits stand for, if it is below 100.
+pub fn number(s: &[u8]) -> Option<u32>
     ensures { result ≡ small (number_of s.now) }
 {
     if s.is_empty() {
-        return 100;
+        return None;
     }
     match decimal::read(s, 99) {
-        Ok(n) => n as u32,
-        Err(_) => 100,
+        Ok(n) => Some(n as u32),
+        Err(_) => None,
     }
 }

@@ -1,13 +1,12 @@
 -- A line of a crontab as AtTime triggers: document 02, request 2. Its fields and patterns, what is refused, and the triggers.
 use Rattle.std.specs.Prelude.{ℕ, zero, suc, ◌+◌, ◌/◌, ◌%◌, ◌^◌, Bool, true, false, cond, ◌&&◌, ◌||◌, List, [], ◌∷◌, map, leb, ltb, eqb, length, get_or, take, drop}
 use Rattle.std.specs.Prelude.{Option, None, Some}
+use Rattle.std.specs.Option.{is_some}
 use Rattle.model.specs.Lists.{all, any, every, flatten, keep, total, up_from}
 use Rattle.model.specs.Field.{unless}
 use Rattle.model.specs.Digits.{is_digit, value_from}
 use Rattle.model.specs.Answers.{lent}
 use Rattle.model.specs.Asked.{Asked, declined}
-pub use Rattle.model.specs.declared.Element.{Element}
-pub use Rattle.model.specs.declared.Element.TheVariants.{Malformed, Range}
 
 -- BYTES ----------------------------------------------------------------------------------------------------------------------------
 -- space and tab
@@ -65,29 +64,25 @@ number_of [] = None
 number_of (b ∷ bs) = cond (all is_digit (b ∷ bs)) (Some (value_from 0 (b ∷ bs))) None
 
 module _ (lo hi : ℕ) where
-  -- the numbers from a to b, within the field's; "a range whose first number is above its second is not of the form"
-  unfoldable pub range_of : Option ℕ → Option ℕ → Element
-  range_of None b = Malformed
-  range_of (Some a) None = Malformed
-  range_of (Some a) (Some b) = cond (leb lo a && (leb a b && leb b hi)) (Range a b) Malformed
+  -- the first and the last of the numbers from a to b, within the field's; "a range whose first number is above its second is not of the form"
+  unfoldable pub range_of : Option ℕ → Option ℕ → Option (ℕ × ℕ)
+  range_of None b = None
+  range_of (Some a) None = None
+  range_of (Some a) (Some b) = cond (leb lo a && (leb a b && leb b hi)) (Some (a, b)) None
 
   -- a number, or two of them with a hyphen between
-  unfoldable pub element_of : List ℕ → Element
+  unfoldable pub element_of : List ℕ → Option (ℕ × ℕ)
   element_of s =
       let i = until is_hyphen s in
       cond (ltb i (length s)) (range_of (number_of (take i s)) (number_of (drop (i + 1) s))) (range_of (number_of s) (number_of s))
 
   -- elements joined by commas
-  unfoldable pub elements_of : List ℕ → List Element
+  unfoldable pub elements_of : List ℕ → List (Option (ℕ × ℕ))
   elements_of s = map element_of (split is_comma s)
 
-abbrev pub is_range : Element → Bool
-is_range Malformed = false
-is_range (Range a b) = true
-
-abbrev pub holds : ℕ → Element → Bool
-holds v Malformed = false
-holds v (Range a b) = leb a v && leb v b
+abbrev pub holds : ℕ → Option (ℕ × ℕ) → Bool
+holds v None = false
+holds v (Some range) = leb range.0 v && leb v range.1
 
 -- `*` alone
 abbrev pub is_asterisk : List ℕ → Bool
@@ -96,7 +91,7 @@ is_asterisk (b ∷ bs) = eqb b 42 && eqb (length bs) 0
 
 module _ (lo hi : ℕ) (s : List ℕ) where
   unfoldable pub is_pattern : Bool
-  is_pattern = is_asterisk s || all is_range (elements_of lo hi s)
+  is_pattern = is_asterisk s || all is_some (elements_of lo hi s)
 
   -- the number v is one of the pattern's
   unfoldable pub covers : ℕ → Bool

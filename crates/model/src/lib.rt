@@ -458,13 +458,6 @@ pub struct Effect {
     pub d: u32,
 }
 
-// An element of a pattern of a crontab line: the numbers from the first to the last.
-#[derive(Clone, Copy)]
-pub enum Element {
-    Malformed,
-    Range(u32, u32),
-}
-
 // Why a call is refused, by the numbers of document 01 ("Who can cause a refusal") and of the change requests; the lowest number wins.
 #[derive(Clone, Copy, PartialEq, Eq)]
 pub enum Refusal {

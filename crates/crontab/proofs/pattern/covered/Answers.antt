@@ -17,19 +17,19 @@ find-end-requires c = c.loop-lo.invariant.0
 pub slice_bounds-element-count : goal.slice_bounds-element-count
 slice_bounds-element-count c = c.find-end.ensures.1
 
-pub returns-then-in_range : goal.returns-then-in_range
-returns-then-in_range c =
+pub returns-then-holds : goal.returns-then-holds
+returns-then-holds c =
     let s = c.args in
     let l = c.loop-lo in
     let star = sym c.is_asterisk.ensures ∙ c.if-is_asterisk.false in
-    holders-stop s.lo s.hi s.s.now star l.at _ _ c.find-end.ensures.0 c.find-end.ensures.2 c.element.ensures s.v l.invariant.1 _ c.in_range.ensures c.if-in_range.true
+    holders-stop s.lo s.hi s.s.now star l.at _ _ c.find-end.ensures.0 c.find-end.ensures.2 c.element.ensures s.v l.invariant.1 _ c.holds.ensures c.if-holds.true
 
 pub returns-then-end-s : goal.returns-then-end-s
 returns-then-end-s c =
     let s = c.args in
     let l = c.loop-lo in
     let star = sym c.is_asterisk.ensures ∙ c.if-is_asterisk.false in
-    holders-end s.lo s.hi s.s.now star l.at _ _ c.find-end.ensures.0 c.find-end.ensures.2 c.element.ensures s.v l.invariant.1 _ c.in_range.ensures c.if-in_range.false c.if-end-s.true
+    holders-end s.lo s.hi s.s.now star l.at _ _ c.find-end.ensures.0 c.find-end.ensures.2 c.element.ensures s.v l.invariant.1 _ c.holds.ensures c.if-holds.false c.if-end-s.true
 
 pub overflow_add-at : goal.overflow_add-at
 overflow_add-at c = omega (arith, lt_of_ne c.find-end.ensures.2 c.if-end-s.false)
@@ -44,5 +44,5 @@ loop-lo-preserved c =
     let star = sym c.is_asterisk.ensures ∙ c.if-is_asterisk.false in
     let h = lt_of_ne c.find-end.ensures.2 c.if-end-s.false in (
       omega (arith, h),
-      holders-on s.lo s.hi s.s.now star l.at _ _ c.find-end.ensures.0 c.find-end.ensures.2 c.element.ensures s.v l.invariant.1 _ c.in_range.ensures c.if-in_range.false h,
+      holders-on s.lo s.hi s.s.now star l.at _ _ c.find-end.ensures.0 c.find-end.ensures.2 c.element.ensures s.v l.invariant.1 _ c.holds.ensures c.if-holds.false h,
     )

@@ -17,19 +17,19 @@ find-end-requires c = c.loop-lo.invariant.0
 pub slice_bounds-element-count : goal.slice_bounds-element-count
 slice_bounds-element-count c = c.find-end.ensures.1
 
-pub returns-then-not-is_range : goal.returns-then-not-is_range
-returns-then-not-is_range c =
+pub returns-then-is_none : goal.returns-then-is_none
+returns-then-is_none c =
     let s = c.args in
     let l = c.loop-lo in
     let star = sym c.is_asterisk.ensures ∙ c.if-is_asterisk.false in
-    ranges-stop s.lo s.hi s.s.now star l.at _ _ c.find-end.ensures.0 c.find-end.ensures.2 c.element.ensures l.invariant.1 _ c.is_range.ensures (search rules)
+    ranges-stop s.lo s.hi s.s.now star l.at _ _ c.find-end.ensures.0 c.find-end.ensures.2 c.element.ensures l.invariant.1 _ refl (rw (c.is_none.ensures, c.if-is_none.true))
 
 pub returns-then-end-s : goal.returns-then-end-s
 returns-then-end-s c =
     let s = c.args in
     let l = c.loop-lo in
     let star = sym c.is_asterisk.ensures ∙ c.if-is_asterisk.false in
-    ranges-end s.lo s.hi s.s.now star l.at _ _ c.find-end.ensures.0 c.find-end.ensures.2 c.element.ensures l.invariant.1 _ c.is_range.ensures (search rules) c.if-end-s.true
+    ranges-end s.lo s.hi s.s.now star l.at _ _ c.find-end.ensures.0 c.find-end.ensures.2 c.element.ensures l.invariant.1 _ refl (rw (c.is_none.ensures, c.if-is_none.false)) c.if-end-s.true
 
 pub overflow_add-at : goal.overflow_add-at
 overflow_add-at c = omega (arith, lt_of_ne c.find-end.ensures.2 c.if-end-s.false)
@@ -44,5 +44,5 @@ loop-lo-preserved c =
     let star = sym c.is_asterisk.ensures ∙ c.if-is_asterisk.false in
     let h = lt_of_ne c.find-end.ensures.2 c.if-end-s.false in (
       omega (arith, h),
-      ranges-on s.lo s.hi s.s.now star l.at _ _ c.find-end.ensures.0 c.find-end.ensures.2 c.element.ensures l.invariant.1 _ c.is_range.ensures (search rules) h,
+      ranges-on s.lo s.hi s.s.now star l.at _ _ c.find-end.ensures.0 c.find-end.ensures.2 c.element.ensures l.invariant.1 _ refl (rw (c.is_none.ensures, c.if-is_none.false)) h,
     )
