@@ -20,7 +20,7 @@ use Rattle.ledger.specs.Ledger.{entry_of}
 use Rattle.ledger.specs.OnWords.{answers_on, words_after, pending_in, OnWords}
 use Rattle.ledger.proofs.OnWords.{refused-words, on-readable, demand3-on-words}
 use Rattle.engine.specs.Seen.{Seen, seen}
-use Rattle.engine.specs.Answers.{shown, shown_counters}
+use Rattle.engine.specs.Answers.{shown}
 use Rattle.demand3.specs.Runs.{Words, AnyRun, new, load, unload, enable, tick, run, next-deadline, counters, call_of, before, after, shown_by, From, last_words}
 use Rattle.demand3.specs.Demand3.{seen_on, Demand3OfCalls}
 
@@ -37,7 +37,7 @@ equation (next-deadline x) = x.ensured
 equation (counters x) = x.ensured
 
 shown-store : (x : AnyRun) → (shown_by x).store ≡ after x
-unfolding shown shown_counters
+unfolding shown
 shown-store (new x) = refl
 shown-store (load x ws) = refl
 shown-store (unload x) = refl

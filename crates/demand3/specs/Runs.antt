@@ -10,7 +10,7 @@ use borrow.Rule.Slice.Know.{Fit}
 use borrow.Fn.Kinds.{ParamKind, ResultKind, Out, Dens, GoodsP, res_t, ended_of}
 use Rattle.model.specs.Calls as calls
 use Rattle.engine.specs.Seen.{Seen}
-use Rattle.engine.specs.Answers.{shown, shown_counters}
+use Rattle.engine.specs.Answers.{no_values, enabled_values, handled_values, due_values, counter_values, shown}
 use Rattle.engine.proofs.new.Kinds as new-kinds
 use Rattle.engine.proofs.new.Reads as new-reads
 use Rattle.engine.proofs.load.Kinds as load-kinds
@@ -88,14 +88,14 @@ after (counters x) = x.given.0.now
 
 -- what its caller sees: the answer's number and values, and the words of all lent stores after it
 abbrev pub shown_by : AnyRun → Seen
-shown_by (new x) = shown x.answer x.left.0.now [] []
-shown_by (load x ws) = shown x.answer x.left.0.now [] []
-shown_by (unload x) = shown x.answer x.left.0.now [] []
-shown_by (enable x) = shown x.answer x.left.0.now [] []
-shown_by (tick x ws) = shown x.answer x.left.0.now x.left.1.1.0.now x.left.1.1.1.0.now
-shown_by (run x ws) = shown x.answer x.left.0.now x.left.1.1.1.1.0.now x.left.1.1.1.1.1.0.now
-shown_by (next-deadline x) = shown x.answer x.given.0.now [] []
-shown_by (counters x) = shown_counters x.answer x.given.0.now
+shown_by (new x) = shown no_values x.answer x.left.0.now [] []
+shown_by (load x ws) = shown no_values x.answer x.left.0.now [] []
+shown_by (unload x) = shown no_values x.answer x.left.0.now [] []
+shown_by (enable x) = shown enabled_values x.answer x.left.0.now [] []
+shown_by (tick x ws) = shown handled_values x.answer x.left.0.now x.left.1.1.0.now x.left.1.1.1.0.now
+shown_by (run x ws) = shown handled_values x.answer x.left.0.now x.left.1.1.1.1.0.now x.left.1.1.1.1.1.0.now
+shown_by (next-deadline x) = shown due_values x.answer x.given.0.now [] []
+shown_by (counters x) = shown counter_values x.answer x.given.0.now [] []
 
 -- A LIST OF CALLS -------------------------------------------------------------------------------------------------------------------
 -- the first run is given the words w, each other those that the one before it left

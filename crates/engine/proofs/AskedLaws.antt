@@ -19,10 +19,8 @@ use Rattle.model.specs.Answers as answers
 use Rattle.model.specs.OnWords.{result, store_refusal, store_after, outcome_words_of, effect_words_of, on_store, call_on}
 use Rattle.model.proofs.StoreLaws.{write_read}
 use Rattle.engine.specs.Seen.{seen, refusal_of}
-use Rattle.engine.specs.Answers.{number_of, values_of, shown, shown_counters}
 use Rattle.model.specs.Asked.{Asked, declined, shown_asked}
 use Rattle.engine.specs.Asked.{lowest_of, asked_of, asked, seen_asked}
-use Rattle.engine.specs.declared.Answer.TheVariants.{Refused}
 use Rattle.engine.proofs.Seeing.{OnStore, is_store}
 
 -- THE CHECKS ----------------------------------------------------------------------------------------------------------------------------
@@ -35,7 +33,7 @@ module _ (w : List ℕ) (n other : ℕ) (q : n ≡ refusal_of (read w) w) where
       go (Some s) e = absurd (z e)
 
   pub other-lowest : n ≡ 0 → (m : ℕ) → m ≡ other → m ≡ lowest_of (read w) w other
-  other-lowest z m e = go (read w) (is_store w n q z)
+  other-lowest z m e = go (read w) (is_store w (sym z ∙ q))
     where
       go : (o : Option Store) → present o ≡ true → m ≡ lowest_of o w other
       go None p = absurd (false≢true p)
@@ -107,18 +105,3 @@ module _ (c : Call) (ow : outcome_words_of c ≡ 0) (ew : effect_words_of c ≡ 
             ap (λ (d : model.Done). seen (result c d.answer (store_after d.answer d.store w))) (is s)
             ∙ ap (λ (x : List ℕ). seen (result c (a s) x)) (unchanged (a s) s w (write_read w s e).written)
             ∙ answer-seen (a s) w (silent s)
-
-    -- refused, by the number of the store's check
-    asks-refused : (w : List ℕ) (n : ℕ) → OnStore c w → n ≡ refusal_of (read w) w → (n ≡ 0 → ⊥) → seen (call_on c w) ≡ seen_asked (declined 0 n) w
-    asks-refused w n on q z =
-        call_asks w on ∙ ap (λ (x : Asked). seen_asked x w) (asked-declined w n 0 (store-lowest w n 0 q z) z 0 told)
-
-pub deadline-refused : (w : List ℕ) (n : ℕ) → n ≡ refusal_of (read w) w → (n ≡ 0 → ⊥) → shown (Refused n) w [] [] ≡ seen (call_on deadline w)
-unfolding shown number_of values_of declined call call_on
-deadline-refused w n q z = sym (asks-refused deadline refl refl (λ s. due (next_deadline s)) (λ s. refl) (λ s. refl) w n refl q z)
-
-pub counters-refused : (w values : List ℕ) (n : ℕ) → n ≡ refusal_of (read w) w → (n ≡ 0 → ⊥) → shown_counters (record { refusal = n; values = values }) w ≡ seen (call_on counters w)
-unfolding shown_counters declined call call_on
-counters-refused w values n q z =
-    ap (λ (b : Bool). record { number = n; values = cond b values []; store = w; outcomes = []; effects = [] }) (ne_eqb n 0 z)
-    ∙ sym (asks-refused counters refl refl (λ s. counted (counters_of s)) (λ s. refl) (λ s. refl) w n refl q z)

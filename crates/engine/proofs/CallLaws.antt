@@ -5,17 +5,17 @@ use mathlib.Core.List.{List, [], ◌∷◌, ◌++◌}
 use Rattle.std.specs.Prelude.{Option, None, Some}
 use Prim.Native.Nat.{ℕ, zero, suc, ◌+◌, ◌^◌, ◌≤◌, ◌<◌}
 use native.Mathlib.Omega.{arith}
-use lib.ListN.{length, get_or, drop, length-drop, length-map}
+use lib.ListN.{length, get_or, take, drop, length-drop, length-map}
 use borrow.Author.Tests.{lt-ltb, le-leb}
 use Rattle.words.specs.Saturating.{max32, max64}
 use Rattle.model.specs.declared.Pending.{Pending}
 use Rattle.model.specs.Lists.{all}
-use Rattle.model.specs.Codec.{wide}
+use Rattle.model.specs.Codec.{wide, rows_at}
 use Rattle.model.specs.Parts.{any, variable_row, timer_row, loaded_part}
 use Rattle.model.specs.Parts as parts
 use Rattle.model.specs.State as model
 use Rattle.model.specs.State.{RuleSet, Store, strike}
-use Rattle.model.specs.Store.{write, loaded_of, rule_count, variable_of, Keeps}
+use Rattle.model.specs.Store.{read, write, loaded_of, rule_count, variable_of, Keeps}
 use Rattle.model.specs.Flat.{flatten_rules, set_of}
 use Rattle.model.specs.Load.{image_refusal}
 use Rattle.model.specs.Calls as calls
@@ -23,8 +23,6 @@ use Rattle.model.specs.Calls.{load, unload, enable, done, refused, enabled, answ
 use Rattle.model.proofs.Bools.{join}
 use Rattle.model.proofs.PartsLaws.{variable-laws, timer-laws}
 use Rattle.model.proofs.PartsLaws as parts_laws
-use Rattle.counters.specs.Counters as counters
-use Rattle.counters.specs.declared.Counters.{Counters}
 use Rattle.model.specs.OnWords.{call_on}
 use Rattle.ledger.specs.Demand3.{is_word, in_words}
 use Rattle.ledger.proofs.CallRules.{call-keeps}
@@ -38,11 +36,14 @@ use Rattle.rows.specs.Places.{row_at, table_at, laid}
 use Rattle.store.specs.Places.{set_place, variables_place, timers_place, pending_place, counters_place}
 use Rattle.store.specs.Volatile.{changing_in, Wrote}
 use Rattle.store.proofs.Parts.{variables-at, timers-at, pending-at, counters-at, table-long}
-use Rattle.store.proofs.Stored.{ReadsAs, volatile-read}
+use Rattle.store.proofs.Stored.{from-read, volatile-read}
+use Rattle.model.proofs.RefusalLaws.{refusal-some}
 use Rattle.engine.specs.Seen.{seen}
-use Rattle.engine.specs.Answers.{shown}
+use Rattle.std.specs.Prelude.{Ok, Err}
+use Rattle.model.specs.Refusals.{refusal_code}
+use Rattle.model.specs.declared.Refusal.{Refusal}
+use Rattle.engine.specs.Answers.{no_values, enabled_values, shown}
 use Rattle.engine.specs.Sets.{cleared}
-use Rattle.engine.specs.declared.Answer.TheVariants.{Done, Refused, Enabled}
 use Rattle.engine.proofs.Seeing.{same-done, same-refused, same-enabled, no-outcomes, no-effects, OnStore, call-seen}
 use Rattle.engine.proofs.WordLaws.{Said, all-written, volatile-written}
 use Rattle.store.proofs.RecordRules.{found_none, found_at}
@@ -77,13 +78,13 @@ unload-answer t s = refl
 
 pub unload-seen : (t : ℕ) (w w₁ w₂ w₃ : List ℕ) (u : List ℕ) → t < 2 ^ 64 → (k : Said w) → AllNumbered u (cleared (rest_without k.store) k.store.vol)
     → w₁ ≡ laid w set_place (loaded_part.put (loaded_of None)) → Wrote w₁ (meaning u) w₂ → w₃ ≡ laid w₂ 0 (wide.put t)
-    → shown Done w₃ [] [] ≡ seen (call_on (unload t) w)
+    → shown no_values (Ok tt) w₃ [] [] ≡ seen (call_on (unload t) w)
 unload-seen t w w₁ w₂ w₃ u h k a e₁ e₂ e₃ =
     let s = k.store in
     let s' = unloaded t s in
     let k' : Keeps s' = subst Keeps (unload-store t s) (call-keeps (unload t) s (unload-words t h) k.keeps) in
     let e = all-written s s' w w₁ w₂ w₃ k.keeps k' k.written e₁ (says-wrote u s'.vol w₁ w₂ a e₂) e₃ in
-    call-seen (unload t) w w₃ [] [] s Done done (unload-on t w) k.is (unload-answer t s) same-done (e ∙ sym (ap write (unload-store t s))) (no-outcomes 0 done refl) (no-effects 0 done refl)
+    call-seen no_values (unload t) w w₃ [] [] s (Ok tt) done (unload-on t w) k.is (unload-answer t s) (same-done tt) (e ∙ sym (ap write (unload-store t s))) (no-outcomes 0 done refl) (no-effects 0 done refl)
 
 -- LOAD -------------------------------------------------------------------------------------------------------------------------------------
 pub words-fit : (l : List ℕ) → ((i : ℕ) → get_or l i 0 ≤ max32) → all is_word l ≡ true
@@ -108,22 +109,26 @@ load-call t img s e = ap (λ (n : ℕ). loading n t img (flatten_rules img) s) e
 pub load-seen : (t : ℕ) (img w w₁ w₂ w₃ : List ℕ) (u : List ℕ) → t < 2 ^ 64 → all is_word img ≡ true → image_refusal img ≡ 0 → (k : Said w)
     → AllNumbered u (cleared (rest_with img t k.store) k.store.vol)
     → w₁ ≡ laid w set_place (loaded_part.put (loaded_of (Some (set_of img (flatten_rules img))))) → Wrote w₁ (meaning u) w₂ → w₃ ≡ laid w₂ 0 (wide.put t)
-    → shown Done w₃ [] [] ≡ seen (call_on (load t img) w)
+    → shown no_values (Ok tt) w₃ [] [] ≡ seen (call_on (load t img) w)
 load-seen t img w w₁ w₂ w₃ u h i r k a e₁ e₂ e₃ =
     let s = k.store in
     let s' = loaded_store t img s in
     let d = load-call t img s r in
     let k' : Keeps s' = subst Keeps (ap (λ (x : calls.Done). x.store) d) (call-keeps (load t img) s (load-words t img h i) k.keeps) in
     let e = all-written s s' w w₁ w₂ w₃ k.keeps k' k.written e₁ (says-wrote u s'.vol w₁ w₂ a e₂) e₃ in
-    call-seen (load t img) w w₃ [] [] s Done done (load-on t img w) k.is (ap (λ (x : calls.Done). x.answer) d) same-done (e ∙ sym (ap (λ (x : calls.Done). write x.store) d)) (no-outcomes 0 done refl) (no-effects 0 done refl)
+    call-seen no_values (load t img) w w₃ [] [] s (Ok tt) done (load-on t img w) k.is (ap (λ (x : calls.Done). x.answer) d) (same-done tt) (e ∙ sym (ap (λ (x : calls.Done). write x.store) d)) (no-outcomes 0 done refl) (no-effects 0 done refl)
 
-pub load-refused : (t : ℕ) (img w : List ℕ) (n : ℕ) → (k : Said w) → n ≡ image_refusal img → (n ≡ 0 → ⊥) → shown (Refused n) w [] [] ≡ seen (call_on (load t img) w)
+load-declines : (t : ℕ) (img : List ℕ) (s : Store) (n : ℕ) → n ≡ image_refusal img → (n ≡ 0 → ⊥) → call (load t img) s ≡ answered (refused n) s
 unfolding call call_load image_refusal
-load-refused t img w zero k e z = absurd (z refl)
-load-refused t img w (suc n) k e z =
+load-declines t img s zero e z = absurd (z refl)
+load-declines t img s (suc n) e z = ap (λ (m : ℕ). loading m t img (flatten_rules img) s) (sym e)
+
+pub load-refused : {A : Type 0} (f : A → List ℕ) (t : ℕ) (img w : List ℕ) (r : Refusal) (k : Said w) → refusal_code r ≡ image_refusal img → shown f (Err r) w [] [] ≡ seen (call_on (load t img) w)
+load-refused f t img w r k e =
     let s = k.store in
-    let d : call (load t img) s ≡ answered (refused (suc n)) s = ap (λ (m : ℕ). loading m t img (flatten_rules img) s) (sym e) in
-    call-seen (load t img) w w [] [] s (Refused (suc n)) (refused (suc n)) (load-on t img w) k.is (ap (λ (x : calls.Done). x.answer) d) (same-refused (suc n)) refl (no-outcomes 0 (refused (suc n)) refl) (no-effects 0 (refused (suc n)) refl)
+    let a = refused (refusal_code r) in
+    let d = load-declines t img s (refusal_code r) e (refusal-some r) in
+    call-seen f (load t img) w w [] [] s (Err r) a (load-on t img w) k.is (ap (λ (x : calls.Done). x.answer) d) (same-refused f r (refusal_code r) refl) refl (no-outcomes 0 a refl) (no-effects 0 a refl)
 
 -- ENABLE -----------------------------------------------------------------------------------------------------------------------------------
 -- a value whose next number stands has no offset
@@ -171,36 +176,45 @@ unfolding call call_enable
 enable-call rule on s o e = ap (λ (x : Option ℕ). enabling x rule on s) e
 
 pub enable-no : (rule : ℕ) (on : Bool) (w : List ℕ) (k : Said w) (r : Option ℕ) → r ≡ rule_in k.store.loaded rule → r ≡ None
-    → shown (Enabled false) w [] [] ≡ seen (call_on (enable rule on) w)
+    → shown enabled_values (Ok false) w [] [] ≡ seen (call_on (enable rule on) w)
 enable-no rule on w k r e n =
     let s = k.store in
     let d = enable-call rule on s None (found_none (rule_in s.loaded rule) r e n) in
     let a = enabled false in
-    call-seen (enable rule on) w w [] [] s (Enabled false) a (enable-on rule on w) k.is (ap (λ (x : calls.Done). x.answer) d) (same-enabled false) (sym k.written ∙ sym (ap (λ (x : calls.Done). write x.store) d)) (no-outcomes 0 a refl) (no-effects 0 a refl)
+    call-seen enabled_values (enable rule on) w w [] [] s (Ok false) a (enable-on rule on w) k.is (ap (λ (x : calls.Done). x.answer) d) (same-enabled false) (sym k.written ∙ sym (ap (λ (x : calls.Done). write x.store) d)) (no-outcomes 0 a refl) (no-effects 0 a refl)
 
 pub enable-yes : (rule i : ℕ) (on : Bool) (w w₁ : List ℕ) (u : List ℕ) (k : Said w) (r : Option ℕ) → r ≡ rule_in k.store.loaded rule → r ≡ Some i
-    → AllNumbered u (flipped rule i on k.store.vol) → Wrote w (meaning u) w₁ → shown (Enabled true) w₁ [] [] ≡ seen (call_on (enable rule on) w)
+    → AllNumbered u (flipped rule i on k.store.vol) → Wrote w (meaning u) w₁ → shown enabled_values (Ok true) w₁ [] [] ≡ seen (call_on (enable rule on) w)
 enable-yes rule i on w w₁ u k r e n a h =
     let s = k.store in
     let v = flipped rule i on s.vol in
     let d = enable-call rule on s (Some i) (found_at (rule_in s.loaded rule) r i e n) in
     let q = volatile-written s v w w₁ k.keeps k.written (says-wrote u v w w₁ a h) in
     let b = enabled true in
-    call-seen (enable rule on) w w₁ [] [] s (Enabled true) b (enable-on rule on w) k.is (ap (λ (x : calls.Done). x.answer) d) (same-enabled true) (q ∙ sym (ap (λ (x : calls.Done). write x.store) d)) (no-outcomes 0 b refl) (no-effects 0 b refl)
+    call-seen enabled_values (enable rule on) w w₁ [] [] s (Ok true) b (enable-on rule on w) k.is (ap (λ (x : calls.Done). x.answer) d) (same-enabled true) (q ∙ sym (ap (λ (x : calls.Done). write x.store) d)) (no-outcomes 0 b refl) (no-effects 0 b refl)
 
 -- COUNTERS ----------------------------------------------------------------------------------------------------------------------------------
 rules-loaded : (o : Option RuleSet) → rule_count o ≡ rules_loaded o
 rules-loaded None = refl
 rules-loaded (Some set) = refl
 
-pub counters-are : (w : List ℕ) (s : Store) (c : Counters) (p t n q : ℕ) → ReadsAs w s → counters.counters_of c ≡ table_at any 12 w counters_place
+-- rows of one word are the words
+any_words : (n : ℕ) (v : List ℕ) → n ≤ length v → take n v ≡ rows_at any n v
+unfolding rows_at
+any_words zero v l = refl
+any_words (suc n) [] l = absurd (omega arith)
+any_words (suc n) (x ∷ v) l = ap (λ (t : List ℕ). x ∷ t) (any_words n v (omega arith))
+
+pub counters-are : (w : List ℕ) (s : Store) (p t n q : ℕ) → read w ≡ Some s
     → p ≡ row_at any w pending_place → t ≡ row_at any w timers_place → n ≡ rule_count s.loaded → q ≡ row_at any w variables_place
-    → counters.counters_of c ++ (p ∷ t ∷ n ∷ q ∷ []) ≡ counters_of s
-unfolding counters_of
-counters-are w s c p t n q r e ep et en eq =
+    → take 12 (drop counters_place w) ++ (p ∷ t ∷ n ∷ q ∷ []) ≡ counters_of s
+unfolding counters_of table_at
+counters-are w s p t n q i ep et en eq =
+    let r = from-read w s i in
     let v = volatile-read w s r in
     let m = changing_in w in
-    let a : counters.counters_of c ≡ s.vol.rest.counters = e ∙ sym (counters-at w) ∙ ap (λ (x : model.Volatile). x.rest.counters) v in
+    let l : 12 ≤ length (drop counters_place w) = omega (arith, length-drop counters_place w, r.readable.long) in
+    let a : take 12 (drop counters_place w) ≡ s.vol.rest.counters = any_words 12 (drop counters_place w) l ∙ sym (counters-at w) ∙ ap (λ (x : model.Volatile). x.rest.counters) v in
     let f : p ≡ length s.vol.pending =
     ep ∙ sym (ap length (pending-at w) ∙ table-long parts.pending_row parts_laws.pending-laws (row_at any w pending_place) w (pending_place + 1)) ∙ ap (λ (x : model.Volatile). length x.pending) v in
     let g : t ≡ length s.vol.rest.timers =

@@ -2,7 +2,7 @@
 use mathlib.Core.Path.{◌≡◌, refl, sym, ap, ◌∙◌}
 use mathlib.Core.Bool.{Bool, true, false}
 use mathlib.Core.List.{List, []}
-use Rattle.std.specs.Prelude.{Option, None, Some}
+use Rattle.std.specs.Prelude.{Option, None, Some, Ok}
 use Prim.Native.Nat.{ℕ}
 use Rattle.model.specs.World.{is_one}
 use Rattle.model.specs.Codec.{wide}
@@ -20,8 +20,7 @@ use Rattle.store.specs.Volatile.{Readable}
 use Rattle.store.proofs.Stored.{from-read, time-read}
 use Rattle.wheel.specs.Deadline.{set_if, store_of, AcceptedIf}
 use Rattle.engine.specs.Seen.{seen}
-use Rattle.engine.specs.Answers.{number_of, values_of, shown, deadline_is}
-use Rattle.engine.specs.declared.Answer.{Answer}
+use Rattle.engine.specs.Answers.{due_values, shown}
 use Rattle.engine.proofs.Seeing.{Same, no-outcomes, no-effects, OnStore, call-seen}
 use Rattle.engine.proofs.WordLaws.{Said}
 use Rattle.engine.proofs.SetLaws.{loadable}
@@ -51,8 +50,8 @@ module _ (w img : List ℕ) (s : Store) (e : read w ≡ Some s) (i : Readable w 
       let r : store_of img b k.flat v last ≡ s = λ j. record { now = n j; loaded = k.is j; vol = a.says j } in
       h k.flat ∙ ap next_deadline r
 
-same-due : (t : Option ℕ) → Same (deadline_is t) (due t)
-unfolding number_of values_of answers.number_of answers.values_of
+same-due : (t : Option ℕ) → Same due_values (Ok t) (due t)
+unfolding answers.number_of answers.values_of
 same-due None = record { number = refl; values = refl }
 same-due (Some t) = record { number = refl; values = refl }
 
@@ -68,9 +67,8 @@ deadline-store : (s : Store) → (call deadline s).store ≡ s
 unfolding call
 deadline-store s = refl
 
-pub deadline-seen : (w : List ℕ) (k : Said w) (t : Option ℕ) (r : Answer) → t ≡ next_deadline k.store → r ≡ deadline_is t → shown r w [] [] ≡ seen (call_on deadline w)
-deadline-seen w k t r e q =
+pub deadline-seen : (w : List ℕ) (k : Said w) (t : Option ℕ) → t ≡ next_deadline k.store → shown due_values (Ok t) w [] [] ≡ seen (call_on deadline w)
+deadline-seen w k t e =
     let s = k.store in
-    ap (λ (x : Answer). shown x w [] []) q
-    ∙ call-seen deadline w w [] [] s (deadline_is t) (due t) (deadline-on w) k.is (deadline-answer s ∙ ap due (sym e)) (same-due t)
+    call-seen due_values deadline w w [] [] s (Ok t) (due t) (deadline-on w) k.is (deadline-answer s ∙ ap due (sym e)) (same-due t)
     (sym k.written ∙ sym (ap write (deadline-store s))) (no-outcomes 0 (due t) refl) (no-effects 0 (due t) refl)

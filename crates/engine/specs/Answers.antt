@@ -1,40 +1,38 @@
--- Document 01's number and values for each case of the code's answers, and what a caller sees of them.
-use Rattle.std.specs.Prelude.{cond, List, [], ◌∷◌, ℕ, eqb}
-use Rattle.std.specs.Prelude.{Option, None, Some}
+-- Document 01's number and values of the code's answers, and what a caller sees of them.
+use Rattle.std.specs.Prelude.{cond, Bool, List, [], ◌∷◌, ℕ}
+use Rattle.std.specs.Prelude.{Option, None, Some, Result, Ok, Err, ⊤}
 use Rattle.words.specs.Pairs.{low_of, high_of}
+use Rattle.model.specs.Refusals.{refusal_number}
+use Rattle.model.specs.declared.Refusal.{Refusal}
+use Rattle.activate.specs.declared.Handled.{Handled}
 use Rattle.engine.specs.Seen.{Seen}
-use Rattle.engine.specs.declared.Answer.{Answer}
-use Rattle.engine.specs.declared.Answer.TheVariants.{Done, Refused, Enabled, Handled, Due, NoDeadline}
-use Rattle.engine.specs.declared.Counted.{Counted}
 
--- the number of the refusal, 0 for none
-unfoldable pub number_of : Answer → ℕ
-number_of Done = 0
-number_of (Refused n) = n
-number_of (Enabled on) = 0
-number_of (Handled os es) = 0
-number_of (Due t) = 0
-number_of NoDeadline = 0
+-- the values of an answer: those of what it gives, by f, and none of a refusal
+abbrev pub values_of : {A : Type 0} → (A → List ℕ) → Result A Refusal → List ℕ
+values_of f (Ok a) = f a
+values_of f (Err r) = []
 
--- yes 1 or no 0; the numbers of outcomes and effects; a mark and a time
-unfoldable pub values_of : Answer → List ℕ
-values_of Done = []
-values_of (Refused n) = []
-values_of (Enabled on) = cond on 1 0 ∷ []
-values_of (Handled os es) = os ∷ es ∷ []
-values_of (Due t) = 1 ∷ low_of t ∷ high_of t ∷ []
-values_of NoDeadline = 0 ∷ 0 ∷ 0 ∷ []
+-- of new, load and unload: none
+abbrev pub no_values : ⊤ → List ℕ
+no_values t = []
+
+-- yes 1 or no 0
+abbrev pub enabled_values : Bool → List ℕ
+enabled_values on = cond on 1 0 ∷ []
+
+-- the numbers of outcomes and effects
+abbrev pub handled_values : Handled → List ℕ
+handled_values h = h.outcomes ∷ h.effects ∷ []
+
+-- a mark and a time
+abbrev pub due_values : Option ℕ → List ℕ
+due_values None = 0 ∷ 0 ∷ 0 ∷ []
+due_values (Some t) = 1 ∷ low_of t ∷ high_of t ∷ []
+
+-- the 16 numbers
+abbrev pub counter_values : List ℕ → List ℕ
+counter_values cs = cs
 
 -- the answer, with the words of the store, the outcomes and the effects after the call
-unfoldable pub shown : Answer → List ℕ → List ℕ → List ℕ → Seen
-shown r w os es = record { number = number_of r; values = values_of r; store = w; outcomes = os; effects = es }
-
--- the answer of `counters`: its number, and the 16 numbers where it is no refusal
-unfoldable pub shown_counters : Counted → List ℕ → Seen
-shown_counters r w =
-    record { number = r.refusal; values = cond (eqb r.refusal 0) r.values []; store = w; outcomes = []; effects = [] }
-
--- the next deadline, if there is one
-abbrev pub deadline_is : Option ℕ → Answer
-deadline_is None = NoDeadline
-deadline_is (Some t) = Due t
+unfoldable pub shown : {A : Type 0} → (A → List ℕ) → Result A Refusal → List ℕ → List ℕ → List ℕ → Seen
+shown f r w os es = record { number = refusal_number r; values = values_of f r; store = w; outcomes = os; effects = es }

@@ -12,23 +12,23 @@ ghost use Rattle.model.specs.OnWords.{call_on};
 ghost use Rattle.state.specs.Meaning.{Sound, AllNumbered, meaning};
 ghost use Rattle.activate.specs.Carried.{carried};
 ghost use Rattle.activate.specs.Handled.{Continues, Room, mode_of};
-ghost use Rattle.engine.specs.declared.Answer.TheVariants.{Refused};
 ghost use Rattle.engine.specs.Seen.{seen};
-ghost use Rattle.engine.specs.Answers.{shown};
+ghost use Rattle.engine.specs.Answers.{handled_values, shown};
 ghost use Rattle.engine.specs.Handling.{begun, ran_in, ticked_in, Commits};
 
-use crate::{Answer, stored};
+use crate::stored;
 use activate::{Handled, Mode};
+use model::Refusal;
 use state::place::WORDS;
 use store::set::{image_in, is_loaded};
 
 // A refusal leaves nothing in the lent stores.
-fn refuse(outcomes: &mut [u32], effects: &mut [u32], number: u32) -> Answer
-    ensures { (result ≡ Refused number) × (outcomes.new ≡ replicate (length outcomes.old) 0) × (effects.new ≡ replicate (length effects.old) 0) }
+fn refuse(outcomes: &mut [u32], effects: &mut [u32], refusal: Refusal) -> Result<Handled, Refusal>
+    ensures { (result ≡ Err refusal) × (outcomes.new ≡ replicate (length outcomes.old) 0) × (effects.new ≡ replicate (length effects.old) 0) }
 {
     lent_words::clear(outcomes);
     lent_words::clear(effects);
-    Answer::Refused(number)
+    Err(refusal)
 }
 
 // The call has come to x: it is refused with 30, 31 or 32, or the store is written.
@@ -39,26 +39,26 @@ fn commit(
     time: u64,
     v: &mut [u32],
     x: Handled,
-) -> Answer
+) -> Result<Handled, Refusal>
     requires { (present (read store.old) ≡ true) × Sound v.old }
     ensures { Commits (carried v.old x) time store.old outcomes.old effects.old result store.new outcomes.new effects.new }
 {
     if outcomes.len() / activate::OUTCOME_WORDS < x.outcomes as usize {
-        return refuse(outcomes, effects, 30);
+        return refuse(outcomes, effects, Refusal::LentStores);
     }
     if effects.len() / lent_words::EFFECT_WORDS < x.effects as usize {
-        return refuse(outcomes, effects, 30);
+        return refuse(outcomes, effects, Refusal::LentStores);
     }
     if !state::sequence::next_fits(v) {
-        return refuse(outcomes, effects, 31);
+        return refuse(outcomes, effects, Refusal::SequenceNumber);
     }
     if !state::last_number::last_fits(v) {
-        return refuse(outcomes, effects, 32);
+        return refuse(outcomes, effects, Refusal::ActivationNumber);
     }
     state::sequence::assign_numbers(v);
     store::volatile::put_state(store, v);
     store::set::put_last(store, time);
-    Answer::Handled(x.outcomes, x.effects)
+    Ok(x)
 }
 
 fn mode_of(dry: bool) -> Mode
@@ -140,10 +140,10 @@ pub fn run(
     snapshot: &[u32],
     outcomes: &mut [u32],
     effects: &mut [u32],
-) -> Answer
+) -> Result<Handled, Refusal>
     requires store_value { (present (read store.old) ≡ true) × (snapshot_refusal snapshot.now ≡ 0) }
     requires outcomes_value { (outcomes.old ≡ replicate (length outcomes.old) 0) × (effects.old ≡ replicate (length effects.old) 0) }
-    ensures { shown result store.new outcomes.new effects.new ≡ seen (call_on (run rule dry snapshot.now (length outcomes.old) (length effects.old)) store.old) }
+    ensures { shown handled_values result store.new outcomes.new effects.new ≡ seen (call_on (run rule dry snapshot.now (length outcomes.old) (length effects.old)) store.old) }
 {
     let time = world::now_ms(snapshot);
     let mut v = [0u32; WORDS];
@@ -178,10 +178,10 @@ pub fn tick(
     snapshot: &[u32],
     outcomes: &mut [u32],
     effects: &mut [u32],
-) -> Answer
+) -> Result<Handled, Refusal>
     requires store_value { (present (read store.old) ≡ true) × (snapshot_refusal snapshot.now ≡ 0) }
     requires outcomes_value { (outcomes.old ≡ replicate (length outcomes.old) 0) × (effects.old ≡ replicate (length effects.old) 0) }
-    ensures { shown result store.new outcomes.new effects.new ≡ seen (call_on (tick snapshot.now (length outcomes.old) (length effects.old)) store.old) }
+    ensures { shown handled_values result store.new outcomes.new effects.new ≡ seen (call_on (tick snapshot.now (length outcomes.old) (length effects.old)) store.old) }
 {
     let time = world::now_ms(snapshot);
     let mut v = [0u32; WORDS];

@@ -11,10 +11,10 @@ ghost use Rattle.model.specs.Calls.{load, unload, kept, rest_with, rest_without}
 ghost use Rattle.model.specs.OnWords.{call_on};
 ghost use Rattle.state.specs.Meaning.{AllNumbered, Sound, Means, meaning, base};
 ghost use Rattle.engine.specs.Seen.{seen};
-ghost use Rattle.engine.specs.Answers.{shown};
+ghost use Rattle.engine.specs.Answers.{no_values, shown};
 ghost use Rattle.engine.specs.Sets.{cleared, rule_of, rules_of};
 
-use crate::{Answer, stored};
+use crate::stored;
 use rows::read;
 use state::place::{MAX_RULES, WORDS};
 use store::table;
@@ -80,9 +80,9 @@ fn with_set(store: &[u32], image: &[u32], time: u64, v: &mut [u32])
 }
 
 // Load of an image that it accepts, into a store that keeps the store rules.
-pub fn load(store: &mut [u32], time: u64, image: &[u32]) -> Answer
+pub fn load(store: &mut [u32], time: u64, image: &[u32])
     requires { (present (read store.old) ≡ true) × (image_refusal image.now ≡ 0) }
-    ensures { shown result store.new [] [] ≡ seen (call_on (load time image.now) store.old) }
+    ensures { shown no_values (Ok tt) store.new [] [] ≡ seen (call_on (load time image.now) store.old) }
 {
     let mut v = [0u32; WORDS];
     stored::begin(store, &mut v);
@@ -90,13 +90,12 @@ pub fn load(store: &mut [u32], time: u64, image: &[u32]) -> Answer
     store::put_set::put_loaded(store, image);
     store::volatile::put_state(store, &v);
     store::set::put_last(store, time);
-    Answer::Done
 }
 
 // Unload, of a store that keeps the store rules.
-pub fn unload(store: &mut [u32], time: u64) -> Answer
+pub fn unload(store: &mut [u32], time: u64)
     requires { present (read store.old) ≡ true }
-    ensures { shown result store.new [] [] ≡ seen (call_on (unload time) store.old) }
+    ensures { shown no_values (Ok tt) store.new [] [] ≡ seen (call_on (unload time) store.old) }
 {
     let mut v = [0u32; WORDS];
     stored::begin(store, &mut v);
@@ -104,5 +103,4 @@ pub fn unload(store: &mut [u32], time: u64) -> Answer
     store::set::put_unloaded(store);
     store::volatile::put_state(store, &v);
     store::set::put_last(store, time);
-    Answer::Done
 }

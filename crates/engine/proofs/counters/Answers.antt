@@ -1,11 +1,21 @@
 -- `engine::counters` meets its contract. Assumes nothing.
-use native.Mathlib.Omega.{arith}
-use Rattle.engine.proofs.Seeing.{is_store}
-use Rattle.engine.proofs.AskedLaws.{counters-refused}
+use Rattle.std.proofs.lemmas.Result.{err_from_is_err_and}
+use mathlib.Core.Path.{refl}
+use Rattle.model.specs.Calls.{counters}
+use Rattle.engine.specs.Answers.{counter_values}
+use Rattle.engine.proofs.Seeing.{is_store, refused-seen, counters-on, counters-seen}
+use Rattle.engine.proofs.WordLaws.{said}
 use Rattle.engine.proofs.counters.Goals as goal
 
-pub returns-then-n-ne0 : goal.returns-then-n-ne0
-returns-then-n-ne0 c = counters-refused _ _ _ c.refusal-n.ensures (λ e. omega (arith, e, c.if-n-ne0.true))
+pub returns-in_err-refusal : goal.returns-in_err-refusal
+returns-in_err-refusal c =
+    let p = err_from_is_err_and c.from_residual.result c.from_residual.ensures.1 in
+    rw (p.1, p.2) (refused-seen _ _ c.in_err-refusal.ensures counter_values counters _ _ (counters-on _) refl refl)
 
 pub counters-requires : goal.counters-requires
-counters-requires c = is_store _ _ c.refusal-n.ensures (omega (arith, c.if-n-ne0.false))
+counters-requires c = is_store _ c.in_ok-refusal.ensures
+
+pub returns : goal.returns
+returns c =
+    let k = said _ (is_store _ c.in_ok-refusal.ensures) in
+    counters-seen _ _ k.store k.is k.written (c.counters.ensures k.store k.is)

@@ -1,23 +1,23 @@
 -- `engine::load` meets its contract. Assumes nothing.
-use mathlib.Core.Path.{refl, sym, ◌∙◌}
-use native.Mathlib.Omega.{arith}
+use Rattle.std.proofs.lemmas.Result.{err_from_is_err_and}
+use mathlib.Core.Path.{refl, sym}
 use Rattle.model.specs.Calls.{load}
+use Rattle.engine.specs.Answers.{no_values}
 use Rattle.engine.proofs.Seeing.{is_store, refused-seen}
 use Rattle.engine.proofs.WordLaws.{said}
 use Rattle.engine.proofs.CallLaws.{load-on, load-refused}
 use Rattle.engine.proofs.load.Goals as goal
 
-pub returns-then-n-ne0 : goal.returns-then-n-ne0
-returns-then-n-ne0 c =
+pub returns-in_err-refusal : goal.returns-in_err-refusal
+returns-in_err-refusal c =
     let a = c.args in
-    refused-seen _ _ c.refusal-n.ensures (load a.time a.image.now) _ _ (load-on a.time a.image.now _) (λ e. omega (arith, e, c.if-n-ne0.true)) refl refl
+    let p = err_from_is_err_and c.from_residual.result c.from_residual.ensures.1 in
+    rw (p.1, p.2) (refused-seen _ _ c.in_err-refusal.ensures no_values (load a.time a.image.now) _ _ (load-on a.time a.image.now _) refl refl)
 
-pub returns-then-m-ne0 : goal.returns-then-m-ne0
-returns-then-m-ne0 c =
-    let a = c.args in
-    let k = said _ (is_store _ _ c.refusal-n.ensures (omega (arith, c.if-n-ne0.false))) in
-    load-refused a.time a.image.now _ _ k (c.refusal_number-m.ensures ∙ c.refusal.ensures) (λ e. omega (arith, e, c.if-m-ne0.true))
+pub returns-in_err-refusal-2 : goal.returns-in_err-refusal-2
+returns-in_err-refusal-2 c =
+    let p = err_from_is_err_and c.from_residual-in_err-refusal-2.result c.from_residual-in_err-refusal-2.ensures.1 in
+    rw (p.1, p.2) (load-refused no_values c.args.time c.args.image.now _ _ (said _ (is_store _ c.in_ok-refusal.ensures)) c.in_err-refusal-2.ensures)
 
 pub load-requires : goal.load-requires
-load-requires c =
-    (is_store _ _ c.refusal-n.ensures (omega (arith, c.if-n-ne0.false)), sym (c.refusal_number-m.ensures ∙ c.refusal.ensures) ∙ omega (arith, c.if-m-ne0.false))
+load-requires c = (is_store _ c.in_ok-refusal.ensures, sym c.in_ok-refusal-2.ensures)

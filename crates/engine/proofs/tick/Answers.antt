@@ -1,30 +1,31 @@
 -- `engine::tick` meets its contract. Assumes nothing.
-use mathlib.Core.Path.{sym, ◌∙◌}
-use native.Mathlib.Omega.{arith}
+use Rattle.std.proofs.lemmas.Result.{err_from_is_err_and}
+use mathlib.Core.Path.{sym}
 use lib.ListN.{length}
 use Rattle.model.specs.Calls.{tick}
+use Rattle.engine.specs.Answers.{handled_values}
 use Rattle.engine.proofs.Seeing.{is_store, refused-seen}
 use Rattle.engine.proofs.WordLaws.{said}
 use Rattle.engine.proofs.HandlingLaws.{zeros-long, zeros-all}
 use Rattle.engine.proofs.TickLaws.{tick-on, tick-refused, tick-sized}
 use Rattle.engine.proofs.tick.Goals as goal
 
-pub returns-then-n-ne0 : goal.returns-then-n-ne0
-returns-then-n-ne0 c =
+pub returns-in_err-refusal : goal.returns-in_err-refusal
+returns-in_err-refusal c =
     let a = c.args in
-    refused-seen _ _ c.refusal-n.ensures (tick a.snapshot.now (length a.outcomes.now) (length a.effects.now)) _ _
-    (tick-on a.snapshot.now (length a.outcomes.now) (length a.effects.now) _) (λ e. omega (arith, e, c.if-n-ne0.true)) c.clear.ensures c.clear-2.ensures
+    let p = err_from_is_err_and c.from_residual.result c.from_residual.ensures.1 in
+    rw (p.1, p.2) (refused-seen _ _ c.in_err-refusal.ensures handled_values (tick a.snapshot.now (length a.outcomes.now) (length a.effects.now)) _ _ (tick-on a.snapshot.now (length a.outcomes.now) (length a.effects.now) _) c.clear.ensures c.clear-2.ensures)
 
-pub returns-then-m-ne0 : goal.returns-then-m-ne0
-returns-then-m-ne0 c =
+pub returns-in_err-refusal-2 : goal.returns-in_err-refusal-2
+returns-in_err-refusal-2 c =
     let a = c.args in
-    let k = said _ (is_store _ _ c.refusal-n.ensures (omega (arith, c.if-n-ne0.false))) in
-    tick-refused a.snapshot.now (length a.outcomes.now) (length a.effects.now) _ _ _ _ k (c.refusal_number-m.ensures ∙ c.refusal.ensures) (λ e. omega (arith, e, c.if-m-ne0.true)) c.clear.ensures c.clear-2.ensures
+    let p = err_from_is_err_and c.from_residual-in_err-refusal-2.result c.from_residual-in_err-refusal-2.ensures.1 in
+    rw (p.1, p.2) (tick-refused handled_values a.snapshot.now (length a.outcomes.now) (length a.effects.now) _ _ _ _ (said _ (is_store _ c.in_ok-refusal.ensures)) c.in_err-refusal-2.ensures c.clear.ensures c.clear-2.ensures)
 
 pub tick-requires : goal.tick-requires
 tick-requires c =
     let a = c.args in record {
-      store_value = (is_store _ _ c.refusal-n.ensures (omega (arith, c.if-n-ne0.false)), sym (c.refusal_number-m.ensures ∙ c.refusal.ensures) ∙ omega (arith, c.if-m-ne0.false));
+      store_value = (is_store _ c.in_ok-refusal.ensures, sym c.in_ok-refusal-2.ensures);
       outcomes_value = (zeros-all _ (length a.outcomes.now) c.clear.ensures, zeros-all _ (length a.effects.now) c.clear-2.ensures);
     }
 

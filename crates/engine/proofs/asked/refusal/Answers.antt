@@ -1,11 +1,14 @@
 -- `engine::asked::refusal` meets its contract. Assumes nothing.
-use mathlib.Core.Path.{◌∙◌}
-use native.Mathlib.Omega.{arith}
+use Rattle.std.proofs.lemmas.Result.{err_from_is_err_and}
+use mathlib.Core.Path.{refl}
+use Rattle.model.proofs.RefusalLaws.{refusal-some}
 use Rattle.engine.proofs.AskedLaws.{store-lowest, other-lowest}
 use Rattle.engine.proofs.asked.refusal.Goals as goal
 
-pub returns-then-n-ne0 : goal.returns-then-n-ne0
-returns-then-n-ne0 c = store-lowest _ _ _ c.refusal-n.ensures (λ e. omega (arith, e, c.if-n-ne0.true))
+pub returns-in_err-refusal : goal.returns-in_err-refusal
+returns-in_err-refusal c =
+    let p = err_from_is_err_and c.from_residual.result c.from_residual.ensures.1 in
+    rw (p.1, p.2) (store-lowest _ _ _ c.in_err-refusal.ensures (refusal-some _))
 
 pub returns : goal.returns
-returns c = other-lowest _ _ _ c.refusal-n.ensures (omega (arith, c.if-n-ne0.false)) _ (c.refusal_number.ensures ∙ c.refusal.ensures)
+returns c = other-lowest _ _ _ c.in_ok-refusal.ensures refl _ c.refusal-2.ensures

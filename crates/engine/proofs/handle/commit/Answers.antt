@@ -2,7 +2,6 @@
 use mathlib.Core.Path.{sym, ◌∙◌}
 use borrow.Author.Tests.{not-true, not-false, leb-true}
 use Rattle.model.proofs.StoreLaws.{write_read}
-use Rattle.activate.specs.Carried.{carried}
 use Rattle.engine.proofs.WordLaws.{said}
 use Rattle.engine.proofs.CallLaws.{itself}
 use Rattle.engine.proofs.HandlingLaws.{outcomes-over, effects-over, numbers-over, last-over, call_ends}
@@ -12,25 +11,25 @@ pub returns-then-outcomes-x : goal.returns-then-outcomes-x
 returns-then-outcomes-x c s h e o =
     let a = c.args in
     let r = c.refuse.ensures in
-    outcomes-over (carried a.v.now a.x) a.time _ _ _ s h o _ _ _ r.1 r.2 c.if-outcomes-x.true r.0
+    rw r.0 (outcomes-over a.v.now a.x a.time _ _ _ s h o _ _ r.1 r.2 c.if-outcomes-x.true)
 
 pub returns-then-effects-x : goal.returns-then-effects-x
 returns-then-effects-x c s h e o =
     let a = c.args in
     let r = c.refuse-then-effects-x.ensures in
-    effects-over (carried a.v.now a.x) a.time _ _ _ s h o _ _ _ r.1 r.2 c.if-effects-x.true r.0
+    rw r.0 (effects-over a.v.now a.x a.time _ _ _ s h o _ _ r.1 r.2 c.if-effects-x.true)
 
 pub returns-then-not-next_fits : goal.returns-then-not-next_fits
 returns-then-not-next_fits c s h e o =
     let a = c.args in
     let r = c.refuse-then-not-next_fits.ensures in
-    numbers-over (carried a.v.now a.x) a.time _ _ _ s h o _ _ _ r.1 r.2 c.if-outcomes-x.false c.if-effects-x.false _ c.next_fits.ensures (not-true _ c.if-not-next_fits.true-raw) r.0
+    rw r.0 (numbers-over a.v.now a.x a.time _ _ _ s h o _ _ r.1 r.2 c.if-outcomes-x.false c.if-effects-x.false _ c.next_fits.ensures (not-true _ c.if-not-next_fits.true-raw))
 
 pub returns-then-not-last_fits : goal.returns-then-not-last_fits
 returns-then-not-last_fits c s h e o =
     let a = c.args in
     let r = c.refuse-then-not-last_fits.ensures in
-    last-over (carried a.v.now a.x) a.time _ _ _ s h o _ _ _ r.1 r.2 c.if-outcomes-x.false c.if-effects-x.false _ c.next_fits.ensures (not-false _ c.if-not-next_fits.false-raw) _ c.last_fits.ensures (not-true _ c.if-not-last_fits.true-raw) r.0
+    rw r.0 (last-over a.v.now a.x a.time _ _ _ s h o _ _ r.1 r.2 c.if-outcomes-x.false c.if-effects-x.false _ c.next_fits.ensures (not-false _ c.if-not-next_fits.false-raw) _ c.last_fits.ensures (not-true _ c.if-not-last_fits.true-raw))
 
 pub assign_numbers-requires : goal.assign_numbers-requires
 assign_numbers-requires c =
@@ -46,7 +45,7 @@ pub returns : goal.returns
 returns c s h e o =
     let a = c.args in
     let r = write_read _ s e in
-    call_ends (carried a.v.now a.x) a.time _ _ _ s h o c.if-outcomes-x.false c.if-effects-x.false _ c.next_fits.ensures (not-false _ c.if-not-next_fits.false-raw) _ c.last_fits.ensures (not-false _ c.if-not-last_fits.false-raw) _ _ _
+    call_ends a.v.now a.x a.time _ _ _ s h o c.if-outcomes-x.false c.if-effects-x.false _ c.next_fits.ensures (not-false _ c.if-not-next_fits.false-raw) _ c.last_fits.ensures (not-false _ c.if-not-last_fits.false-raw) _ _ _
     c.assign_numbers.ensures r.keeps r.written
     c.put_state.ensures
     c.put_last.ensures
