@@ -3,55 +3,86 @@
 // equation with the specification's call on words (model's `call_on`), for all arguments.
 #![tactic(auto)]
 
-ghost use Rattle.std.specs.Prelude.{◌≡◌, cond, [], eqb, length};
+ghost use Rattle.std.specs.Prelude.{◌≡◌, cond, List, [], ℕ, eqb, length};
 ghost use Rattle.model.specs.Calls.{new, load, unload, enable, tick, run, deadline, counters};
 ghost use Rattle.model.specs.OnWords.{call_on};
 ghost use Rattle.model.specs.Crontab.{crontab};
 ghost use Rattle.next.specs.NextStart.{start_values};
-ghost use Rattle.engine.specs.Answers.{number_of, values_of};
+ghost use Rattle.engine.specs.Answers.{values_of, no_values, enabled_values, handled_values, due_values, counter_values};
 ghost use Rattle.room.specs.Needed.{room_for};
 ghost use Rattle.engine.specs.Asked.{next_start_on};
 ghost use Rattle.cerambiu.specs.Called.{called, answered, lent_answer};
 ghost use Rattle.model.specs.Refusals.{refusal_number};
 ghost use Rattle.cerambiu.specs.Told.{tells, told, telegram_values, sending};
 
-use engine::Answer;
+use activate::Handled;
 use model::Refusal;
 use next::NextStart;
 
-fn number_of(a: Answer) -> u32
-    ensures { result ≡ number_of a }
-{
-    match a {
-        Answer::Done => 0,
-        Answer::Refused(number) => number,
-        Answer::Enabled(known) => 0,
-        Answer::Handled(outcomes, effects) => 0,
-        Answer::Due(time) => 0,
-        Answer::NoDeadline => 0,
+// What a call answers, as words.
+trait Answer {
+    ghost words: { Self → List ℕ };
+
+    fn put(self, answer: &mut [u32])
+        ensures { answer.new ≡ lent_answer (length answer.old) (words self) };
+}
+
+impl Answer for () {
+    ghost words = { no_values };
+
+    fn put(self, answer: &mut [u32]) {
+        put_values(answer, &[]);
     }
 }
 
-fn mark(known: bool) -> u32
-    ensures { result ≡ cond known 1 0 }
-{
-    if known {
-        return 1;
+// Yes 1 or no 0.
+impl Answer for bool {
+    ghost words = { enabled_values };
+
+    fn put(self, answer: &mut [u32]) {
+        put_values(answer, &[u32::from(self)]);
     }
-    0
 }
 
-// No answer but that of counters has more than three values.
-fn values_of(a: Answer) -> [u32; 3]
-    ensures { result ≡ lent_answer 3 (values_of a) }
-{
-    match a {
-        Answer::Done => [0, 0, 0],
-        Answer::Refused(number) => [0, 0, 0],
-        Answer::Enabled(known) => [mark(known), 0, 0],
-        Answer::Handled(outcomes, effects) => [outcomes, effects, 0],
-        Answer::Due(time) => [1, words::low_word(time), words::high_word(time)],
-        Answer::NoDeadline => [0, 0, 0],
+// The numbers of outcomes and effects.
+impl Answer for Handled {
+    ghost words = { handled_values };
+
+    fn put(self, answer: &mut [u32]) {
+        put_values(answer, &[self.outcomes, self.effects]);
+    }
+}
+
+// A mark and a time.
+impl Answer for Option<u64> {
+    ghost words = { due_values };
+
+    fn put(self, answer: &mut [u32]) {
+        match self {
+            Some(time) => put_values(answer, &[1, words::low_word(time), words::high_word(time)]),
+            None => put_values(answer, &[0, 0, 0]),
+        }
+    }
+}
+
+impl Answer for [u32; 16] {
+    ghost words = { counter_values };
+
+    fn put(self, answer: &mut [u32]) {
+        put_values(answer, &self);
+    }
+}
+
+// A mark, the minutes and the rule.
+impl Answer for NextStart {
+    ghost words = { start_values };
+
+    fn put(self, answer: &mut [u32]) {
+        match self {
+            NextStart::NoStart => put_values(answer, &[0, 0, 0]),
+            NextStart::ClockUnknown => put_values(answer, &[2, 0, 0]),
+            NextStart::Start(minutes, rule) => put_values(answer, &[1, minutes, rule]),
+        }
     }
 }
 
@@ -59,20 +90,25 @@ fn values_of(a: Answer) -> [u32; 3]
 fn put_values(answer: &mut [u32], values: &[u32])
     ensures { answer.new ≡ lent_answer (length answer.old) values.now }
 {
-    let mut i = 0;
-    while i < answer.len() {
-        let value = fields::word(values, i);
-        answer[i] = value;
-        i += 1;
+    for (i, word) in answer.iter_mut().enumerate() {
+        *word = values.get(i).copied().unwrap_or(0);
     }
 }
 
-fn put_answer(answer: &mut [u32], a: Answer) -> u32
-    ensures { (result ≡ number_of a) × (answer.new ≡ lent_answer (length answer.old) (values_of a)) }
+// A refusal has no values.
+fn put_answer<T: Answer>(answer: &mut [u32], a: Result<T, Refusal>) -> u32
+    ensures { (result ≡ refusal_number a) × (answer.new ≡ lent_answer (length answer.old) (values_of T.words a)) }
 {
-    let values = values_of(a);
-    put_values(answer, &values);
-    number_of(a)
+    match a {
+        Ok(value) => {
+            value.put(answer);
+            0
+        }
+        Err(refusal) => {
+            put_values(answer, &[]);
+            u32::from(refusal)
+        }
+    }
 }
 
 // The answer of a call that asks: its values, unless it is refused.
@@ -91,19 +127,19 @@ fn put_asked(answer: &mut [u32], number: u32, values: &[u32]) -> u32
 pub fn cerambiu_new(store: &mut [u32], time: u64) -> u32
     ensures { called result [] store.new [] [] ≡ answered 0 (call_on (new time) store.old) }
 {
-    number_of(engine::new(store, time))
+    put_answer(&mut [], engine::new(store, time))
 }
 
 pub fn cerambiu_load(store: &mut [u32], time: u64, image: &[u32]) -> u32
     ensures { called result [] store.new [] [] ≡ answered 0 (call_on (load time image.now) store.old) }
 {
-    number_of(engine::load(store, time, image))
+    put_answer(&mut [], engine::load(store, time, image))
 }
 
 pub fn cerambiu_unload(store: &mut [u32], time: u64) -> u32
     ensures { called result [] store.new [] [] ≡ answered 0 (call_on (unload time) store.old) }
 {
-    number_of(engine::unload(store, time))
+    put_answer(&mut [], engine::unload(store, time))
 }
 
 pub fn cerambiu_enable(store: &mut [u32], rule: u32, on: bool, answer: &mut [u32]) -> u32
@@ -150,29 +186,13 @@ pub fn cerambiu_next_deadline(store: &[u32], answer: &mut [u32]) -> u32
 pub fn cerambiu_counters(store: &[u32], answer: &mut [u32]) -> u32
     ensures { called result answer.new store.now [] [] ≡ answered (length answer.old) (call_on counters store.now) }
 {
-    let c = engine::counters(store);
-    let values = c.values;
-    put_asked(answer, c.refusal, &values)
-}
-
-// A mark, the minutes and the rule.
-fn start_values(a: NextStart) -> [u32; 3]
-    ensures { result ≡ start_values a }
-{
-    match a {
-        NextStart::NoStart => [0, 0, 0],
-        NextStart::ClockUnknown => [2, 0, 0],
-        NextStart::Start(minutes, rule) => [1, minutes, rule],
-    }
+    put_answer(answer, engine::counters(store))
 }
 
 pub fn cerambiu_next_start(store: &[u32], snapshot: &[u32], answer: &mut [u32]) -> u32
     ensures { tells result answer.new [] ≡ told (length answer.old) (next_start_on snapshot.now store.now) }
 {
-    let a = engine::next_start(store, snapshot);
-    let start = a.start;
-    let values = start_values(start);
-    put_asked(answer, a.refusal, &values)
+    put_answer(answer, engine::next_start(store, snapshot))
 }
 
 fn telegram_number(a: Result<usize, Refusal>) -> u32

@@ -1,6 +1,6 @@
 -- `cerambiu::cerambiu_counters` meets its contract. Assumes nothing.
-use Rattle.cerambiu.proofs.Seeing.{counters-told}
+use Rattle.cerambiu.proofs.Seeing.{told}
 use Rattle.cerambiu.proofs.cerambiu_counters.Goals as goal
 
 pub returns : goal.returns
-returns c = counters-told _ _ _ _ _ _ c.counters-c.ensures c.put_asked.ensures.0 c.put_asked.ensures.1
+returns c = told _ _ _ _ _ _ _ _ _ c.counters.ensures c.put_answer.ensures.0 c.put_answer.ensures.1

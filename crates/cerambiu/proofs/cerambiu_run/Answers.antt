@@ -3,5 +3,4 @@ use Rattle.cerambiu.proofs.Seeing.{told}
 use Rattle.cerambiu.proofs.cerambiu_run.Goals as goal
 
 pub returns : goal.returns
-returns c =
-    told _ _ _ _ _ _ _ _ c.run.ensures c.put_answer.ensures.0 c.put_answer.ensures.1
+returns c = told _ _ _ _ _ _ _ _ _ c.run.ensures c.put_answer.ensures.0 c.put_answer.ensures.1
