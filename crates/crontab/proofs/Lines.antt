@@ -21,23 +21,7 @@ use Rattle.model.specs.declared.Refusal.TheVariants.{TriggerStore}
 use Rattle.model.specs.Refusals.{refusal_code}
 use Rattle.model.proofs.RefusalLaws.{refusal-code-suc}
 use Rattle.model.specs.Crontab.{until, is_blank, lowest, highest, is_asterisk, is_pattern, covers, field_fits, field_covers, field_free, starts, minutes, day_here, day_bit, days, of_the_form, every_date, has_room, refusal, trigger_words, table_words, crontab}
-use Rattle.crontab.specs.Scanned.{part, StartsField, written, Marked, marked, marked_minutes, form_refusal}
-use Rattle.crontab.proofs.Scans.{field-part}
-
--- FIELDS
-module _ (l : List ℕ) (k at end : ℕ) (f : StartsField l k at) (e : end ≡ at + until is_blank (drop at l)) where
-  pub free-is : {r : Bool} → r ≡ is_asterisk (part l at end) → r ≡ field_free l k
-  unfolding field_free
-  free-is q = rw (field-part l k at end f e) at q
-
-  module _ {lo hi : ℕ} (a : lo ≡ get_or lowest k 0) (b : hi ≡ get_or highest k 0) where
-    pub fits-is : {r : Bool} → r ≡ is_pattern lo hi (part l at end) → r ≡ field_fits l k
-    unfolding field_fits
-    fits-is q = rw (← a, ← b, ← field-part l k at end f e) q
-
-    pub covers-is : (v : ℕ) {r : Bool} → r ≡ covers lo hi (part l at end) v → r ≡ field_covers l k v
-    unfolding field_covers
-    covers-is v q = rw (← a, ← b, ← field-part l k at end f e) q
+use Rattle.crontab.specs.Scanned.{written, Marked, marked, marked_minutes, form_refusal}
 
 -- MARKS
 module _ (f : ℕ → Bool) where

@@ -1,90 +1,47 @@
 -- A text read byte by byte: separators, blanks, digits. Assumes nothing.
 use mathlib.Core.Path.{◌≡◌, refl, sym, ap, ◌∙◌}
-use mathlib.Core.Bool.{Bool, true, false, cond, ◌||◌}
+use mathlib.Core.Bool.{Bool, true, false, cond, not}
 use mathlib.Core.List.{List, [], ◌∷◌}
-use Rattle.std.specs.Prelude.{Option, None, Some}
 use Prim.Native.Nat.{ℕ, suc, ◌+◌, ◌-◌, ◌≤◌, ◌<◌}
-use native.Mathlib.Numerals.{add-one}
 use native.Mathlib.Omega.{arith}
-use borrow.Author.Tests.{leb-true, leb-false}
-use lib.Dec.{eqb, leb}
-use lib.ListN.{length, get_or, drop, drop_of_length-le}
-use lib.Seq.{drop-cons, drop-drop}
+use borrow.Author.Tests.{ltb-true, ltb-false}
+use lib.Dec.{leb, ltb}
+use lib.ListN.{length, take, drop, length-drop}
+use lib.Seq.{take_all}
+use Rattle.std.specs.Prelude.{Result, Ok, Err, Option, None, Some}
+use Rattle.std.specs.List.{position_or_len}
+use Rattle.std.specs.Option.{unwrap_or}
+use Rattle.std.proofs.lemmas.List.Recursion.{is_position_or_len}
 use Rattle.model.specs.Lists.{all}
 use Rattle.model.specs.Digits.{is_digit, value_from}
 use Rattle.model.specs.Crontab.{until, skip, is_blank, number_of, field, behind_first}
-use Rattle.std.specs.Prelude.{Result, Ok, Err}
 use Rattle.decimal.specs.declared.NotANumber.{NotANumber}
 use Rattle.decimal.specs.declared.NotANumber.TheVariants.{NoNumber, TooLarge}
 use Rattle.decimal.specs.Numbers.{argument_of}
-use Rattle.crontab.specs.Scanned.{one_of, small, part, Behind, StartsField}
+use Rattle.crontab.specs.Scanned.{word_sized}
 
--- THE NEXT SEPARATOR. The invariant of its loop at i: `i + until p (drop i l) ≡ at + until p (drop at l)`.
-module _ (p : ℕ → Bool) (l : List ℕ) (i : ℕ) where
-  pub until-here : i < length l → p (get_or l i 0) ≡ true → until p (drop i l) ≡ 0
+module _ (p : ℕ → Bool) where
+  pub until-within : (l : List ℕ) → until p l ≤ length l
   unfolding until
-  until-here h e = rw (drop-cons l i 0, e)
+  until-within [] = omega arith
+  until-within (b ∷ bs) = go (p b) (until-within bs)
+    where
+      go : (t : Bool) → until p bs ≤ length bs → cond t 0 (suc (until p bs)) ≤ length (b ∷ bs)
+      go true h = omega arith
+      go false h = omega arith
 
-  pub until-on : i < length l → p (get_or l i 0) ≡ false → until p (drop i l) ≡ suc (until p (drop (i + 1) l))
-  unfolding until
-  until-on h e = rw (add-one, drop-cons l i 0, e)
-
-  pub until_end : length l ≤ i → until p (drop i l) ≡ 0
-  unfolding until
-  until_end h = rw (drop_of_length-le l h)
-
-  -- A loop that skips what passes. Its invariant at i: `skip p (drop i l) ≡ skip p (drop at l)`.
-  pub skip-here : i < length l → p (get_or l i 0) ≡ false → skip p (drop i l) ≡ drop i l
-  unfolding skip
-  skip-here h e = rw (drop-cons l i 0, e)
-
-  pub skip-on : i < length l → p (get_or l i 0) ≡ true → skip p (drop (i + 1) l) ≡ skip p (drop i l)
-  unfolding skip
-  skip-on h e = rw (add-one, drop-cons l i 0, e)
-
-  pub skip-end : length l ≤ i → skip p (drop i l) ≡ drop i l
-  unfolding skip
-  skip-end h = rw (drop_of_length-le l h)
-
-pub until-within : (p : ℕ → Bool) (l : List ℕ) → until p l ≤ length l
-unfolding until
-until-within p [] = omega arith
-until-within p (b ∷ bs) = go (p b) (until-within p bs)
-  where
-    go : (t : Bool) → until p bs ≤ length bs → cond t 0 (suc (until p bs)) ≤ length (b ∷ bs)
-    go true h = omega arith
-    go false h = omega arith
-
-or_same : (b : Bool) → b || b ≡ b
-or_same true = refl
-or_same false = refl
-
--- one byte, asked for twice
-pub until-one : (a : ℕ) (l : List ℕ) → until (one_of a a) l ≡ until (λ x. eqb x a) l
-unfolding until
-until-one a [] = refl
-until-one a (b ∷ bs) = rw (or_same (eqb b a), until-one a bs)
-
--- FIELDS
-pub behind-is : (l : List ℕ) (at end next : ℕ) → end ≡ at + until is_blank (drop at l) → next ≤ length l → drop next l ≡ skip is_blank (drop end l) → Behind l at next
-unfolding behind_first
-behind-is l at end next e h s = record { within = h; same = s ∙ ap (skip is_blank) (rw e (sym (drop-drop (until is_blank (drop at l)) at l))) }
-
--- the loop that counts fields: field `left` from `at` on is field k
-pub field-on : (l : List ℕ) (k at left next : ℕ) → 0 < left → field left (drop at l) ≡ field k l → Behind l at next → field (left - 1) (drop next l) ≡ field k l
-unfolding field
-field-on l k at left next h e b =
-    let s : left ≡ suc (left - 1) = omega arith in
-    rw b.same (rw s at e)
-
-pub field-part : (l : List ℕ) (k at end : ℕ) → StartsField l k at → end ≡ at + until is_blank (drop at l) → part l at end ≡ field k l
-unfolding field
-field-part l k at end f e =
-    let n : end - at ≡ until is_blank (drop at l) = omega arith in
-    rw n f.same
+  -- the first byte that does not pass
+  pub skip-is : (l : List ℕ) → skip p l ≡ drop (until (λ b. not (p b)) l) l
+  unfolding skip until
+  skip-is [] = refl
+  skip-is (b ∷ bs) = go (p b) (skip-is bs)
+    where
+      go : (t : Bool) → skip p bs ≡ drop (until (λ b. not (p b)) bs) bs → cond t (skip p bs) (b ∷ bs) ≡ drop (cond (not t) 0 (suc (until (λ b. not (p b)) bs))) (b ∷ bs)
+      go true h = h
+      go false h = refl
 
 -- NUMBERS
-pub number-empty : (l : List ℕ) → length l ≡ 0 → None ≡ small (number_of l)
+pub number-empty : (l : List ℕ) → length l ≡ 0 → None ≡ word_sized (number_of l)
 unfolding number_of
 number-empty [] h = refl
 number-empty (b ∷ bs) h = absurd (omega arith)
@@ -94,26 +51,82 @@ unfolding number_of
 number-some [] h = absurd (h refl)
 number-some (b ∷ bs) h = refl
 
--- a number below 100
-abbrev pub small_of : Result ℕ NotANumber → Option ℕ
-small_of (Ok n) = Some n
-small_of (Err e) = None
+-- a number that `decimal` reads
+abbrev pub read_of : Result ℕ NotANumber → Option ℕ
+read_of (Ok n) = Some n
+read_of (Err e) = None
 
-pub small-read : (l : List ℕ) → (length l ≡ 0 → ⊥) → small_of (argument_of 99 l) ≡ small (number_of l)
+number-read : (l : List ℕ) → (length l ≡ 0 → ⊥) → read_of (argument_of 4294967295 l) ≡ word_sized (number_of l)
 unfolding argument_of
-small-read l h = rw (number-some l h) (go (all is_digit l))
+number-read l h = rw (number-some l h) (go (all is_digit l))
   where
-    small-most : (b : Bool) → small_of (cond b (Ok (value_from 0 l)) (Err TooLarge)) ≡ cond b (Some (value_from 0 l)) None
-    small-most true = refl
-    small-most false = refl
+    most : (b : Bool) → read_of (cond b (Ok (value_from 0 l)) (Err TooLarge)) ≡ cond b (Some (value_from 0 l)) None
+    most true = refl
+    most false = refl
 
-    go : (a : Bool) → small_of (cond a (cond (leb (value_from 0 l) 99) (Ok (value_from 0 l)) (Err TooLarge)) (Err NoNumber)) ≡ small (cond a (Some (value_from 0 l)) None)
-    go true = small-most (leb (value_from 0 l) 99)
+    go : (a : Bool) → read_of (cond a (cond (leb (value_from 0 l) 4294967295) (Ok (value_from 0 l)) (Err TooLarge)) (Err NoNumber)) ≡ word_sized (cond a (Some (value_from 0 l)) None)
+    go true = most (leb (value_from 0 l) 4294967295)
     go false = refl
 
--- what `decimal` read
-pub read_small : (l : List ℕ) (a : Result ℕ NotANumber) (n : Option ℕ) → (length l ≡ 0 → ⊥) → a ≡ argument_of 99 l → small_of a ≡ n → n ≡ small (number_of l)
-read_small l a n h e q = sym q ∙ ap small_of e ∙ small-read l h
+pub number-is : (l : List ℕ) (a : Result ℕ NotANumber) (n : Option ℕ) → (length l ≡ 0 → ⊥) → a ≡ argument_of 4294967295 l → read_of a ≡ n → n ≡ word_sized (number_of l)
+number-is l a n h e q = sym q ∙ ap read_of e ∙ number-read l h
 
-pub field-starts : (l : List ℕ) (k at left : ℕ) → left ≤ 0 → at ≤ length l → field left (drop at l) ≡ field k l → StartsField l k at
-field-starts l k at left z h e = let q : left ≡ 0 = omega arith in record { within = h; same = rw q at e }
+-- FIELDS
+-- the first byte that passes, as `position` finds it
+module _ (p : ℕ → Bool) (l : List ℕ) where
+  until-first : until p l ≡ position_or_len p l
+  unfolding until
+  until-first = is_position_or_len (until p) p refl (λ x xs. go (p x) (until p xs)) l
+    where
+      go : (t : Bool) (n : ℕ) → cond t 0 (suc n) ≡ cond t 0 (1 + n)
+      go true n = refl
+      go false n = omega arith
+
+  module _ {r : Option ℕ} (f : r ≡ cond (ltb (position_or_len p l) (length l)) (Some (position_or_len p l)) None) where
+    pub place-or-end : unwrap_or r (length l) ≡ until p l
+    place-or-end = go (ltb (until p l) (length l)) refl (rw (← until-first) at f)
+      where
+        go : (t : Bool) → ltb (until p l) (length l) ≡ t → r ≡ cond t (Some (until p l)) None → unwrap_or r (length l) ≡ until p l
+        go true w e = rw e
+        go false w e = rw e (omega (arith, ltb-false (until p l) (length l) w, until-within p l))
+
+    pub place-some : (i : ℕ) → r ≡ Some i → (until p l < length l) × (i ≡ until p l)
+    place-some i q = go (ltb (until p l) (length l)) refl (sym q ∙ (rw (← until-first) at f))
+      where
+        go : (t : Bool) → ltb (until p l) (length l) ≡ t → Some i ≡ cond t (Some (until p l)) None → (until p l < length l) × (i ≡ until p l)
+        go true w e = (ltb-true (until p l) (length l) w, cc)
+        go false w e = let z : ◌≡◌ {A = ℕ} 0 1 = cc in absurd (omega arith)
+
+    pub place-none : r ≡ None → length l ≤ until p l
+    place-none q = go (ltb (until p l) (length l)) refl (sym q ∙ (rw (← until-first) at f))
+      where
+        go : (t : Bool) → ltb (until p l) (length l) ≡ t → None ≡ cond t (Some (until p l)) None → length l ≤ until p l
+        go true w e = let z : ◌≡◌ {A = ℕ} 0 1 = cc in absurd (omega arith)
+        go false w e = ltb-false (until p l) (length l) w
+
+take-rest : (l : List ℕ) (n : ℕ) → take (length l - n) (drop n l) ≡ drop n l
+take-rest l n = take_all (length l - n) (drop n l) (rw length-drop (omega arith))
+
+-- the blanks behind the first field, counted in what is left of the line
+pub behind-is : (l : List ℕ) {at : ℕ} → at ≡ until is_blank l → {r : Option ℕ} {n : ℕ}
+    → (let rest = take (length l - at) (drop at l) in
+       r ≡ cond (ltb (position_or_len (λ b. not (is_blank b)) rest) (length rest)) (Some (position_or_len (λ b. not (is_blank b)) rest)) None
+       → n ≡ unwrap_or r (length rest) → take (length rest - n) (drop n rest) ≡ behind_first l)
+unfolding behind_first
+behind-is l {at = at} e {n = n} f q =
+    let rest = take (length l - at) (drop at l) in
+    let d : n ≡ until (λ b. not (is_blank b)) rest = q ∙ place-or-end (λ b. not (is_blank b)) rest f in
+    take-rest rest n ∙ rw (d, ← skip-is is_blank rest, take-rest l at, e)
+
+-- the loop that counts fields: field `left` of what is left is field k of the line
+pub field-on : (l rest next : List ℕ) (k at : ℕ) → at < k → field (k - at) rest ≡ field k l → next ≡ behind_first rest → field (k - (at + 1)) next ≡ field k l
+unfolding field
+field-on l rest next k at h e b =
+    let s : k - at ≡ suc (k - (at + 1)) = omega arith in
+    rw b (rw s at e)
+
+pub field-end : (l rest : List ℕ) (k at n : ℕ) → k ≤ at → field (k - at) rest ≡ field k l → n ≡ until is_blank rest → take n rest ≡ field k l
+unfolding field
+field-end l rest k at n h e q =
+    let z : k - at ≡ 0 = omega arith in
+    rw q (rw z at e)

@@ -6,25 +6,10 @@ use Rattle.model.specs.Lists.{keep, up_from}
 use Rattle.model.specs.Field.{unless}
 use Rattle.model.specs.Crontab.{field, behind_first, of_the_form, every_date}
 
-abbrev pub one_of : ℕ → ℕ → ℕ → Bool
-one_of a b x = eqb x a || eqb x b
-
--- a number, if it is below 100
-abbrev pub small : Option ℕ → Option ℕ
-small None = None
-small (Some n) = cond (leb n 99) (Some n) None
-
-abbrev pub part : List ℕ → ℕ → ℕ → List ℕ
-part s from to = take (to - from) (drop from s)
-
--- field 0 from `at` on is field k of the line
-pub record StartsField (line : List ℕ) (k at : ℕ) : Type 0 where
-  pub within : at ≤ length line
-  pub same : field 0 (drop at line) ≡ field k line
-
-pub record Behind (line : List ℕ) (at next : ℕ) : Type 0 where
-  pub within : next ≤ length line
-  pub same : drop next line ≡ behind_first (drop at line)
+-- a number, if 32 bits hold it
+abbrev pub word_sized : Option ℕ → Option ℕ
+word_sized None = None
+word_sized (Some n) = cond (leb n 4294967295) (Some n) None
 
 -- triggers for the minutes ts, written one behind the other from place n on
 abbrev pub written : ℕ → List ℕ → ℕ → List ℕ → List ℕ

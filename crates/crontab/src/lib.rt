@@ -22,22 +22,18 @@ fn fields_fit(line: &[u8]) -> bool
     (0..5).all(|k| parts::fits(line, k))
 }
 
+#[tactic(auto, unfolding(model::specs::Crontab::of_the_form))]
 fn of_the_form(line: &[u8], sunday: u32) -> bool
     ensures { result ≡ of_the_form line.now sunday }
 {
-    if 6 < sunday {
-        return false;
-    }
-    fields_fit(line)
+    sunday <= 6 && fields_fit(line)
 }
 
+#[tactic(auto, unfolding(model::specs::Crontab::every_date))]
 fn every_date(line: &[u8]) -> bool
     ensures { result ≡ every_date line.now }
 {
-    if !parts::is_free(line, 2) {
-        return false;
-    }
-    parts::is_free(line, 3)
+    parts::is_free(line, 2) && parts::is_free(line, 3)
 }
 
 // Refusals 50 and 51.

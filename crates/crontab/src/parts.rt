@@ -1,72 +1,64 @@
 // The five fields of a line.
-ghost use Rattle.std.specs.Prelude.{◌≡◌, ◌<◌, length, get_or};
+ghost use Rattle.std.specs.Prelude.{◌≡◌, ◌<◌, get_or};
 ghost use Rattle.model.specs.Crontab.{field_fits, field_covers, field_free, lowest, highest};
-ghost use Rattle.crontab.specs.Scanned.{StartsField};
 
+use crate::pattern::Bounds;
 use crate::{pattern, scan};
 
-const LOWEST: [u32; 5] = [0, 0, 1, 1, 0];
+const BOUNDS: [Bounds; 5] = [
+    Bounds {
+        lowest: 0,
+        highest: 59,
+    },
+    Bounds {
+        lowest: 0,
+        highest: 23,
+    },
+    Bounds {
+        lowest: 1,
+        highest: 31,
+    },
+    Bounds {
+        lowest: 1,
+        highest: 12,
+    },
+    Bounds {
+        lowest: 0,
+        highest: 6,
+    },
+];
 
-const HIGHEST: [u32; 5] = [59, 23, 31, 12, 6];
-
-fn lowest_of(k: usize) -> u32
+// The numbers that field k may have.
+fn bounds_of(k: usize) -> Bounds
     requires { k < 5 }
-    ensures { result ≡ get_or lowest k 0 }
+    ensures lowest { result.lowest ≡ get_or lowest k 0 }
+    ensures highest { result.highest ≡ get_or highest k 0 }
 {
-    let table = LOWEST;
-    table[k]
-}
-
-fn highest_of(k: usize) -> u32
-    requires { k < 5 }
-    ensures { (result ≡ get_or highest k 0) × (result < 100) }
-{
-    let table = HIGHEST;
-    table[k]
-}
-
-// Where field k starts.
-fn start(line: &[u8], k: usize) -> usize
-    ensures { StartsField line.now k result }
-{
-    let mut at = 0;
-    let mut left = k;
-    while 0 < left {
-        at = scan::next_field(line, at);
-        left -= 1;
-    }
-    at
+    BOUNDS[k]
 }
 
 // Whether field k is a pattern.
+#[tactic(auto, unfolding(model::specs::Crontab::field_fits))]
 pub fn fits(line: &[u8], k: usize) -> bool
     requires { k < 5 }
     ensures { result ≡ field_fits line.now k }
 {
-    let at = start(line, k);
-    let end = scan::find(line, at, 32, 9);
-    let lo = lowest_of(k);
-    let hi = highest_of(k);
-    pattern::is_pattern(&line[at..end], lo, hi)
+    pattern::is_pattern(bounds_of(k), scan::field(line, k))
 }
 
 // Whether the number v is one of field k's.
+#[tactic(auto, unfolding(model::specs::Crontab::field_covers))]
 pub fn covered(line: &[u8], k: usize, v: u32) -> bool
     requires { k < 5 }
     ensures { result ≡ field_covers line.now k v }
 {
-    let at = start(line, k);
-    let end = scan::find(line, at, 32, 9);
-    let lo = lowest_of(k);
-    let hi = highest_of(k);
-    pattern::covered(&line[at..end], lo, hi, v)
+    pattern::covers(bounds_of(k), scan::field(line, k), v)
 }
 
 // Whether field k is an asterisk.
+#[tactic(auto, unfolding(model::specs::Crontab::field_free))]
 pub fn is_free(line: &[u8], k: usize) -> bool
     ensures { result ≡ field_free line.now k }
 {
-    let at = start(line, k);
-    let end = scan::find(line, at, 32, 9);
-    pattern::is_asterisk(&line[at..end])
+    pattern::is_asterisk(scan::field(line, k))
 }

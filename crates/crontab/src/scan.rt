@@ -1,62 +1,51 @@
-// Bytes of a text: where the next separator stands, blanks, decimal numbers.
-ghost use Rattle.std.specs.Prelude.{◌≡◌, ◌≤◌, ◌+◌, length, drop};
-ghost use Rattle.model.specs.Crontab.{until, skip, is_blank, number_of};
-ghost use Rattle.crontab.specs.Scanned.{one_of, small, Behind};
+// Parts of a text: the fields of a line, and decimal numbers.
+ghost use Rattle.std.specs.Prelude.{◌≡◌, ◌≤◌, length};
+ghost use Rattle.model.specs.Crontab.{until, is_blank, behind_first, field, number_of};
+ghost use Rattle.crontab.specs.Scanned.{word_sized};
 
-// Whether a byte is one of two.
-fn is_one(x: u8, a: u8, b: u8) -> bool
-    ensures { result ≡ one_of a b x }
+fn is_blank(b: u8) -> bool
+    ensures { result ≡ is_blank b }
 {
-    x == a || x == b
+    b == b' ' || b == b'\t'
 }
 
-// The place from `at` on where the first of two bytes stands, or the end.
-pub fn find(s: &[u8], at: usize, a: u8, b: u8) -> usize
-    requires { at ≤ length s.now }
-    ensures { (result ≡ at + until (one_of a b) (drop at s.now)) × (at ≤ result) × (result ≤ length s.now) }
+// How many bytes stand before the first blank, or all.
+fn first_length(text: &[u8]) -> usize
+    ensures place { result ≡ until is_blank text.now }
+    ensures within { result ≤ length text.now }
 {
-    let mut i = at;
-    while i < s.len() {
-        if is_one(s[i], a, b) {
-            return i;
-        }
-        i += 1;
+    text.iter().position(|b| is_blank(*b)).unwrap_or(text.len())
+}
+
+// What stands behind the first field and the blanks after it.
+fn behind_first(text: &[u8]) -> &[u8]
+    ensures { result.now ≡ behind_first text.now }
+{
+    let rest = &text[first_length(text)..];
+    let blanks = rest.iter().position(|b| !is_blank(*b)).unwrap_or(rest.len());
+    &rest[blanks..]
+}
+
+pub fn field(line: &[u8], k: usize) -> &[u8]
+    ensures { result.now ≡ field k line.now }
+{
+    let mut rest = line;
+    for _ in 0..k {
+        rest = behind_first(rest);
     }
-    i
+    &rest[..first_length(rest)]
 }
 
-// The place of the first byte from `at` on that is no blank, or the end.
-fn blanks_end(s: &[u8], at: usize) -> usize
-    requires { at ≤ length s.now }
-    ensures { (result ≤ length s.now) × (drop result s.now ≡ skip is_blank (drop at s.now)) }
-{
-    let mut i = at;
-    while i < s.len() {
-        if !is_one(s[i], 32, 9) {
-            return i;
-        }
-        i += 1;
-    }
-    i
-}
+const MOST: u64 = 4_294_967_295;
 
-// Where the field behind the one at `at` starts.
-pub fn next_field(s: &[u8], at: usize) -> usize
-    requires { at ≤ length s.now }
-    ensures { Behind s.now at result }
-{
-    let end = find(s, at, 32, 9);
-    blanks_end(s, end)
-}
-
-// The number that decimal digits stand for, if it is below 100.
+// The number that decimal digits stand for, if 32 bits hold it.
 pub fn number(s: &[u8]) -> Option<u32>
-    ensures { result ≡ small (number_of s.now) }
+    ensures { result ≡ word_sized (number_of s.now) }
 {
     if s.is_empty() {
         return None;
     }
-    match decimal::read(s, 99) {
+    match decimal::read(s, MOST) {
         Ok(n) => Some(n as u32),
         Err(_) => None,
     }

@@ -1,8 +1,0 @@
--- `crontab::parts::fits` meets its contract. Assumes nothing.
-use Rattle.crontab.proofs.Lines.{fits-is}
-use Rattle.crontab.proofs.parts.fits.Goals as goal
-
-pub returns : goal.returns
-returns c =
-    let s = c.args in
-    fits-is s.line.now s.k _ _ c.start-at.ensures c.find-end.ensures.0 c.lowest_of-lo.ensures c.highest_of-hi.ensures.0 c.is_pattern.ensures
