@@ -1,16 +1,18 @@
 -- The fields of a line, its minutes and days, counted and written. Assumes nothing.
 use mathlib.Core.Logic.{⊎_elim}
 use mathlib.Core.Path.{◌≡◌, refl, sym, ap, ◌∙◌}
-use mathlib.Core.Bool.{Bool, true, false, not, ◌&&◌}
-use mathlib.Core.List.{List, [], ◌∷◌, ◌++◌, append-nil, append_assoc}
+use mathlib.Core.Bool.{Bool, true, false, cond, not, ◌&&◌}
+use mathlib.Core.List.{List, [], ◌∷◌, ◌++◌, map, append-nil, append_assoc}
 use Prim.Native.Nat.{ℕ, zero, suc, ◌+◌, ◌*◌, ◌-◌, ◌/◌, ◌%◌, ◌^◌, ◌≤◌, ◌<◌}
 use native.Mathlib.Nat.{div-add-mod, mod-lt, eq-or-lt_of_le}
 use native.Mathlib.Numerals.{add-one}
 use native.Mathlib.Omega.{arith}
 use borrow.Author.Tests.{not-true, not-false, le-leb, lt-leb, leb-true}
 use lib.Dec.{leb, lit<}
-use lib.ListN.{length, get_or, drop, replicate, set, length-set, length-replicate, length-append}
-use lib.Seq.{sets, length-sets, get_or-set_same, get_or-set_other}
+use lib.ListN.{length, take, drop, replicate, set, length-set, length-replicate, length-append}
+use lib.Seq.{drop-drop, sets, sets-eq, length-sets, get_or-set_same, get_or-set_other}
+use Rattle.std.specs.List.{filter, range_with_len, sum_by}
+use Rattle.std.proofs.lemmas.List.FromFn.{sum_by-map-range_with_len_more}
 use Rattle.model.specs.Lists.{every, keep, total, up_from}
 use Rattle.model.specs.Field.{unless}
 use Rattle.model.specs.Answers.{lent}
@@ -20,7 +22,7 @@ use Rattle.model.specs.declared.Refusal.{Refusal}
 use Rattle.model.specs.declared.Refusal.TheVariants.{TriggerStore}
 use Rattle.model.specs.Refusals.{refusal_code}
 use Rattle.model.proofs.RefusalLaws.{refusal-code-suc}
-use Rattle.model.specs.Crontab.{until, is_blank, lowest, highest, is_asterisk, is_pattern, covers, field_fits, field_covers, field_free, starts, minutes, day_here, day_bit, days, of_the_form, every_date, has_room, refusal, trigger_words, table_words, crontab}
+use Rattle.model.specs.Crontab.{field_fits, field_covers, field_free, starts, minutes, day_here, day_bit, days, of_the_form, every_date, has_room, refusal, trigger_words, table_words, crontab}
 use Rattle.crontab.specs.Scanned.{written, Marked, marked, marked_minutes, form_refusal}
 
 -- MARKS
@@ -59,6 +61,33 @@ module _ (p : ℕ → Bool) (t : ℕ) (h : t < 1440) {r : Bool} (e : r ≡ p t) 
   unfolding left
   left-off q = let n : t + 1 ≡ suc t = add-one t in rw (more, n, ← e, q)
 
+-- what a filter over a range keeps
+keep-range : (p : ℕ → Bool) (i n : ℕ) → filter p (range_with_len i n) ≡ keep p (up_from i n)
+keep-range p i zero = refl
+keep-range p i (suc n) = go (p i) (keep-range p (i + 1) n ∙ ap (λ j. keep p (up_from j n)) (add-one i))
+  where
+    go : (t : Bool) → filter p (range_with_len (i + 1) n) ≡ keep p (up_from (suc i) n)
+        → cond t (i ∷ filter p (range_with_len (i + 1) n)) (filter p (range_with_len (i + 1) n)) ≡ cond t (i ∷ keep p (up_from (suc i) n)) (keep p (up_from (suc i) n))
+    go true e = rw e
+    go false e = e
+
+keep-most : (p : ℕ → Bool) (i n : ℕ) → length (keep p (up_from i n)) ≤ n
+keep-most p i zero = omega arith
+keep-most p i (suc n) = go (p i) (keep-most p (suc i) n)
+  where
+    go : (t : Bool) → length (keep p (up_from (suc i) n)) ≤ n → length (cond t (i ∷ keep p (up_from (suc i) n)) (keep p (up_from (suc i) n))) ≤ suc n
+    go true h = omega arith
+    go false h = omega arith
+
+module _ (hours mins : List Bool) where
+  pub marked-of-day : filter (marked hours mins) (range_with_len 0 1440) ≡ marked_minutes hours mins
+  unfolding marked_minutes
+  marked-of-day = keep-range (marked hours mins) 0 1440
+
+  pub marked-most : length (marked_minutes hours mins) ≤ 1440
+  unfolding marked_minutes
+  marked-most = keep-most (marked hours mins) 0 1440
+
 keep_same : (f g : ℕ → Bool) (i n : ℕ) → ((x : ℕ) → i ≤ x → x < i + n → f x ≡ g x) → keep f (up_from i n) ≡ keep g (up_from i n)
 keep_same f g i zero h = refl
 keep_same f g i (suc n) h = rw (h i (omega arith) (omega arith), keep_same f g (suc i) n (λ x a b. h x (omega arith) (omega arith)))
@@ -74,43 +103,42 @@ marked-minutes l hours mins a b =
     rw (a.same (t / 60) h, b.same (t % 60) m))
 
 -- DAYS
-pub power-of : (d : ℕ) → d < 7 → get_or (1 ∷ 2 ∷ 4 ∷ 8 ∷ 16 ∷ 32 ∷ 64 ∷ []) d 0 ≡ 2 ^ d
-power-of zero h = refl
-power-of (suc zero) h = refl
-power-of (suc (suc zero)) h = refl
-power-of (suc (suc (suc zero))) h = refl
-power-of (suc (suc (suc (suc zero)))) h = refl
-power-of (suc (suc (suc (suc (suc zero))))) h = refl
-power-of (suc (suc (suc (suc (suc (suc zero)))))) h = refl
-power-of (suc (suc (suc (suc (suc (suc (suc d))))))) h = absurd (omega arith)
-
-power-most : (d : ℕ) → get_or (1 ∷ 2 ∷ 4 ∷ 8 ∷ 16 ∷ 32 ∷ 64 ∷ []) d 0 ≤ 64
-power-most zero = omega arith
-power-most (suc zero) = omega arith
-power-most (suc (suc zero)) = omega arith
-power-most (suc (suc (suc zero))) = omega arith
-power-most (suc (suc (suc (suc zero)))) = omega arith
-power-most (suc (suc (suc (suc (suc zero))))) = omega arith
-power-most (suc (suc (suc (suc (suc (suc zero)))))) = omega arith
-power-most (suc (suc (suc (suc (suc (suc (suc d))))))) = omega arith
+-- the shift that the code makes
+shift-is : (n : ℕ) → n < 7 → (1 * 2 ^ n % 4294967296 ≡ 2 ^ n) × (1 * 2 ^ n % 4294967296 ≤ 64)
+shift-is zero h = (refl, omega arith)
+shift-is (suc zero) h = (refl, omega arith)
+shift-is (suc (suc zero)) h = (refl, omega arith)
+shift-is (suc (suc (suc zero))) h = (refl, omega arith)
+shift-is (suc (suc (suc (suc zero)))) h = (refl, omega arith)
+shift-is (suc (suc (suc (suc (suc zero))))) h = (refl, omega arith)
+shift-is (suc (suc (suc (suc (suc (suc zero)))))) h = (refl, omega arith)
+shift-is (suc (suc (suc (suc (suc (suc (suc d))))))) h = absurd (omega arith)
 
 module _ (l : List ℕ) (sunday d : ℕ) (r : Bool) (e : r ≡ field_covers l 4 d) where
   pub bit-off : not r ≡ true → (0 ≡ day_bit l sunday d) × (0 ≤ 64)
   bit-off n = (rw (← e, not-true r n), omega arith)
 
-  pub bit-on : not r ≡ false
-      → (get_or (1 ∷ 2 ∷ 4 ∷ 8 ∷ 16 ∷ 32 ∷ 64 ∷ []) (day_here sunday d) 0 ≡ day_bit l sunday d) × (get_or (1 ∷ 2 ∷ 4 ∷ 8 ∷ 16 ∷ 32 ∷ 64 ∷ []) (day_here sunday d) 0 ≤ 64)
-  bit-on n = (rw (← e, not-false r n) (power-of (day_here sunday d) (mod-lt (sunday + d) {m = 7} (lit< tt))), power-most (day_here sunday d))
+  pub bit-on : not r ≡ false → (1 * 2 ^ day_here sunday d % 4294967296 ≡ day_bit l sunday d) × (1 * 2 ^ day_here sunday d % 4294967296 ≤ 64)
+  bit-on n =
+      let k = shift-is (day_here sunday d) (mod-lt (sunday + d) {m = 7} (lit< tt)) in
+      (rw (← e, not-false r n) k.0, k.1)
 
-pub total-more : (f : ℕ → ℕ) (d x b : ℕ) → x ≡ total d f → b ≡ f d → x + b ≡ total (d + 1) f
+-- a sum over the numbers below n
+total-sum : (f : ℕ → ℕ) (n : ℕ) → sum_by (λ x. x) (map f (range_with_len 0 n)) ≡ total n f
 unfolding total
-total-more f d x b e q = rw (add-one, total, ← e, ← q)
+total-sum f zero = refl
+total-sum f (suc n) =
+    ap (λ k. sum_by (λ x. x) (map f (range_with_len 0 k))) (sym (add-one n)) ∙ (sum_by-map-range_with_len_more (λ x. x) f 0 n n (omega arith) ∙ ap (λ s. s + f n) (total-sum f n))
 
-pub days-is : (l : List ℕ) (sunday d x : ℕ) → d ≤ 7 → 7 ≤ d → x ≡ total d (day_bit l sunday) → x ≡ days l sunday
+pub days-sum : (l : List ℕ) (sunday : ℕ) → sum_by (λ x. x) (map (day_bit l sunday) (range_with_len 0 7)) ≡ days l sunday
 unfolding days
-days-is l sunday d x a b e = let q : d ≡ 7 = omega arith in rw q at e
+days-sum l sunday = total-sum (day_bit l sunday) 7
 
 -- THE TABLE
+-- four words that are copied in
+pub four-put : (w : List ℕ) (at a b c d : ℕ) → at + 4 ≤ length w → take at w ++ ((a ∷ b ∷ c ∷ d ∷ []) ++ drop 4 (drop at w)) ≡ sets w at (a ∷ b ∷ c ∷ d ∷ [])
+four-put w at a b c d h = rw drop-drop (sym (sets-eq (a ∷ b ∷ c ∷ d ∷ []) w at h ∙ append_assoc (take at w) (a ∷ b ∷ c ∷ d ∷ []) (drop (at + 4) w)))
+
 set-behind : (xs ys : List ℕ) (i n v : ℕ) → length xs ≡ n → set (xs ++ ys) (n + i) v ≡ xs ++ set ys i v
 set-behind [] ys i n v e = let z : n + i ≡ i = omega arith in rw z
 set-behind (x ∷ xs) ys i zero v e = absurd (omega arith)
@@ -166,11 +194,8 @@ pub written_as : (ds n : ℕ) (w : List ℕ) {x ts us : List ℕ} → ts ≡ us 
 written_as ds n w e h = rw e at h
 
 pub write-on : (ds : ℕ) (p : ℕ → Bool) (t n : ℕ) (store x : List ℕ) {z : List ℕ} {r : Bool} → t < 1440 → r ≡ p t → r ≡ true
-    → x ≡ sets store (8 * n) (2 ∷ (t + 1 - 1) / 60 ∷ (t + 1 - 1) % 60 ∷ ds ∷ []) → written ds store n (left p t) ≡ z → written ds x (n + 1) (left p (t + 1)) ≡ z
-write-on ds p t n store x h e q s w =
-    let k : t + 1 - 1 ≡ t = omega arith in
-    let g = rw k at s in
-    rw g (rw (left-on p t h e q) at w)
+    → x ≡ sets store (8 * n) (2 ∷ t / 60 ∷ t % 60 ∷ ds ∷ []) → written ds store n (left p t) ≡ z → written ds x (n + 1) (left p (t + 1)) ≡ z
+write-on ds p t n store x h e q s w = rw s (rw (left-on p t h e q) at w)
 
 pub write-off : (ds : ℕ) (p : ℕ → Bool) (t n : ℕ) (store : List ℕ) {z : List ℕ} {r : Bool} → t < 1440 → r ≡ p t → r ≡ false
     → written ds store n (left p t) ≡ z → written ds store n (left p (t + 1)) ≡ z

@@ -110,8 +110,8 @@ take-rest l n = take_all (length l - n) (drop n l) (rw length-drop (omega arith)
 -- the blanks behind the first field, counted in what is left of the line
 pub behind-is : (l : List ℕ) {at : ℕ} → at ≡ until is_blank l → {r : Option ℕ} {n : ℕ}
     → (let rest = take (length l - at) (drop at l) in
-       r ≡ cond (ltb (position_or_len (λ b. not (is_blank b)) rest) (length rest)) (Some (position_or_len (λ b. not (is_blank b)) rest)) None
-       → n ≡ unwrap_or r (length rest) → take (length rest - n) (drop n rest) ≡ behind_first l)
+    r ≡ cond (ltb (position_or_len (λ b. not (is_blank b)) rest) (length rest)) (Some (position_or_len (λ b. not (is_blank b)) rest)) None
+    → n ≡ unwrap_or r (length rest) → take (length rest - n) (drop n rest) ≡ behind_first l)
 unfolding behind_first
 behind-is l {at = at} e {n = n} f q =
     let rest = take (length l - at) (drop at l) in

@@ -1,10 +1,10 @@
 -- What the parts of the reader find.
-use Rattle.std.specs.Prelude.{ℕ, ◌+◌, ◌-◌, ◌*◌, ◌≤◌, ◌<◌, ◌≡◌, Bool, false, cond, ◌&&◌, ◌||◌, List, [], ◌∷◌, ◌/◌, ◌%◌, eqb, leb, length, take, drop, get_or}
+use Rattle.std.specs.Prelude.{ℕ, ◌+◌, ◌*◌, ◌<◌, ◌≡◌, Bool, false, cond, ◌&&◌, List, [], ◌∷◌, ◌/◌, ◌%◌, leb, length, get_or}
 use Rattle.std.specs.Prelude.{Option, None, Some}
 use Rattle.std.proofs.lemmas.List.Edits.{sets}
 use Rattle.model.specs.Lists.{keep, up_from}
 use Rattle.model.specs.Field.{unless}
-use Rattle.model.specs.Crontab.{field, behind_first, of_the_form, every_date}
+use Rattle.model.specs.Crontab.{of_the_form, every_date}
 
 -- a number, if 32 bits hold it
 abbrev pub word_sized : Option ℕ → Option ℕ

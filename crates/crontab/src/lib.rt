@@ -64,6 +64,6 @@ pub fn read(line: &[u8], sunday: u32, triggers: &mut [u32]) -> Result<u32, Refus
         return Err(Refusal::TriggerStore);
     }
     let ds = table::days_of(line, sunday);
-    table::write(&hours, &minutes, ds, n, triggers);
+    table::write(&hours, &minutes, ds, triggers);
     Ok(n)
 }

@@ -50,12 +50,16 @@ pub fn is_asterisk(s: &[u8]) -> bool
 pub fn is_pattern(bounds: Bounds, s: &[u8]) -> bool
     ensures { result ≡ is_pattern bounds.lowest bounds.highest s.now }
 {
-    is_asterisk(s) || s.split(|b| *b == b',').all(|e| element(bounds, e).is_some())
+    is_asterisk(s)
+        || s.split(|b| *b == b',')
+            .all(|e| element(bounds, e).is_some())
 }
 
 // Whether an element holds the number v.
 pub fn covers(bounds: Bounds, s: &[u8], v: u32) -> bool
     ensures { result ≡ covers bounds.lowest bounds.highest s.now v }
 {
-    is_asterisk(s) || s.split(|b| *b == b',').any(|e| holds(element(bounds, e), v))
+    is_asterisk(s)
+        || s.split(|b| *b == b',')
+            .any(|e| holds(element(bounds, e), v))
 }

@@ -22,7 +22,10 @@ fn behind_first(text: &[u8]) -> &[u8]
     ensures { result.now ≡ behind_first text.now }
 {
     let rest = &text[first_length(text)..];
-    let blanks = rest.iter().position(|b| !is_blank(*b)).unwrap_or(rest.len());
+    let blanks = rest
+        .iter()
+        .position(|b| !is_blank(*b))
+        .unwrap_or(rest.len());
     &rest[blanks..]
 }
 

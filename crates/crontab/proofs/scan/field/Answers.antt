@@ -1,5 +1,4 @@
 -- `crontab::scan::field` meets its contract. Assumes nothing.
-use borrow.Author.Rules.{rules}
 use Rattle.crontab.proofs.Scans.{field-on, field-end}
 use Rattle.crontab.proofs.scan.field.Goals as goal
 

@@ -1,17 +1,19 @@
 -- `crontab::table::days_of` meets its contract. Assumes nothing.
-use Rattle.fields.proofs.Total.{empty}
+use mathlib.Core.Path.{◌∙◌}
 use native.Mathlib.Omega.{arith}
-use Rattle.crontab.proofs.Lines.{total-more, days-is}
+use borrow.Author.Rules.{rules}
+use Rattle.std.proofs.lemmas.Iterator.{YieldsList-from_range, YieldsList-from_map}
+use Rattle.std.proofs.lemmas.Iterator.Adapters.{fits_from_length, at_most_from_yields_List}
+use Rattle.std.proofs.lemmas.Iterator.Consumers.{sum_from_yields_List}
+use Rattle.model.specs.Crontab.{day_bit}
+use Rattle.crontab.proofs.Lines.{days-sum}
 use Rattle.crontab.proofs.table.days_of.Goals as goal
 
-pub loop-d-init : goal.loop-d-init
-loop-d-init c = (omega arith, (omega arith, empty _))
-
-pub overflow_add-ds : goal.overflow_add-ds
-overflow_add-ds c = omega (arith, c.day_bit-ds.ensures.1, c.loop-d.invariant.1.0)
-
-pub loop-d-preserved : goal.loop-d-preserved
-loop-d-preserved c = (omega arith, (omega (arith, c.day_bit-ds.ensures.1, c.loop-d.invariant.1.0), total-more _ _ _ _ c.loop-d.invariant.1.1 c.day_bit-ds.ensures.0))
+pub sum-requires-clause-fits : goal.sum-requires-clause-fits
+sum-requires-clause-fits c =
+    fits_from_length _ _ 7 _ (at_most_from_yields_List (YieldsList-from_range 0 7 7 c.map.ensures.source (omega arith)) (omega arith)) c.map.ensures.closure (omega arith) (λ x r q k. search rules)
 
 pub returns : goal.returns
-returns c = days-is c.args.line.now c.args.sunday c.loop-d.d _ c.loop-d.invariant.0 c.loop-d-test.false c.loop-d.invariant.1.1
+returns c =
+    sum_from_yields_List c.map.result c.sum.result c.sum.ensures.ran
+    (YieldsList-from_map _ (day_bit c.args.line.now c.args.sunday) (YieldsList-from_range 0 7 7 c.map.ensures.source (omega arith)) c.map.ensures.closure (λ x r q k. search rules)) ∙ days-sum c.args.line.now c.args.sunday

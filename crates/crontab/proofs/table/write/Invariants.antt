@@ -1,6 +1,6 @@
 -- `crontab::table::write` meets its contract. Assumes nothing.
 use mathlib.Core.Path.{◌≡◌}
-use Prim.Native.Nat.{◌≤◌, ◌-◌, ◌+◌}
+use Prim.Native.Nat.{◌≤◌, ◌+◌}
 use lib.ListN.{length}
 use Rattle.crontab.specs.Scanned.{marked, marked_minutes, written}
 use Rattle.crontab.proofs.Lines.{left}
@@ -11,8 +11,5 @@ invariant-loop-t l =
     (l.t ≤ 1440)
     × ((l.n ≤ l.t)
     × ((length l.store ≡ length l.initial.store)
-    × ((l.n + length (left (marked l.hours l.minutes) l.t) ≡ l.count)
+    × ((l.n + length (left (marked l.hours l.minutes) l.t) ≡ length (marked_minutes l.hours l.minutes))
     × (written l.ds l.store l.n (left (marked l.hours l.minutes) l.t) ≡ written l.ds l.initial.store 0 (marked_minutes l.hours l.minutes)))))
-
-abbrev pub decreases-loop-t : goal.decreases-loop-t
-decreases-loop-t l = 1440 - l.t
