@@ -1,4 +1,4 @@
 pub mod Laws
 pub mod Numbers
-pub mod LastArm
 pub mod Holding
+pub mod Kept

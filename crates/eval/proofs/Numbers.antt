@@ -38,6 +38,6 @@ unfolding compare_i64
 no-comparison cmp a b h = sym (get_or-eq_default (eq_z a b ∷ not (eq_z a b) ∷ le_z b a ∷ le_z a b ∷ lt_z b a ∷ lt_z a b ∷ []) false h)
 
 -- a bit past the word
-pub no-day : (days day : ℕ) → days < 2 ^ 32 → 32 ≤ day → false ≡ has_day days day
+pub no_day : (days day : ℕ) → days < 2 ^ 32 → 32 ≤ day → false ≡ has_day days day
 unfolding has_day
-no-day days day h l = let e : days / 2 ^ day ≡ 0 = div-eq_of_lt (lt_of_lt_of_le h (pow_mono l)) in rw e
+no_day days day h l = let e : days / 2 ^ day ≡ 0 = div-eq_of_lt (lt_of_lt_of_le h (pow_mono l)) in rw e

@@ -11,6 +11,8 @@ use Rattle.model.specs.declared.Value.{Value}
 use Rattle.model.specs.declared.TimeBound.{TimeBound}
 use Rattle.model.specs.declared.VarValue.{VarValue}
 use Rattle.model.specs.declared.Condition.{Condition}
+use Rattle.state.specs.Meaning.{meaning}
+use Rattle.eval.specs.declared.Env.{Env as Given}
 use Rattle.eval.specs.Answers.{env_of}
 
 module _ (snapshot : List ℕ) where
@@ -34,42 +36,29 @@ module _ (snapshot : List ℕ) where
   abbrev pub Decides : Condition → Option Bool → Type 0
   Decides c r = (image : List ℕ) (flat : List (List FlatStep)) (s : Rest) → r ≡ eval_condition (env_of snapshot image flat) s c
 
-  -- how old the last activation is
-  abbrev pub IsOlder : ℕ → Option ℕ → Bool → Type 0
-  IsOlder ms last r = (image : List ℕ) (flat : List (List FlatStep)) (s : Rest) → r ≡ older_than (env_of snapshot image flat) s ms last
+abbrev pub BoundAt : List ℕ → List ℕ → ℕ → Option ℕ → Type 0
+BoundAt snapshot image i r = (flat : List (List FlatStep)) (s : Rest) → r ≡ bound_at (env_of snapshot image flat) s i
 
-module _ (snapshot image : List ℕ) where
-  abbrev pub ValueAt : Rest → ℕ → Option ℤ → Type 0
-  ValueAt s i r = (flat : List (List FlatStep)) → r ≡ value_at (env_of snapshot image flat) s i
+module _ (given : Given) where
+  abbrev env : List (List FlatStep) → Env
+  env flat = env_of given.snapshot.now given.image.now flat
 
-  abbrev pub BoundAt : ℕ → Option ℕ → Type 0
-  BoundAt i r = (flat : List (List FlatStep)) (s : Rest) → r ≡ bound_at (env_of snapshot image flat) s i
+  abbrev s : Rest
+  s = (meaning given.state.now).rest
 
-  abbrev pub Evaluates : Rest → Condition → Option Bool → Type 0
-  Evaluates s c r = (flat : List (List FlatStep)) → r ≡ eval_condition (env_of snapshot image flat) s c
+  abbrev pub ValueAt : ℕ → Option ℤ → Type 0
+  ValueAt i r = (flat : List (List FlatStep)) → r ≡ value_at (env flat) s i
 
-  -- one that does not look at the state
-  abbrev pub EvaluatesAny : Condition → Option Bool → Type 0
-  EvaluatesAny c r = (s : Rest) → Evaluates s c r
+  abbrev pub Evaluates : Condition → Option Bool → Type 0
+  Evaluates c r = (flat : List (List FlatStep)) → r ≡ eval_condition (env flat) s c
 
-  -- a lamp's level, and a variable, against a value of the image
-  abbrev pub LevelIs : Rest → ℕ → Option ℕ → ℕ → Option Bool → Type 0
-  LevelIs s cmp level i r = (flat : List (List FlatStep)) → r ≡ level_is (env_of snapshot image flat) s cmp level i
-
-  abbrev pub ComparesVar : Rest → Option VarValue → ℕ → ℕ → ℕ → Option Bool → Type 0
-  ComparesVar s x cmp tag i r = (flat : List (List FlatStep)) → r ≡ compare_var (env_of snapshot image flat) s x cmp (is_one tag) i
+  -- a lamp's level against a value of the image
+  abbrev pub LevelIs : ℕ → Option ℕ → ℕ → Option Bool → Type 0
+  LevelIs cmp level i r = (flat : List (List FlatStep)) → r ≡ level_is (env flat) s cmp level i
 
   -- the conditions of a rule
-  abbrev pub RuleHolds : Rest → ℕ → Option Bool → Type 0
-  RuleHolds s rule r = (flat : List (List FlatStep)) → r ≡ conditions_hold (env_of snapshot image flat) s (conditions_of_rule image rule)
+  abbrev pub RuleHolds : ℕ → Option Bool → Type 0
+  RuleHolds rule r = (flat : List (List FlatStep)) → r ≡ conditions_hold (env flat) s (conditions_of_rule given.image.now rule)
 
-  abbrev pub ConditionAt : Rest → ℕ → Option Bool → Type 0
-  ConditionAt s i r = (flat : List (List FlatStep)) → r ≡ condition_at (env_of snapshot image flat) s i
-
--- a condition that looks at the image and the state
-abbrev pub EvaluatesIn : List ℕ → Rest → Condition → Option Bool → Type 0
-EvaluatesIn image s c r = (snapshot : List ℕ) → Evaluates snapshot image s c r
-
--- at the state alone
-abbrev pub EvaluatesKept : Rest → Condition → Option Bool → Type 0
-EvaluatesKept s c r = (e : Env) → r ≡ eval_condition e s c
+  abbrev pub ConditionAt : ℕ → Option Bool → Type 0
+  ConditionAt i r = (flat : List (List FlatStep)) → r ≡ condition_at (env flat) s i

@@ -1,8 +1,7 @@
 // Tests and comparisons.
 ghost use Rattle.std.specs.Prelude.{◌≡◌};
 ghost use Rattle.model.specs.Arith.{compare_i64};
-ghost use Rattle.model.specs.Eval.{equal_b, compare_text};
-ghost use Rattle.model.specs.World.{is_one};
+ghost use Rattle.model.specs.Eval.{compare_text};
 
 // Eq, Ne, Ge, Le, Gt, Lt. The number is a word of the image, and the specification compares by it: an enum would be told from the
 // word in the same six arms.
@@ -30,11 +29,4 @@ pub fn compare_text(cmp: u32, left: u32, right: u32) -> bool
         1 => left != right,
         _ => false,
     }
-}
-
-// Whether a bool is that of a word: 0 false, 1 true.
-pub fn same(b: bool, word: u32) -> bool
-    ensures { result ≡ equal_b b (is_one word) }
-{
-    b == (word == 1)
 }

@@ -1,13 +1,11 @@
 // The condition of a record, and the conditions of a rule.
-ghost use Rattle.std.specs.Prelude.{◌≡◌, true, ◌<◌};
+ghost use Rattle.std.specs.Prelude.{◌≡◌, ◌<◌};
 ghost use Rattle.model.specs.Image.{size_of};
 ghost use Rattle.model.specs.Rows.{rules};
 ghost use Rattle.image.specs.Accepted.{Accepted};
-ghost use Rattle.image.specs.Sized.{Sized};
-ghost use Rattle.state.specs.Meaning.{Sound, meaning};
-ghost use Rattle.eval.specs.Dispatch.{past_groups, past_devices};
 ghost use Rattle.eval.specs.Equals.{Evaluates, ConditionAt, RuleHolds};
 
+use crate::Env;
 use crate::state_conditions::{compare_var, last_fired_older_than, rule_enabled, timer_running};
 use crate::world_conditions::{
     controller_active, day_in, device_online, group_state, hcl_state, input_light_is,
@@ -15,123 +13,86 @@ use crate::world_conditions::{
 };
 use model::Condition;
 
-// Kinds 11 on: rules, timers, the controller, variables.
-fn eval_state_condition(
-    snapshot: &[u32],
-    image: &[u32],
-    v: &[u32],
-    condition: Condition,
-) -> Option<bool>
-    requires sized { Sized image.now }
-    requires sound { Sound v.now }
-    requires condition_value { past_devices condition ≡ true }
-    ensures { Evaluates snapshot.now image.now (meaning v.now).rest condition result }
+// One arm for each kind.
+// kept: a closure or a table for each kind would hide what this match says, and the kinds are the image's
+pub fn eval_condition(env: &Env, condition: Condition) -> Option<bool>
+    ensures { Evaluates env.now condition result }
 {
     match condition {
-        Condition::RuleEnabled { rule } => rule_enabled(image, v, rule),
-        Condition::LastFiredOlderThan { rule, than_ms } => last_fired_older_than(
-            snapshot, image, v, rule, than_ms,
-        ),
-        Condition::TimerRunning { timer } => timer_running(v, timer),
-        Condition::ControllerActive => controller_active(snapshot),
-        Condition::VarCompare {
-            name,
+        Condition::TimeInRange { start, end } => time_in_range(env, start, end),
+        Condition::DayIn { days } => day_in(env.snapshot, days),
+        Condition::SunIs { up } => sun_is(env.snapshot, up),
+        Condition::LampIs { adapter, id, on } => lamp_is(env.snapshot, adapter, id, on),
+        Condition::LampLevel {
+            adapter,
+            id,
             cmp,
-            tag,
-            operand,
-        } => compare_var(snapshot, image, v, name, cmp, tag, operand),
-        _ => None,
-    }
-}
-
-// Kinds 7 on: first those of inputs, schedules and devices.
-fn eval_device_condition(
-    snapshot: &[u32],
-    image: &[u32],
-    v: &[u32],
-    condition: Condition,
-) -> Option<bool>
-    requires sized { Sized image.now }
-    requires sound { Sound v.now }
-    requires condition_value { past_groups condition ≡ true }
-    ensures { Evaluates snapshot.now image.now (meaning v.now).rest condition result }
-{
-    match condition {
+            value,
+        } => lamp_level_is(env, adapter, id, cmp, value),
+        Condition::LampCct {
+            adapter,
+            id,
+            cmp,
+            value,
+        } => lamp_cct_is(env, adapter, id, cmp, value),
+        Condition::GroupState { adapter, id, state } => group_state(
+            env.snapshot,
+            adapter,
+            id,
+            state,
+        ),
         Condition::InputOccupancy {
             adapter,
             address,
             instance,
             occupied,
-        } => input_occupancy(snapshot, adapter, address, instance, occupied),
+        } => input_occupancy(env.snapshot, adapter, address, instance, occupied),
         Condition::InputLight {
             adapter,
             address,
             instance,
             above,
             threshold,
-        } => input_light_is(
-            snapshot, image, v, adapter, address, instance, above, threshold,
+        } => input_light_is(env, adapter, address, instance, above, threshold),
+        Condition::HclState { target, state } => hcl_state(env.snapshot, target, state),
+        Condition::DeviceOnline { adapter, address } => device_online(
+            env.snapshot,
+            adapter,
+            address,
         ),
-        Condition::HclState { target, state } => hcl_state(snapshot, target, state),
-        Condition::DeviceOnline { adapter, address } => device_online(snapshot, adapter, address),
-        _ => eval_state_condition(snapshot, image, v, condition),
-    }
-}
-
-// Kinds 0 on: first times, lamps and groups.
-pub fn eval_condition(
-    snapshot: &[u32],
-    image: &[u32],
-    v: &[u32],
-    condition: Condition,
-) -> Option<bool>
-    requires sized { Sized image.now }
-    requires sound { Sound v.now }
-    ensures { Evaluates snapshot.now image.now (meaning v.now).rest condition result }
-{
-    match condition {
-        Condition::TimeInRange { start, end } => time_in_range(snapshot, image, start, end),
-        Condition::DayIn { days } => day_in(snapshot, days),
-        Condition::SunIs { up } => sun_is(snapshot, up),
-        Condition::LampIs { adapter, id, on } => lamp_is(snapshot, adapter, id, on),
-        Condition::LampLevel {
-            adapter,
-            id,
+        Condition::RuleEnabled { rule } => rule_enabled(env, rule),
+        Condition::LastFiredOlderThan { rule, than_ms } => last_fired_older_than(
+            env, rule, than_ms,
+        ),
+        Condition::TimerRunning { timer } => timer_running(env, timer),
+        Condition::ControllerActive => controller_active(env.snapshot),
+        Condition::VarCompare {
+            name,
             cmp,
-            value,
-        } => lamp_level_is(snapshot, image, v, adapter, id, cmp, value),
-        Condition::LampCct {
-            adapter,
-            id,
-            cmp,
-            value,
-        } => lamp_cct_is(snapshot, image, v, adapter, id, cmp, value),
-        Condition::GroupState { adapter, id, state } => group_state(snapshot, adapter, id, state),
-        _ => eval_device_condition(snapshot, image, v, condition),
+            tag,
+            operand,
+        } => compare_var(env, name, cmp, tag, operand),
+        Condition::NoCondition => None,
     }
 }
 
 // Condition i of the image.
-pub fn condition_at(snapshot: &[u32], image: &[u32], v: &[u32], i: u32) -> Option<bool>
-    requires sized { Sized image.now }
-    requires sound { Sound v.now }
-    ensures { ConditionAt snapshot.now image.now (meaning v.now).rest i result }
+pub fn condition_at(env: &Env, i: u32) -> Option<bool>
+    ensures { ConditionAt env.now i result }
 {
-    let condition = image::record::condition_of(image::record::record_at(image, 3, i));
-    eval_condition(snapshot, image, v, condition)
+    let condition = image::record::condition_of(image::record::record_at(env.image, 3, i));
+    eval_condition(env, condition)
 }
 
 // The conditions of a rule: the first that does not hold decides.
-pub fn conditions_hold(snapshot: &[u32], image: &[u32], v: &[u32], rule: u32) -> Option<bool>
-    requires accepted { Accepted image.now }
-    requires sound { Sound v.now }
-    requires rule_bound { rule < size_of image.now rules }
-    ensures { RuleHolds snapshot.now image.now (meaning v.now).rest rule result }
+pub fn conditions_hold(env: &Env, rule: u32) -> Option<bool>
+    requires { Accepted env.now.image.now × (rule < size_of env.now.image.now rules) }
+    ensures { RuleHolds env.now rule result }
 {
-    let n = image::rule::condition_count(image, rule);
+    let n = image::rule::condition_count(env.image, rule);
     for k in 0..n {
-        let condition = image::rule::condition_at(image, rule, k);
-        let holds = eval_condition(snapshot, image, v, condition)?;
+        let condition = image::rule::condition_at(env.image, rule, k);
+        let holds = eval_condition(env, condition)?;
         if !holds {
             return Some(false);
         }

@@ -18,13 +18,11 @@ pub fn sun_is_up(snapshot: &[u32]) -> Option<bool>
 }
 
 // Whether a weekday is in a set: bit d for weekday d.
+#[tactic(auto, using(crate::proofs::Numbers::no_day), unfolding(model::specs::Arith::has_day))]
 pub fn has_day(days: u32, day: u32) -> bool
     ensures { result ≡ has_day days day }
 {
-    if 32 <= day {
-        return false;
-    }
-    (days >> day) % 2 == 1
+    days.checked_shr(day).is_some_and(|d| d % 2 == 1)
 }
 
 // Both ends count. A range whose start is after its end goes past midnight.

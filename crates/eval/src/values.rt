@@ -1,11 +1,10 @@
 // Readings and values.
 ghost use Rattle.std.specs.Prelude.{◌≡◌};
-ghost use Rattle.model.specs.Eval.{as_int, number};
-ghost use Rattle.model.specs.State.{var_named};
-ghost use Rattle.image.specs.Sized.{Sized};
+ghost use Rattle.model.specs.Eval.{number};
 ghost use Rattle.state.specs.Meaning.{Sound, meaning};
 ghost use Rattle.eval.specs.Equals.{ReadsIn, ValueIn, ValueAt};
 
+use crate::Env;
 use crate::time::sun_is_up;
 use model::{Reading, Value, VarValue};
 
@@ -16,18 +15,8 @@ fn number(w: Option<u32>) -> Option<i64>
     Some(i64::from(w?))
 }
 
-// What an integer variable holds.
-fn variable(v: &[u32], name: u32) -> Option<i64>
-    requires { Sound v.now }
-    ensures { result ≡ as_int (var_named (meaning v.now).rest name) }
-{
-    match state::variables::variable(v, name)? {
-        VarValue::Int(n) => Some(words::as_i64(n)),
-        VarValue::Text(_) => None,
-    }
-}
-
 // No event stands behind these calls.
+// kept: one match over the kinds, which closures would hide
 #[tactic(auto, unfolding(model::specs::Eval::eval_reading))]
 pub fn eval_reading(snapshot: &[u32], v: &[u32], reading: Reading) -> Option<i64>
     requires { Sound v.now }
@@ -56,7 +45,10 @@ pub fn eval_reading(snapshot: &[u32], v: &[u32], reading: Reading) -> Option<i64
         Reading::SunRise => Some(i64::from(world::sun(snapshot)?.sunrise_min)),
         Reading::SunSet => Some(i64::from(world::sun(snapshot)?.sunset_min)),
         Reading::SunIsUp => Some(i64::from(sun_is_up(snapshot)?)),
-        Reading::Var(name) => variable(v, name),
+        Reading::Var(name) => match state::variables::variable(v, name)? {
+            VarValue::Int(n) => Some(n.cast_signed()),
+            VarValue::Text(_) => None,
+        },
         Reading::EventValue
         | Reading::EventDevice
         | Reading::EventInstance
@@ -64,28 +56,27 @@ pub fn eval_reading(snapshot: &[u32], v: &[u32], reading: Reading) -> Option<i64
     }
 }
 
-#[tactic(auto, unfolding(model::specs::Eval::eval_value))]
+#[tactic(auto, unfolding(model::specs::Eval::eval_value, words::specs::Signed::clamped))]
 pub fn eval_value(snapshot: &[u32], v: &[u32], value: Value) -> Option<i64>
     requires { Sound v.now }
     ensures { ValueIn snapshot.now (meaning v.now).rest value result }
 {
     match value {
-        Value::Literal { low, high } => Some(words::join_signed(low, high)),
+        Value::Literal { low, high } => Some(words::join_words(low, high).cast_signed()),
         Value::Reading { reading } => eval_reading(snapshot, v, reading),
         Value::Offset { reading, delta } => {
             let x = eval_reading(snapshot, v, reading)?;
-            Some(words::add_signed_word(x, delta))
+            Some(x.saturating_add(i64::from(delta.cast_signed())))
         }
         Value::NoValue => None,
     }
 }
 
 // Value i of the image.
-pub fn value_at(snapshot: &[u32], image: &[u32], v: &[u32], i: u32) -> Option<i64>
-    requires sized { Sized image.now }
-    requires sound { Sound v.now }
-    ensures { ValueAt snapshot.now image.now (meaning v.now).rest i result }
+#[tactic(auto, using(crate::proofs::Kept::open_sound))]
+pub fn value_at(env: &Env, i: u32) -> Option<i64>
+    ensures { ValueAt env.now i result }
 {
-    let value = image::record::value_of(image::record::record_at(image, 5, i));
-    eval_value(snapshot, v, value)
+    let value = image::record::value_of(image::record::record_at(env.image, 5, i));
+    eval_value(env.snapshot, env.state, value)
 }

@@ -1,23 +1,21 @@
 // The conditions on the world, one function for each kind.
 ghost use Rattle.std.specs.Prelude.{◌≡◌};
 ghost use Rattle.model.specs.declared.Condition.TheVariants as condition;
-ghost use Rattle.image.specs.Sized.{Sized};
-ghost use Rattle.state.specs.Meaning.{Sound, meaning};
-ghost use Rattle.eval.specs.Equals.{Decides, Evaluates, EvaluatesAny, LevelIs};
+ghost use Rattle.eval.specs.Equals.{Decides, Evaluates, Evaluates, LevelIs};
 
-use crate::compare::{compare_i64, same};
+use crate::Env;
+use crate::compare::compare_i64;
 use crate::time::{bound_at, has_day, minute_in_range, sun_is_up};
 use crate::values::{eval_reading, value_at};
 use model::Reading;
 
 #[tactic(auto, unfolding(model::specs::Eval::eval_condition))]
-pub fn time_in_range(snapshot: &[u32], image: &[u32], start: u32, end: u32) -> Option<bool>
-    requires { Sized image.now }
-    ensures { EvaluatesAny snapshot.now image.now (condition.TimeInRange start end) result }
+pub fn time_in_range(env: &Env, start: u32, end: u32) -> Option<bool>
+    ensures { Evaluates env.now (condition.TimeInRange start end) result }
 {
-    let wall = world::wall(snapshot)?;
-    let from = bound_at(snapshot, image, start)?;
-    let to = bound_at(snapshot, image, end)?;
+    let wall = world::wall(env.snapshot)?;
+    let from = bound_at(env.snapshot, env.image, start)?;
+    let to = bound_at(env.snapshot, env.image, end)?;
     Some(minute_in_range(u64::from(wall.minutes_of_day), from, to))
 }
 
@@ -34,7 +32,7 @@ pub fn sun_is(snapshot: &[u32], up: u32) -> Option<bool>
     ensures { Decides snapshot.now (condition.SunIs up) result }
 {
     let is_up = sun_is_up(snapshot)?;
-    Some(same(is_up, up))
+    Some(is_up == (up == 1))
 }
 
 #[tactic(auto, unfolding(model::specs::Eval::eval_condition))]
@@ -42,25 +40,16 @@ pub fn lamp_is(snapshot: &[u32], adapter: u32, id: u32, on: u32) -> Option<bool>
     ensures { Decides snapshot.now (condition.LampIs adapter id on) result }
 {
     let lamp = world::lamp(snapshot, adapter, id)?;
-    Some(same(lamp.is_on, on))
+    Some(lamp.is_on == (on == 1))
 }
 
 // A lamp without a level is at none, and the value is not read.
-fn level_is(
-    snapshot: &[u32],
-    image: &[u32],
-    v: &[u32],
-    cmp: u32,
-    level: Option<u32>,
-    value: u32,
-) -> Option<bool>
-    requires sized { Sized image.now }
-    requires sound { Sound v.now }
-    ensures { LevelIs snapshot.now image.now (meaning v.now).rest cmp level value result }
+fn level_is(env: &Env, cmp: u32, level: Option<u32>, value: u32) -> Option<bool>
+    ensures { LevelIs env.now cmp level value result }
 {
     match level {
         Some(n) => {
-            let right = value_at(snapshot, image, v, value)?;
+            let right = value_at(env, value)?;
             Some(compare_i64(cmp, i64::from(n), right))
         }
         None => Some(false),
@@ -68,39 +57,19 @@ fn level_is(
 }
 
 #[tactic(auto, unfolding(model::specs::Eval::eval_condition))]
-pub fn lamp_level_is(
-    snapshot: &[u32],
-    image: &[u32],
-    v: &[u32],
-    adapter: u32,
-    id: u32,
-    cmp: u32,
-    value: u32,
-) -> Option<bool>
-    requires sized { Sized image.now }
-    requires sound { Sound v.now }
-    ensures { Evaluates snapshot.now image.now (meaning v.now).rest (condition.LampLevel adapter id cmp value) result }
+pub fn lamp_level_is(env: &Env, adapter: u32, id: u32, cmp: u32, value: u32) -> Option<bool>
+    ensures { Evaluates env.now (condition.LampLevel adapter id cmp value) result }
 {
-    let lamp = world::lamp(snapshot, adapter, id)?;
-    level_is(snapshot, image, v, cmp, lamp.level, value)
+    let lamp = world::lamp(env.snapshot, adapter, id)?;
+    level_is(env, cmp, lamp.level, value)
 }
 
-#[tactic(auto, unfolding(model::specs::Eval::eval_condition))]
-pub fn lamp_cct_is(
-    snapshot: &[u32],
-    image: &[u32],
-    v: &[u32],
-    adapter: u32,
-    id: u32,
-    cmp: u32,
-    value: u32,
-) -> Option<bool>
-    requires sized { Sized image.now }
-    requires sound { Sound v.now }
-    ensures { Evaluates snapshot.now image.now (meaning v.now).rest (condition.LampCct adapter id cmp value) result }
+#[tactic(auto, using(crate::proofs::Kept::open_sound), unfolding(model::specs::Eval::eval_condition))]
+pub fn lamp_cct_is(env: &Env, adapter: u32, id: u32, cmp: u32, value: u32) -> Option<bool>
+    ensures { Evaluates env.now (condition.LampCct adapter id cmp value) result }
 {
-    let left = eval_reading(snapshot, v, Reading::LampCct(adapter, id))?;
-    let right = value_at(snapshot, image, v, value)?;
+    let left = eval_reading(env.snapshot, env.state, Reading::LampCct(adapter, id))?;
+    let right = value_at(env, value)?;
     Some(compare_i64(cmp, left, right))
 }
 
@@ -128,27 +97,27 @@ pub fn input_occupancy(
 {
     let input = world::input(snapshot, adapter, address, instance)?;
     let word = input.occupied?;
-    Some(same(word != 0, occupied))
+    Some((word != 0) == (occupied == 1))
 }
 
 // Above is Gt, below Lt.
-#[tactic(auto, unfolding(model::specs::Eval::eval_condition))]
+#[tactic(auto, using(crate::proofs::Kept::open_sound), unfolding(model::specs::Eval::eval_condition))]
 pub fn input_light_is(
-    snapshot: &[u32],
-    image: &[u32],
-    v: &[u32],
+    env: &Env,
     adapter: u32,
     address: u32,
     instance: u32,
     above: u32,
     threshold: u32,
 ) -> Option<bool>
-    requires sized { Sized image.now }
-    requires sound { Sound v.now }
-    ensures { Evaluates snapshot.now image.now (meaning v.now).rest (condition.InputLight adapter address instance above threshold) result }
+    ensures { Evaluates env.now (condition.InputLight adapter address instance above threshold) result }
 {
-    let left = eval_reading(snapshot, v, Reading::InputLight(adapter, address, instance))?;
-    let bound = value_at(snapshot, image, v, threshold)?;
+    let left = eval_reading(
+        env.snapshot,
+        env.state,
+        Reading::InputLight(adapter, address, instance),
+    )?;
+    let bound = value_at(env, threshold)?;
     Some(if above == 1 {
         bound < left
     } else {
@@ -160,13 +129,13 @@ pub fn input_light_is(
 pub fn hcl_state(snapshot: &[u32], target: u32, state: u32) -> Option<bool>
     ensures { Decides snapshot.now (condition.HclState target state) result }
 {
-    Some(match world::hcl_target(snapshot, target) {
-        Some(hcl) => if state == 0 {
-            hcl.enabled
-        } else {
-            hcl.overridden
-        },
-        None => false,
+    let Some(hcl) = world::hcl_target(snapshot, target) else {
+        return Some(false);
+    };
+    Some(if state == 0 {
+        hcl.enabled
+    } else {
+        hcl.overridden
     })
 }
 
@@ -174,10 +143,7 @@ pub fn hcl_state(snapshot: &[u32], target: u32, state: u32) -> Option<bool>
 pub fn device_online(snapshot: &[u32], adapter: u32, address: u32) -> Option<bool>
     ensures { Decides snapshot.now (condition.DeviceOnline adapter address) result }
 {
-    Some(match world::device(snapshot, adapter, address) {
-        Some(device) => device.online,
-        None => false,
-    })
+    Some(world::device(snapshot, adapter, address).is_some_and(|device| device.online))
 }
 
 #[tactic(auto, unfolding(model::specs::Eval::eval_condition))]

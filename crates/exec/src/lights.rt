@@ -105,7 +105,12 @@ fn level_at(env: &Env, v: &[u32], i: u32) -> Option<u32>
     requires { Sound v.now }
     ensures { LevelAt env.now.snapshot.now env.now.image.now (meaning v.now).rest i result }
 {
-    curve::level_of(value_at(env.snapshot, env.image, v, i)?)
+    let given = eval::Env {
+        snapshot: env.snapshot,
+        image: env.image,
+        state: v,
+    };
+    curve::level_of(value_at(&given, i)?)
 }
 
 // A value in parts per million of full light.

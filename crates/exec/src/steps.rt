@@ -106,7 +106,12 @@ pub fn run_branch(
     requires { Sound v.old × (suc sp.place + (t + n) ≤ max32) }
     ensures { (b : ℕ) → StepsIn env.now.snapshot.now env.now.image.now job v.old b sp (Branch c t n) (step_done v.new result) }
 {
-    match condition_at(env.snapshot, env.image, v, c) {
+    let given = eval::Env {
+        snapshot: env.snapshot,
+        image: env.image,
+        state: v,
+    };
+    match condition_at(&given, c) {
         Some(true) => goes_on(enter_then(sp, t, n)),
         Some(false) => goes_on(advance(sp, t)),
         None => after_prim(fails(v), advance(sp, t + n)),

@@ -56,10 +56,10 @@ fn add_to(v: &mut [u32], job: Job, name: u32, step: i64, held: Option<VarValue>)
     ensures { Adds job v.old name (Some step) held (action_done v.new result) }
 {
     match held {
-        None => assign(v, job, name, VarValue::Int(words::bits_of(step))),
+        None => assign(v, job, name, VarValue::Int(step.cast_unsigned())),
         Some(VarValue::Int(n)) => {
-            let sum = words::as_i64(n).saturating_add(step);
-            assign(v, job, name, VarValue::Int(words::bits_of(sum)))
+            let sum = n.cast_signed().saturating_add(step);
+            assign(v, job, name, VarValue::Int(sum.cast_unsigned()))
         }
         Some(VarValue::Text(_)) => fails(v),
     }
@@ -70,7 +70,12 @@ pub fn var_add(env: &Env, v: &mut [u32], job: Job, name: u32, delta: u32) -> Pri
     requires { Sound v.old }
     ensures { PerformsIn env.now.snapshot.now env.now.image.now job v.old (VarAdd name delta) (action_done v.new result) }
 {
-    match value_at(env.snapshot, env.image, v, delta) {
+    let given = eval::Env {
+        snapshot: env.snapshot,
+        image: env.image,
+        state: v,
+    };
+    match value_at(&given, delta) {
         Some(step) => {
             let held = state::variables::variable(v, name);
             add_to(v, job, name, step, held)
@@ -92,7 +97,12 @@ pub fn panel_select(
     requires { Sound v.old }
     ensures { PerformsIn env.now.snapshot.now env.now.image.now job v.old (PanelSelect adapter group selected) (action_done v.new result) }
 {
-    let Some(n) = value_at(env.snapshot, env.image, v, selected) else {
+    let given = eval::Env {
+        snapshot: env.snapshot,
+        image: env.image,
+        state: v,
+    };
+    let Some(n) = value_at(&given, selected) else {
         return fails(v);
     };
     let most = image::layout::group_limit(env.image);

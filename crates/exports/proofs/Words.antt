@@ -19,7 +19,6 @@ use Rattle.model.specs.Steps.{FlatStep}
 use Rattle.state.specs.Meaning.{AllNumbered, meaning}
 use Rattle.store.specs.Volatile.{changing_in}
 use Rattle.eval.specs.Answers.{env_of}
-use Rattle.eval.specs.Equals.{ConditionAt, ValueAt}
 use Rattle.exports.specs.Answers.{given, env_in, rest_in, verdict_code, condition_answer, marked, number_words, value_answer}
 
 pub none-words : (r : Option ℤ) (w : List ℕ) → r ≡ None → w ≡ marked 2 0 → w ≡ number_words r
@@ -42,14 +41,14 @@ module _ (snapshot image store : List ℕ) (i : ℕ) where
   no_value g = rw g refl
 
   module _ (g : given snapshot image store ≡ true) (v : List ℕ) (m : AllNumbered v (volatile_in (size_of image rules) (changing_in store))) where
-    pub condition-told : (r : Option Bool) (n : ℕ) → ConditionAt snapshot image (meaning v).rest i r → n ≡ verdict_code r → n ≡ condition_answer snapshot image store i
+    pub condition-told : (r : Option Bool) (n : ℕ) → ((flat : List (List FlatStep)) → r ≡ condition_at (env_of snapshot image flat) (meaning v).rest i) → n ≡ verdict_code r → n ≡ condition_answer snapshot image store i
     unfolding condition_answer env_in rest_in set_of
     condition-told r n h e =
         rw g
         (e ∙ ap verdict_code (h (flats image))
         ∙ ap (λ (s : model.Volatile). verdict_code (condition_at (env_of snapshot image (flats image)) s.rest i)) m.says)
 
-    pub value-told : (r : Option ℤ) (w : List ℕ) → ValueAt snapshot image (meaning v).rest i r → w ≡ number_words r → w ≡ value_answer snapshot image store i
+    pub value-told : (r : Option ℤ) (w : List ℕ) → ((flat : List (List FlatStep)) → r ≡ value_at (env_of snapshot image flat) (meaning v).rest i) → w ≡ number_words r → w ≡ value_answer snapshot image store i
     unfolding value_answer env_in rest_in set_of
     value-told r w h e =
         rw g

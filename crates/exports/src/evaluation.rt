@@ -7,6 +7,9 @@ ghost use Rattle.model.specs.Store.{volatile_in};
 ghost use Rattle.state.specs.Meaning.{AllNumbered, state_words};
 ghost use Rattle.store.specs.Volatile.{changing_in};
 
+use eval::Env;
+use eval::conditions::condition_at;
+use eval::values::value_at;
 use state::place::WORDS;
 use store::table::VARIABLES;
 
@@ -69,7 +72,12 @@ pub extern "C" fn cerambiu_condition(snapshot: &[u32], image: &[u32], store: &[u
     }
     let mut v = [0u32; WORDS];
     begin(snapshot, image, store, &mut v);
-    verdict_code(eval::conditions::condition_at(snapshot, image, &v, i))
+    let env = Env {
+        snapshot,
+        image,
+        state: &v,
+    };
+    verdict_code(condition_at(&env, i))
 }
 
 // What value i of the image is.
@@ -89,8 +97,13 @@ pub extern "C" fn cerambiu_value(
     }
     let mut v = [0u32; WORDS];
     begin(snapshot, image, store, &mut v);
-    match eval::values::value_at(snapshot, image, &v, i) {
-        Some(z) => put_number(answer, 1, words::bits_of(z)),
+    let env = Env {
+        snapshot,
+        image,
+        state: &v,
+    };
+    match value_at(&env, i) {
+        Some(z) => put_number(answer, 1, z.cast_unsigned()),
         None => put_number(answer, 2, 0),
     }
 }

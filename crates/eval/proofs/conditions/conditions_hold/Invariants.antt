@@ -12,5 +12,5 @@ use Rattle.eval.proofs.conditions.conditions_hold.Given as goal
 -- the conditions that are left decide as all of them do
 abbrev pub invariant-loop-k : goal.invariant-loop-k
 invariant-loop-k l =
-    let cs = conditions_of_rule l.image l.rule in
-    (flat : List (List FlatStep)) → left (env_of l.snapshot l.image flat) (meaning l.v).rest cs l.k ≡ conditions_hold (env_of l.snapshot l.image flat) (meaning l.v).rest cs
+    let cs = conditions_of_rule l.env.image.now l.rule in
+    (flat : List (List FlatStep)) → left (env_of l.env.snapshot.now l.env.image.now flat) (meaning l.env.state.now).rest cs l.k ≡ conditions_hold (env_of l.env.snapshot.now l.env.image.now flat) (meaning l.env.state.now).rest cs

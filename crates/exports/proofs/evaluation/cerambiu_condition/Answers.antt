@@ -11,12 +11,8 @@ returns-then-not-given c = no-condition _ _ _ _ (sym c.given.ensures ∙ not-tru
 pub begin-requires : goal.begin-requires
 begin-requires c = (sym c.given.ensures ∙ not-false _ c.if-not-given.false-raw, refl)
 
-pub condition_at-requires : goal.condition_at-requires
-condition_at-requires c =
-    record {
-      sized = (given_is _ _ _ (sym c.given.ensures ∙ not-false _ c.if-not-given.false-raw)).sized;
-      sound = c.begin.ensures.sound;
-    }
+pub invariant_of-env-clause-sized : goal.invariant_of-env-clause-sized
+invariant_of-env-clause-sized c = (given_is _ _ _ (sym c.given.ensures ∙ not-false _ c.if-not-given.false-raw)).sized
 
 pub returns : goal.returns
 returns c =
