@@ -1,7 +1,7 @@
 -- The flat steps of a loaded set's rules, as the runner asks for them. Assumes nothing.
 use Prim.Native.Nat.{ℕ, zero, suc, ◌+◌, ◌≤◌}
 use native.Mathlib.Omega.{arith}
-use mathlib.Core.Path.{◌≡◌, refl, sym, subst}
+use mathlib.Core.Path.{◌≡◌, refl}
 use mathlib.Core.Bool.{true, false}
 use mathlib.Core.List.{List, [], ◌∷◌, map}
 use lib.ListN.{length, get_or, length-append}
@@ -10,7 +10,6 @@ use Rattle.model.specs.Image.{call_depth}
 use Rattle.model.specs.Lists.{all, flatten}
 use Rattle.model.specs.Load.{image_refusal}
 use Rattle.model.specs.Rules.{rule_indices}
-use Rattle.model.specs.Steps.{FlatStep}
 use Rattle.image.specs.Accepted.{Accepted}
 use Rattle.image.proofs.Accepted.{accepted, tables-accepted, steps-accepted, call-depth-fits}
 use Rattle.flat.specs.Load.{stored}
@@ -76,15 +75,3 @@ module _ (img : List ℕ) (ok : image_refusal img ≡ 0) where
         few = omega (arith, layout-length (part_of (rule i)), one-stored (flatten_rules img) i, few-stored img not-many);
         near = lists-near i;
       }
-
--- a set in which these are the lists of rule i
-abbrev pub set_with : ℕ → List FlatStep → List (List FlatStep)
-set_with zero xs = xs ∷ []
-set_with (suc i) xs = [] ∷ set_with i xs
-
-pub set-with : (i : ℕ) (xs : List FlatStep) → get_or (set_with i xs) i [] ≡ xs
-set-with zero xs = refl
-set-with (suc i) xs = set-with i xs
-
-pub says-with : (w : List ℕ) (own i : ℕ) (f : FlatWords w own) → Says w own (get_or (set_with i f.steps) i [])
-says-with w own i f = subst (Says w own) (sym (set-with i f.steps)) f.says

@@ -3,6 +3,5 @@ pub mod Written
 pub mod Continues
 pub mod NearSteps
 pub mod FlatRules
-pub mod Deciding
 pub mod Running
 pub mod Activating

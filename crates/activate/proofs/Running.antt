@@ -2,12 +2,12 @@
 use Prim.Native.Nat.{ℕ, suc, ◌+◌, ◌-◌, ◌≤◌}
 use native.Mathlib.Omega.{arith}
 use mathlib.Core.Path.{◌≡◌, refl, sym, ap, subst, ◌∙◌}
-use mathlib.Core.Bool.{Bool, true, false, not}
+use mathlib.Core.Bool.{true, false}
 use mathlib.Core.List.{List, [], ◌∷◌, append-nil}
 use Rattle.std.specs.Prelude.{Option, None, Some}
 use Rattle.std.specs.Option.{is_some}
 use lib.ListN.{length, get_or, set, replicate, length-replicate}
-use borrow.Author.Tests.{eq-eqb, ne_eqb, not-true, not-false}
+use borrow.Author.Tests.{eq-eqb, ne_eqb}
 use Rattle.model.specs.Activate as model
 use Rattle.model.specs.Activate.{no_outcome}
 use Rattle.model.specs.Dry.{DryOutput, run_steps_dry}
@@ -21,7 +21,7 @@ use Rattle.model.specs.World.{world_of}
 use Rattle.model.specs.declared.Effect.{Effect}
 use Rattle.model.specs.declared.Point.{Point}
 use Rattle.flat.specs.Words.{Says}
-use Rattle.state.specs.Meaning.{Sound, Means, meaning, base, accepted}
+use Rattle.state.specs.Meaning.{Means, meaning, base, accepted}
 use Rattle.state.proofs.Follows.{follows, next-is, accepted-by-next}
 use Rattle.state.specs.Reasons.{reason_number}
 use Rattle.state.specs.declared.reasons.Reason.{Reason}
@@ -35,7 +35,7 @@ use Rattle.exec.specs.Runs as exec
 use Rattle.exec.specs.declared.Job.{Job}
 use Rattle.activate.specs.Handled.{Continues, Within, Room, Handles, put_outcome, put_outcomes}
 use Rattle.activate.specs.Outcomes.{Pushes}
-use Rattle.activate.specs.Executes.{Changes, RunRoom, numbered_job, NotesPartial, Starts, FinishesWet, RunsWet, RunsDry, dry_outcome}
+use Rattle.activate.specs.Executes.{Changes, RunRoom, numbered_job, Starts, FinishesWet, RunsWet, RunsDry, dry_outcome}
 use Rattle.activate.specs.Carried.{Carried, carried}
 use Rattle.activate.specs.declared.Handled.{Handled}
 use Rattle.activate.proofs.Continues.{with_vol, then-continues, no-outcome, within_by, within-then, room-left}
@@ -126,13 +126,6 @@ refuses part own i w x ow ew v s j reason trace r ow' c p =
     record { says = λ flat e. h; within = within_by 1 (carried w x) ow ew _ (carried v r) ow' ew h (omega arith) (omega arith) (omega arith) (omega arith) }
 
 -- ---- counters
-module _ (w : List ℕ) (dry : Bool) where
-  pub partial-dry : not dry ≡ false → Sound w → NotesPartial dry w w
-  partial-dry h s = rw (not-false dry h) (record { says = refl; sound = s; based = refl })
-
-  pub partial-wet : (r : List ℕ) → not dry ≡ true → Changes w (bump_by partial_outcomes 1 (meaning w).rest) r → NotesPartial dry w r
-  partial-wet r h c = rw (not-true dry h) c
-
 -- an activation is counted, and then its time kept
 abbrev keep_time : ℕ → ℕ → model-state.Volatile → model-state.Volatile
 keep_time i now v = with_rest (with_last_activation (set v.rest.last_activation i (Some now)) v.rest) v

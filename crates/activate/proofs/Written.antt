@@ -8,6 +8,8 @@ use lib.Dec.{leb}
 use lib.ListN.{length, take, drop, set, replicate, length-append, length-set, take-append-drop}
 use lib.Seq.{sets-eq, take_at, drop_at, length-take-le, drop-drop}
 use borrow.Author.Tests.{le-leb, lt-leb}
+use borrow.Rule.Slice.PartMut.{put_mid}
+use mir.Val.{bool_byte}
 use Rattle.words.specs.Pairs.{low_of, high_of}
 use Rattle.model.specs.Activate as model
 use Rattle.model.specs.Answers as answers
@@ -20,7 +22,6 @@ use Rattle.exec.specs.Results.{job_of}
 use Rattle.exec.specs.declared.Job.{Job}
 use Rattle.lent_words.proofs.Written.{drop-zeros, lent-list}
 use Rattle.activate.specs.Handled.{put_outcome, put_outcomes, all_effects}
-use Rattle.activate.specs.Outcomes.{Puts}
 
 -- one outcome, where there is room and where there is none
 module _ (w : List ℕ) (n first : ℕ) (o : Outcome) where
@@ -60,15 +61,21 @@ module _ (w : List ℕ) (n first : ℕ) (o : Outcome) where
       go false = refl
 
 -- what the code writes of a job
-module _ (w : List ℕ) (n : ℕ) (j : Job) (reason first count : ℕ) where
-  pub job-room : (dry low high : ℕ) → n * 8 + 8 ≤ length w → dry ≡ cond j.dry 1 0 → low ≡ low_of j.number → high ≡ high_of j.number
-      → Puts w n j reason first count
-      (set (set (set (set (set (set (set (set w (n * 8) j.rule) (n * 8 + 1) dry) (n * 8 + 2) j.trigger) (n * 8 + 3) reason) (n * 8 + 4) first) (n * 8 + 5) count) (n * 8 + 6) low) (n * 8 + 7) high)
-  unfolding model.outcome
-  job-room dry low high h d l k es e = rw (d, e, l, k) (put-room w n first (model.outcome (job_of j) es reason) h)
+byte-is : (b : Bool) → bool_byte b ≡ cond b 1 0
+byte-is true = refl
+byte-is false = refl
 
-  pub job-none : length w < n * 8 + 8 → Puts w n j reason first count w
-  job-none h es e = put-none w n first (model.outcome (job_of j) es reason) h
+module _ (w : List ℕ) (n : ℕ) (j : Job) (reason first count : ℕ) (es : List Effect) (e : count ≡ length es) where
+  pub job-room :
+      (dry low high : ℕ) → n * 8 + 8 ≤ length w → dry ≡ bool_byte j.dry → low ≡ low_of j.number → high ≡ high_of j.number
+      → put_mid (n * 8) (n * 8 + 8 - n * 8) w (j.rule ∷ dry ∷ j.trigger ∷ reason ∷ first ∷ count ∷ low ∷ high ∷ []) ≡ put_outcome w n first (model.outcome (job_of j) es reason)
+  unfolding model.outcome
+  job-room dry low high h d l k =
+      let o = model.outcome (job_of j) es reason in
+      let size : n * 8 + 8 - n * 8 ≡ 8 = omega arith in
+      rw (size, d, byte-is, l, k, e)
+      (ap (λ (rest : List ℕ). take (n * 8) w ++ (eight w n first o ++ rest)) (drop-drop 8 (n * 8) w)
+      ∙ sym (put-words w n first o h ∙ append_assoc (take (n * 8) w) (eight w n first o) (drop (n * 8 + 8) w)))
 
 -- one after another
 pub put-append : (w : List ℕ) (n first : ℕ) (os ps : List Outcome)

@@ -1,5 +1,5 @@
 -- Whether a rule starts now, in the specification's terms.
-use Rattle.std.specs.Prelude.{ℕ, ◌≡◌, Bool, cond, ◌&&◌, List}
+use Rattle.std.specs.Prelude.{ℕ, ◌≡◌, Bool, cond, List}
 use Rattle.model.specs.Activate as model
 use Rattle.model.specs.State.{Rest, bump, suppressed_cooldown, conditions_rejected, partial_outcomes}
 use Rattle.model.specs.Steps.{FlatStep}
@@ -26,9 +26,6 @@ decision_of Unevaluable dry s = model.unevaluable (cond dry s (bump partial_outc
 module _ (snapshot image : List ℕ) (i : ℕ) where
   abbrev pub InCooldownIs : Rest → Bool → Type 0
   InCooldownIs s r = (flat : List (List FlatStep)) → r ≡ model.in_cooldown (env_of snapshot image flat) i s
-
-  abbrev pub CooldownHolds : Mode → Rest → Bool → Type 0
-  CooldownHolds m s r = (flat : List (List FlatStep)) → r ≡ (is_auto m && model.in_cooldown (env_of snapshot image flat) i s)
 
   abbrev pub Decides : Mode → Rest → Decision → Type 0
   Decides m s r = (flat : List (List FlatStep)) → model.decide (env_of snapshot image flat) i (mode_of m) s ≡ decision_of r (is_dry m) s

@@ -4,7 +4,7 @@ ghost use Rattle.model.specs.Image.{size_of};
 ghost use Rattle.model.specs.Rows.{rules};
 ghost use Rattle.image.specs.Accepted.{Accepted};
 ghost use Rattle.state.specs.Meaning.{Sound, meaning};
-ghost use Rattle.activate.specs.Decisions.{is_auto, InCooldownIs, CooldownHolds, Decides};
+ghost use Rattle.activate.specs.Decisions.{InCooldownIs, Decides};
 
 use crate::Mode;
 use eval::conditions::conditions_hold;
@@ -18,16 +18,7 @@ pub enum Decision {
     Unevaluable,
 }
 
-fn is_auto(mode: Mode) -> bool
-    ensures { result ≡ is_auto mode }
-{
-    match mode {
-        Mode::Auto => true,
-        Mode::Manual => false,
-        Mode::Dry => false,
-    }
-}
-
+#[tactic(auto, unfolding(model::specs::Activate::in_cooldown, words::specs::Saturating::saturating_sub))]
 fn in_cooldown(env: &Env, v: &[u32], i: u32) -> bool
     requires { Sound v.now }
     ensures { InCooldownIs env.now.snapshot.now env.now.image.now i (meaning v.now).rest result }
@@ -40,24 +31,20 @@ fn in_cooldown(env: &Env, v: &[u32], i: u32) -> bool
 }
 
 // Only an automatic activation waits for the cooldown.
-fn cooldown_holds(env: &Env, v: &[u32], i: u32, mode: Mode) -> bool
-    requires { Sound v.now }
-    ensures { CooldownHolds env.now.snapshot.now env.now.image.now i mode (meaning v.now).rest result }
-{
-    if is_auto(mode) {
-        return in_cooldown(env, v, i);
-    }
-    false
-}
-
+#[tactic(auto, unfolding(model::specs::Activate::decide))]
 pub fn decide(env: &Env, v: &[u32], i: u32, mode: Mode) -> Decision
     requires { Accepted env.now.image.now × (i < size_of env.now.image.now rules) × Sound v.now }
     ensures { Decides env.now.snapshot.now env.now.image.now i mode (meaning v.now).rest result }
 {
-    if cooldown_holds(env, v, i, mode) {
+    if mode.is_auto() && in_cooldown(env, v, i) {
         return Decision::InCooldown;
     }
-    match conditions_hold(env.snapshot, env.image, v, i) {
+    let given = eval::Env {
+        snapshot: env.snapshot,
+        image: env.image,
+        state: v,
+    };
+    match conditions_hold(&given, i) {
         Some(true) => Decision::Begins,
         Some(false) => Decision::Rejected,
         None => Decision::Unevaluable,

@@ -9,7 +9,6 @@ ghost use Rattle.activate.specs.Handled.{Room};
 ghost use Rattle.activate.specs.Executes.{RunRoom, NotesPartial, Starts, FinishesWet, RunsWet, RunsDry, Executes};
 
 use crate::Handled;
-use crate::outcomes::push_outcome;
 use counters::Counter;
 use exec::dry::run_steps_dry;
 use exec::runs::run_steps;
@@ -17,6 +16,13 @@ use exec::{Env, FlatRule, Job};
 use image::layout::budget;
 use model::Point;
 use state::reasons::{Reason, reason_word};
+
+// Where a rule's own list begins.
+const START: Point = Point {
+    list: 0,
+    place: 0,
+    jump: None,
+};
 
 pub fn note_wet_partial(v: &mut [u32], dry: bool)
     requires { Sound v.old }
@@ -67,7 +73,7 @@ pub fn run_wet(
 {
     let run = run_steps(env, rule, effects, v, job, from, most, x.effects);
     finish_wet(v, run.count - x.effects, run.reason);
-    push_outcome(outcomes, x, job, reason_word(run.reason), run.count)
+    x.push_outcome(outcomes, job, reason_word(run.reason), run.count)
 }
 
 // A dry run of the whole rule, and its outcome.
@@ -83,14 +89,9 @@ fn run_dry(
     requires { Accepted env.now.image.now × (job.dry ≡ true) × Room 1 (carried v.old x) }
     ensures { RunsDry env.now.snapshot.now env.now.image.now rule.now.part.now rule.now.own job (carried v.old x) outcomes.old effects.old (carried v.new result) outcomes.new effects.new }
 {
-    let from = Point {
-        list: 0,
-        place: 0,
-        jump: None,
-    };
     let most = budget(env.image);
-    let run = run_steps_dry(env, rule, effects, v, job, from, most, x.effects);
-    push_outcome(outcomes, x, job, reason_word(run.reason), run.count)
+    let run = run_steps_dry(env, rule, effects, v, job, START, most, x.effects);
+    x.push_outcome(outcomes, job, reason_word(run.reason), run.count)
 }
 
 pub fn execute(
@@ -110,11 +111,6 @@ pub fn execute(
         return run_dry(env, rule, outcomes, effects, v, x, job);
     }
     let begun = start(env.snapshot, v, job);
-    let from = Point {
-        list: 0,
-        place: 0,
-        jump: None,
-    };
     let most = budget(env.image);
-    run_wet(env, rule, outcomes, effects, v, x, begun, from, most)
+    run_wet(env, rule, outcomes, effects, v, x, begun, START, most)
 }

@@ -15,17 +15,17 @@ ghost use Rattle.image.specs.Accepted.{Accepted};
 ghost use Rattle.image.specs.Sized.{Sized};
 ghost use Rattle.exec.specs.Lists.{FlatWords};
 ghost use Rattle.activate.specs.Carried.{carried};
-ghost use Rattle.activate.specs.Decisions.{is_dry};
+ghost use Rattle.activate.specs.Decisions.{is_auto, is_dry};
 ghost use Rattle.activate.specs.Handled.{Room, Activates, Resumes};
 
 use crate::decide::Decision;
-use crate::outcomes::push_outcome;
 use counters::Counter;
 use exec::{Env, FlatRule, Job};
 use model::Pending;
 use state::reasons::Reason;
 
-// What activations and resumptions did so far: how many outcomes and effects are written, or would be.
+// What activations and resumptions did so far: how many outcomes and effects are written, or would be. They stand beside the words that
+// the caller lends, and in no slice of them: the C interface counts on where there is no room.
 #[derive(Clone, Copy)]
 pub struct Handled {
     pub outcomes: u32,
@@ -39,29 +39,32 @@ pub enum Mode {
     Dry,
 }
 
-// The words of an outcome in a lent store.
-pub const OUTCOME_WORDS: usize = 8;
+impl Mode {
+    fn is_auto(self) -> bool
+        ensures { result ≡ is_auto self }
+    {
+        matches!(self, Mode::Auto)
+    }
 
-fn is_dry(mode: Mode) -> bool
-    ensures { result ≡ is_dry mode }
-{
-    match mode {
-        Mode::Auto => false,
-        Mode::Manual => false,
-        Mode::Dry => true,
+    fn is_dry(self) -> bool
+        ensures { result ≡ is_dry self }
+    {
+        matches!(self, Mode::Dry)
     }
 }
+
+// The words of an outcome in a lent store.
+pub const OUTCOME_WORDS: usize = 8;
 
 // Rule `name`, at place i of the image, under an activation number.
 fn job_of(image: &[u32], name: u32, i: u32, kind: u32, dry: bool, number: u64) -> Job
     requires { Sized image.now }
     ensures { result ≡ record { rule = name; index = i; hold = hold_hcl_of image.now i; trigger = kind; dry = dry; number = number } }
 {
-    let hold = image::rule::hold_hcl_of(image, i);
     Job {
         rule: name,
         index: i,
-        hold,
+        hold: image::rule::hold_hcl_of(image, i),
         trigger: kind,
         dry,
         number,
@@ -88,7 +91,7 @@ pub fn activate(
 {
     let env = Env { snapshot, image };
     let rule = FlatRule { part, own };
-    let dry = is_dry(mode);
+    let dry = mode.is_dry();
     let job = job_of(image, image::rule::name_of(image, i), i, kind, dry, 0);
     match decide::decide(&env, v, i, mode) {
         Decision::Begins => execute::execute(&env, &rule, outcomes, effects, v, x, job),
@@ -102,9 +105,8 @@ pub fn activate(
         }
         Decision::Unevaluable => {
             execute::note_wet_partial(v, dry);
-            push_outcome(
+            x.push_outcome(
                 outcomes,
-                x,
                 job,
                 Reason::ConditionUnevaluable as u32,
                 x.effects,
