@@ -15,6 +15,7 @@ ghost use Rattle.engine.specs.Answers.{no_values, shown};
 ghost use Rattle.engine.specs.Sets.{cleared, rule_of, rules_of};
 
 use crate::stored;
+use image::layout::{Table, size_of};
 use rows::read;
 use state::place::{MAX_RULES, WORDS};
 use store::table;
@@ -59,7 +60,7 @@ fn put_rules(store: &[u32], image: &[u32], v: &mut [u32])
     requires { (present (read store.now) ≡ true) × (image_refusal image.now ≡ 0) × Sound v.old }
     ensures { (s : Store) → read store.now ≡ Some s → Means v.new (base v.old) (with_rest (rules_of image.now s (meaning v.old).rest) (meaning v.old)) }
 {
-    let n = image::layout::size_of(image, 0);
+    let n = size_of(image, Table::Rules);
     state::rules::unset_rules(v, n as usize);
     let mut i = 0;
     while i < n {

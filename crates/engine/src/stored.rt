@@ -12,6 +12,7 @@ ghost use Rattle.model.specs.Refusals.{refusal_number};
 ghost use Rattle.engine.specs.Seen.{seen, refusal_of};
 ghost use Rattle.engine.specs.Answers.{shown, enabled_values};
 
+use image::layout::{Table, size_of};
 use model::Refusal;
 use rows::read;
 use state::place::WORDS;
@@ -39,7 +40,7 @@ pub fn rule_count(store: &[u32]) -> usize
     if !is_loaded(store) {
         return 0;
     }
-    image::layout::size_of(image_in(store), 0) as usize
+    size_of(image_in(store), Table::Rules) as usize
 }
 
 // The parts that calls change, as the words of a state.

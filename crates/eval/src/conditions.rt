@@ -11,6 +11,8 @@ use crate::world_conditions::{
     controller_active, day_in, device_online, group_state, hcl_state, input_light_is,
     input_occupancy, lamp_cct_is, lamp_is, lamp_level_is, sun_is, time_in_range,
 };
+use image::layout::Table;
+use image::record::{condition_of, record_at};
 use model::Condition;
 
 // One arm for each kind.
@@ -80,7 +82,7 @@ pub fn eval_condition(env: &Env, condition: Condition) -> Option<bool>
 pub fn condition_at(env: &Env, i: u32) -> Option<bool>
     ensures { ConditionAt env.now i result }
 {
-    let condition = image::record::condition_of(image::record::record_at(env.image, 3, i));
+    let condition = condition_of(record_at(env.image, Table::Conditions, i));
     eval_condition(env, condition)
 }
 

@@ -5,6 +5,8 @@ ghost use Rattle.model.specs.Eval.{solar_of, minute_in_range};
 ghost use Rattle.image.specs.Sized.{Sized};
 ghost use Rattle.eval.specs.Equals.{SunIsUp, Resolves, BoundAt};
 
+use image::layout::Table;
+use image::record::{bound_of, record_at};
 use model::{SunTimes, TimeBound};
 
 // From sunrise on, and before sunset.
@@ -69,6 +71,6 @@ pub fn bound_at(snapshot: &[u32], image: &[u32], i: u32) -> Option<u64>
     requires { Sized image.now }
     ensures { BoundAt snapshot.now image.now i result }
 {
-    let bound = image::record::bound_of(image::record::record_at(image, 6, i));
+    let bound = bound_of(record_at(image, Table::Bounds, i));
     resolve_time_bound(snapshot, bound)
 }

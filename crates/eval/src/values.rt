@@ -6,6 +6,8 @@ ghost use Rattle.eval.specs.Equals.{ReadsIn, ValueIn, ValueAt};
 
 use crate::Env;
 use crate::time::sun_is_up;
+use image::layout::Table;
+use image::record::{record_at, value_of};
 use model::{Reading, Value, VarValue};
 
 // A word that may be missing, as a number.
@@ -77,6 +79,6 @@ pub fn eval_value(snapshot: &[u32], v: &[u32], value: Value) -> Option<i64>
 pub fn value_at(env: &Env, i: u32) -> Option<i64>
     ensures { ValueAt env.now i result }
 {
-    let value = image::record::value_of(image::record::record_at(env.image, 5, i));
+    let value = value_of(record_at(env.image, Table::Values, i));
     eval_value(env.snapshot, env.state, value)
 }

@@ -17,7 +17,7 @@ ghost use Rattle.every.specs.Joined.{HasRoom, Joined};
 
 mod kept;
 
-use image::layout::size_of;
+use image::layout::{Table, size_of};
 use image::order::name_order;
 use image::rule::{name_of, trigger_at, trigger_count};
 use kept::{Key, Slots};
@@ -76,7 +76,7 @@ fn join_all(image: &[u32], old: &Slots, time: u64, t: &mut [u32])
     ensures { Holds 64 slot_row t.new (rebuild_every image.now old.now time) }
 {
     let order = name_order(image);
-    for p in 0..size_of(image, 0) {
+    for p in 0..size_of(image, Table::Rules) {
         let i = order[p as usize];
         join_rule(image, i, old, time, t);
     }

@@ -5,10 +5,10 @@ ghost use Rattle.exec.specs.Results.{PerformsIn, PerformsAt};
 
 use crate::answers::{EffectKind, emits, fails};
 use crate::{Env, Job, PrimResult, lights, rules, timers, variables};
+use image::action::action_of;
+use image::layout::Table;
+use image::record::record_at;
 use model::Action;
-
-// The table of actions.
-const ACTIONS: u32 = 4;
 
 // One arm for each kind.
 #[tactic(auto, unfolding(model::specs::Actions::run_prim))]
@@ -105,6 +105,6 @@ pub fn prim_at(env: &Env, v: &mut [u32], job: Job, i: u32) -> PrimResult
     requires { Sound v.old }
     ensures { PerformsAt env.now.snapshot.now env.now.image.now job v.old i (action_done v.new result) }
 {
-    let action = image::action::action_of(image::record::record_at(env.image, ACTIONS, i));
+    let action = action_of(record_at(env.image, Table::Actions, i));
     run_prim(env, v, job, action)
 }

@@ -12,9 +12,7 @@ ghost use Rattle.exec.specs.Results.{Performs, PerformsIn, LevelAt};
 use crate::answers::{EffectKind, emits, fails};
 use crate::{Env, Job, PrimResult};
 use eval::values::value_at;
-
-// The table of pool words.
-const POOL: u32 = 7;
+use image::layout::{Table, word_at};
 
 // A light's own hold_hcl, or the rule's where 2 says that it has none.
 fn hold_or(hold: u32, rule: u32) -> u32
@@ -92,7 +90,7 @@ pub fn prim_cycle(image: &[u32], v: &mut [u32], job: Job, first: u32, count: u32
     }
     let at = cycle_place(v, job.index, count);
     let place = first.saturating_add(at);
-    let scene = image::layout::word_at(image, POOL, place, 0);
+    let scene = word_at(image, Table::Pool, place, 0);
     if job.dry {
         return emits(EffectKind::SceneRecall, scene, 0, 0, job.hold);
     }

@@ -10,6 +10,7 @@ ghost use Rattle.store.specs.Volatile.{changing_in};
 use eval::Env;
 use eval::conditions::condition_at;
 use eval::values::value_at;
+use image::layout::{Table, size_of};
 use state::place::WORDS;
 use store::table::VARIABLES;
 
@@ -42,7 +43,7 @@ fn begin(snapshot: &[u32], image: &[u32], store: &[u32], v: &mut [u32])
     requires { (answers.given snapshot.now image.now store.now ≡ true) × (length v.old ≡ state_words) }
     ensures { AllNumbered v.new (volatile_in (size_of image.now rules) (changing_in store.now)) }
 {
-    let count = image::layout::size_of(image, 0) as usize;
+    let count = size_of(image, Table::Rules) as usize;
     store::volatile::begin(store, count, v);
 }
 

@@ -14,7 +14,7 @@ ghost use Rattle.next.specs.NextStart.{on_days, due_in, starts_in, first_from, n
 ghost use Rattle.next.specs.Distance.{day_ahead, better, best_of};
 
 use eval::time::{has_day, solar_minute};
-use image::layout::size_of;
+use image::layout::{Table, size_of};
 use image::rule::{name_of, trigger_at, trigger_count};
 use model::Trigger;
 
@@ -151,7 +151,7 @@ fn earliest(image: &[u32], bits: &[u32], sun: Option<model::SunTimes>, t: u32) -
         minutes: NEVER,
         name: 0,
     };
-    let mut i = size_of(image, 0);
+    let mut i = size_of(image, Table::Rules);
     while 0 < i {
         i -= 1;
         let minutes = rule_minutes(image, bits, sun, t, i);

@@ -11,7 +11,7 @@ ghost use Rattle.image.specs.Accepted.{Accepted};
 ghost use Rattle.room.specs.Room.{is_timer_trigger, is_every_trigger, starts_of};
 ghost use Rattle.room.specs.Needed.{room_for, shown, Needs, begin_in, size_in, Summed, Listed};
 
-use image::layout::{budget, size_of};
+use image::layout::{Table, budget, size_of};
 use image::rule::{trigger_at, trigger_count};
 use model::{Refusal, Trigger};
 
@@ -148,7 +148,7 @@ fn sum_rules(image: &[u32], lists: &[u32], b: u64) -> Sums
     requires b_value { b ≡ image_specs.budget image.now }
     ensures { Summed image.now result }
 {
-    let n = size_of(image, 0);
+    let n = size_of(image, Table::Rules);
     let mut all: u64 = 0;
     let mut effects: u64 = 0;
     let mut longest: u64 = 0;

@@ -1,5 +1,6 @@
 // The words of a store that keeps every rule, seen as that store: who has them need not ask again.
 use crate::{set, volatile};
+use image::layout::{Table, size_of};
 use model::Refusal;
 use std::marker::Model;
 
@@ -80,7 +81,7 @@ impl<'a> Checked<'a> {
         ensures few { result ≤ 64 }
     {
         match self.image() {
-            Some(image) => image::layout::size_of(image, 0) as usize,
+            Some(image) => size_of(image, Table::Rules) as usize,
             None => 0,
         }
     }

@@ -8,7 +8,7 @@ use crate::schedules::fire_wall_schedules;
 use crate::slots::fire_every;
 use crate::timers::fire_timers;
 use activate::Handled;
-use image::layout::size_of;
+use image::layout::{Table, size_of};
 use image::order::name_order;
 
 // `store` has the flat steps of the image, and the pending records as they stand before the tick; nothing else of it is read. The rules are put in the order of their names once.
@@ -24,7 +24,7 @@ pub fn service_tick(
     ensures { Fires 1184 (service_tick (tick_env snapshot.now image.now)) (start v.old) outcomes.old effects.old (carried v.new result) outcomes.new effects.new }
 {
     let all = name_order(image);
-    let order = &all[..size_of(image, 0) as usize];
+    let order = &all[..size_of(image, Table::Rules) as usize];
     let x = Handled {
         outcomes: 0,
         effects: 0,

@@ -11,7 +11,7 @@ ghost use Rattle.state.specs.Meaning.{Sound, meaning};
 ghost use Rattle.wheel.specs.Wall.{kind_if, Kind, KindAnywhere, enabled_wall};
 
 use crate::minutes::minute_due;
-use image::layout::size_of;
+use image::layout::{Table, size_of};
 use image::rule::{trigger_at, trigger_count};
 use model::Trigger;
 use state::rules::is_enabled;
@@ -140,5 +140,5 @@ pub fn has_wall_triggers(image: &[u32], v: &[u32]) -> bool
     requires { Accepted image.now × Sound v.now }
     ensures { result ≡ has_wall_triggers image.now (meaning v.now).rest }
 {
-    (0..size_of(image, 0)).any(|i| enabled_wall(image, v, i))
+    (0..size_of(image, Table::Rules)).any(|i| enabled_wall(image, v, i))
 }

@@ -1,39 +1,14 @@
 -- `image::check::limits_fit` meets its contract. Assumes nothing.
-use mathlib.Core.Path.{refl}
+use lib.Dec.{leb-zero}
 use Rattle.model.specs.Lists.{every}
-use Rattle.model.specs.Image.{limits_fit}
+use Rattle.model.specs.Image.{budget, call_depth, repeat_limit, text_limit, group_limit, limits_fit}
+use Rattle.image.proofs.Ranges.{le-is}
 use Rattle.image.proofs.check.limits_fit.Goals as goal
-
-pub limit_fits-budget-requires : goal.limit_fits-budget-requires
-limit_fits-budget-requires c = record {
-  sized = c.requires;
-  least_value = (refl, refl);
-}
-
-pub limit_fits-call_depth-requires : goal.limit_fits-call_depth-requires
-limit_fits-call_depth-requires c = record {
-  sized = c.requires;
-  least_value = (refl, refl);
-}
-
-pub limit_fits-repeat-requires : goal.limit_fits-repeat-requires
-limit_fits-repeat-requires c = record {
-  sized = c.requires;
-  least_value = (refl, refl);
-}
-
-pub limit_fits-text-requires : goal.limit_fits-text-requires
-limit_fits-text-requires c = record {
-  sized = c.requires;
-  least_value = (refl, refl);
-}
-
-pub limit_fits-group-requires : goal.limit_fits-group-requires
-limit_fits-group-requires c = record {
-  sized = c.requires;
-  least_value = (refl, refl);
-}
 
 pub returns : goal.returns
 unfolding limits_fit every
-returns c = rw (c.limit_fits-budget.ensures, c.limit_fits-call_depth.ensures, c.limit_fits-repeat.ensures, c.limit_fits-text.ensures, c.limit_fits-group.ensures)
+returns c =
+    let img = c.args.image.now in
+    let d = c.new.ensures in
+    let e = c.new-2.ensures in
+    rw (c.contains-budget_fits.ensures.value, c.contains-repeat_fits.ensures.value, d.start, d.end, d.exhausted, e.start, e.end, e.exhausted, c.budget.ensures, c.call_depth.ensures, c.repeat_limit.ensures, c.text_limit.ensures, c.group_limit.ensures, le-is 1 (budget img), le-is 1 (repeat_limit img), le-is (budget img) 256, le-is (repeat_limit img) 255, leb-zero (call_depth img), leb-zero (text_limit img), leb-zero (group_limit img))

@@ -4,4 +4,4 @@ use Rattle.image.proofs.check.names_differ.Goals as goal
 
 pub returns : goal.returns
 unfolding names_differ
-returns c = rw (← c.first_of.ensures, ← c.size_of.ensures) c.distinct.ensures
+returns c = rw (← c.start_of.ensures, ← c.size_of.ensures) c.distinct.ensures

@@ -1,12 +1,21 @@
 -- `image::check::places_fit` meets its contract. Assumes nothing.
+use mathlib.Core.Path.{◌∙◌}
+use borrow.Author.Rules.{rules}
 use borrow.Author.Tests.{eq-eqb, ne_eqb}
-use Rattle.model.specs.Image.{places_fit}
+use Rattle.std.proofs.lemmas.Iterator.{YieldsList-from_slice}
+use Rattle.std.proofs.lemmas.Iterator.Search.{all_from_yields_List}
+use Rattle.model.specs.Image.{place_fits, places_fit}
+use Rattle.image.specs.Tables.{number_of}
+use Rattle.image.proofs.EachTable.{tables, each}
 use Rattle.image.proofs.check.places_fit.Goals as goal
 
-pub returns-then-first_of-eq0 : goal.returns-then-first_of-eq0
+pub returns-then-start_of-eq0 : goal.returns-then-start_of-eq0
 unfolding places_fit
-returns-then-first_of-eq0 c = rw (← c.first_of.ensures, eq-eqb _ _ c.if-first_of-eq0.true) c.tables_follow.ensures
+returns-then-start_of-eq0 c =
+    let img = c.args.image.now in
+    rw (← c.start_of.ensures, eq-eqb _ _ c.if-start_of-eq0.true)
+    (all_from_yields_List (λ t. place_fits img (number_of t)) _ _ _ c.all.ensures.ran (YieldsList-from_slice tables cc) (λ x b q k. search rules) ∙ each (place_fits img))
 
-pub returns-else-first_of-eq0 : goal.returns-else-first_of-eq0
+pub returns-else-start_of-eq0 : goal.returns-else-start_of-eq0
 unfolding places_fit
-returns-else-first_of-eq0 c = rw (← c.first_of.ensures, ne_eqb _ _ c.if-first_of-eq0.false)
+returns-else-start_of-eq0 c = rw (← c.start_of.ensures, ne_eqb _ _ c.if-start_of-eq0.false)

@@ -1,23 +1,21 @@
 -- `image::check::slots` meets its contract. Assumes nothing.
-use native.Mathlib.Omega.{arith}
+use Prim.Native.Nat.{ℕ, ◌+◌}
+use mathlib.Core.Bool.{Bool}
+use mathlib.Core.Path.{◌∙◌}
+use native.Mathlib.Nat.{sub-zero}
+use lib.Dec.{eqb}
 use borrow.Author.Rules.{rules}
-use Rattle.fields.proofs.Total.{empty, adds, whole}
+use Rattle.std.proofs.lemmas.Iterator.{YieldsList-from_range}
+use Rattle.std.proofs.lemmas.Iterator.Consumers.{YieldsList-from_filter, count_from_yields_List}
+use Rattle.std.proofs.lemmas.List.Sums.{length-filter}
+use Rattle.model.specs.Rows.{triggers}
+use Rattle.model.specs.Image.{word_at}
+use Rattle.image.proofs.Slots.{counted}
 use Rattle.image.proofs.check.slots.Goals as goal
 
-pub loop-j-init : goal.loop-j-init
-loop-j-init c = (search rules, empty _, search rules)
-
-pub overflow_add-sum : goal.overflow_add-sum
-overflow_add-sum c = omega arith
-
-pub overflow_add-j : goal.overflow_add-j
-overflow_add-j c = omega arith
-
-pub loop-j-smaller : goal.loop-j-smaller
-loop-j-smaller c = omega arith
-
-pub loop-j-preserved : goal.loop-j-preserved
-loop-j-preserved c = (search rules, adds _ _ _ _ c.loop-j.invariant.1 c.is_every-sum.ensures.0, omega arith)
-
 pub returns : goal.returns
-returns c = rw (← c.word_at-n.ensures, ← c.word_at-start.ensures) (whole _ _ _ _ c.loop-j-test.false c.loop-j.invariant.0 c.loop-j.invariant.1)
+returns c =
+    let n = c.word_at-n.result in
+    let test : ℕ → Bool = λ j. eqb (word_at c.args.image.now triggers (c.word_at-start.result + j) 0) 1 in
+    rw (← c.word_at-n.ensures, ← c.word_at-start.ensures)
+    (count_from_yields_List _ _ c.count.ensures.ran (YieldsList-from_filter _ test (YieldsList-from_range 0 n n c.filter.ensures.source (sub-zero n)) c.filter.ensures.closure (λ x b q k. search rules)) ∙ (length-filter test _ ∙ counted test n))

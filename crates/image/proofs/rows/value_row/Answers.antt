@@ -1,22 +1,14 @@
 -- `image::rows::value_row` meets its contract. Assumes nothing.
-use Prim.Native.Nat.{zero-le}
-use Rattle.model.specs.Rows.{void, value_rows}
-use Rattle.fields.proofs.Padded.{no_row}
-use Rattle.image.specs.Classes.{class_of}
-use Rattle.image.proofs.Classes.{reading-row, offset-row}
-use Rattle.image.proofs.Match.{past}
+use native.Mathlib.Omega.{arith}
+use Rattle.image.proofs.Padding.{reference-is}
 use Rattle.image.proofs.rows.value_row.Goals as goal
 
-pub returns-in-0 : goal.returns-in-0
-unfolding class_of
-returns-in-0 c = record { classes = rw c.in-0.is }
-
 pub returns-in-1 : goal.returns-in-1
-returns-in-1 c = rw c.in-1.is (reading-row _ c.args.code c.reading_row-reference.ensures)
+returns-in-1 c =
+    let e = c.row_at.ensures in
+    rw (c.in-1.is, reference-is c.args.code _ e _ 0 (omega arith), reference-is c.args.code _ e _ 1 (omega arith), reference-is c.args.code _ e _ 2 (omega arith))
 
 pub returns-in-2 : goal.returns-in-2
-returns-in-2 c = rw c.in-2.is (offset-row _ c.args.code c.reading_row-reference.ensures)
-
-pub returns-in_default : goal.returns-in_default
-unfolding class_of
-returns-in_default c = let a = c.args in record { classes = no_row void 5 (value_rows a.code) a.kind (past 0 3 a.kind zero-le c.in_default.in_default-own.rest) }
+returns-in-2 c =
+    let e = c.row_at.ensures in
+    rw (c.in-2.is, reference-is c.args.code _ e _ 0 (omega arith), reference-is c.args.code _ e _ 1 (omega arith), reference-is c.args.code _ e _ 2 (omega arith))
