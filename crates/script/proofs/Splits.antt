@@ -1,165 +1,143 @@
--- A line read byte by byte: its comment and its words. Assumes nothing.
-use mathlib.Core.Path.{◌≡◌, refl, sym, ap, ◌∙◌}
-use mathlib.Core.Bool.{Bool, true, false}
-use mathlib.Core.List.{List, [], ◌∷◌, ◌++◌, append_assoc, append-nil}
-use Prim.Native.Nat.{ℕ, suc, ◌+◌, ◌-◌, ◌≤◌, ◌<◌}
-use native.Mathlib.Numerals.{add-one}
-use native.Mathlib.Omega.{arith}
-use borrow.Author.Tests.{eq-eqb, ne_eqb}
-use lib.ListN.{length, get_or, take, drop, drop_of_length-le, length-drop}
-use lib.Seq.{drop-cons, take-suc, get_or-drop}
-use Rattle.script.specs.Words.{up_to, is_space, at_space, before, words_of, past_space, past_word}
-use Rattle.script.specs.Scan.{part, Word, NoWord, At, WordStart, WordEnd, WordAt, NextWord}
+-- A text cut into its words. Assumes nothing.
+use Rattle.std.proofs.Common.{◌≡◌, ℕ, zero, suc, ◌+◌, ◌<◌, ◌≤◌, Bool, true, false, not, cond, List, [], ◌∷◌, ◌++◌, length, take, drop, get_or, None, Some, ltb, refl, sym, ap, ◌∙◌, arith, get_or-drop, add-zero, append_assoc}
+use lib.ListN.{take-append-drop}
+use borrow.Author.Tests.{ltb-false}
+use Rattle.std.specs.Char.{is_ascii_whitespace}
+use Rattle.std.specs.Str.{IsAsciiWhitespaceBelow, IsTrimAsciiStart}
+use Rattle.std.specs.List.{position_or_len, position}
+use Rattle.std.specs.Option.{unwrap_or}
+use Rattle.script.specs.Words.{before, words_of, past_space, past_word, past_words}
+use Rattle.script.specs.Scan.{TakesWord}
 
--- UP TO A BYTE. The invariant of its loop at i: what was passed, and what is left up to the byte, are the whole.
-abbrev pub passed : ℕ → List ℕ → ℕ → List ℕ
-passed c l i = take i l ++ up_to c (drop i l)
+-- the place of the first that passes, or the length
+pub position_within : {X : Type 0} (p : X → Bool) (xs : List X) → position_or_len p xs ≤ length xs
+position_within p [] = omega arith
+position_within p (x ∷ xs) = go (p x) (position_within p xs)
+  where
+    go : (b : Bool) → position_or_len p xs ≤ length xs → cond (not b) (1 + position_or_len p xs) 0 ≤ suc (length xs)
+    go true h = omega arith
+    go false h = omega arith
 
-module _ (c : ℕ) (l : List ℕ) (i : ℕ) (h : i < length l) (e : passed c l i ≡ up_to c l) where
-  pub byte-here : get_or l i 0 ≡ c → take i l ≡ up_to c l
-  unfolding up_to
-  byte-here b = sym (append-nil (take i l)) ∙ (rw (drop-cons l i 0, eq-eqb (get_or l i 0) c b) at e)
+pub position_or_end : {X : Type 0} (p : X → Bool) (xs : List X) → unwrap_or (position p xs) (length xs) ≡ position_or_len p xs
+position_or_end p xs = go (ltb (position_or_len p xs) (length xs)) refl
+  where
+    go : (b : Bool) → ltb (position_or_len p xs) (length xs) ≡ b → unwrap_or (cond b (Some (position_or_len p xs)) None) (length xs) ≡ position_or_len p xs
+    go true e = refl
+    go false e = omega (arith, ltb-false (position_or_len p xs) (length xs) e, position_within p xs)
 
-  pub byte-later : (get_or l i 0 ≡ c → ⊥) → passed c l (i + 1) ≡ up_to c l
-  unfolding up_to
-  byte-later b =
-      rw (add-one, take-suc l i 0, append_assoc) (rw (drop-cons l i 0, ne_eqb (get_or l i 0) c b) at e)
+abbrev word_len : List ℕ → ℕ
+word_len l = position_or_len is_ascii_whitespace l
 
-pub no_byte : (c : ℕ) (l : List ℕ) (i : ℕ) → length l ≤ i → passed c l i ≡ up_to c l → take i l ≡ up_to c l
-unfolding up_to
-no_byte c l i h e = sym (append-nil (take i l)) ∙ (rw (drop_of_length-le l h) at e)
-
--- WORDS ------------------------------------------------------------------------------------------------------------------------
--- The invariant of the loop that skips white space, at i.
-pub record Skipped (l : List ℕ) (at i : ℕ) : Type 0 where
-  pub same : words_of (drop i l) ≡ words_of (drop at l)
-  pub left : past_space (drop i l) ≡ past_space (drop at l)
-
-pub none-skipped : (l : List ℕ) (at : ℕ) → Skipped l at at
-none-skipped l at = record { same = refl; left = refl }
-
-module _ (l : List ℕ) (at i : ℕ) (s : Skipped l at i) where
-  pub skipped : i < length l → is_space (get_or l i 0) ≡ true → Skipped l at (i + 1)
-  unfolding words_of past_space
-  skipped h e =
-      let w : words_of (drop (suc i) l) ≡ words_of (drop i l) = rw (drop-cons l i 0, e) refl in
-      let p : past_space (drop (suc i) l) ≡ past_space (drop i l) = rw (drop-cons l i 0, e) refl in
-      rw add-one (record { same = w ∙ s.same; left = p ∙ s.left })
-
-  pub space-left : i < length l → is_space (get_or l i 0) ≡ false → drop i l ≡ past_space (drop at l)
-  unfolding past_space
-  space-left h e =
-      let p : drop i l ≡ past_space (drop i l) = rw (drop-cons l i 0, e) refl in
-      p ∙ s.left
-
-  pub none_left : length l ≤ i → drop i l ≡ past_space (drop at l)
-  unfolding past_space
-  none_left h =
-      let p : drop i l ≡ past_space (drop i l) = rw (drop_of_length-le l h) refl in
-      p ∙ s.left
-
--- the bytes p of a word before the rest of the text
-abbrev pub front : List ℕ → List (List ℕ) → List (List ℕ)
-front p [] = p ∷ []
-front p (w ∷ ws) = (p ++ w) ∷ ws
-
-abbrev pub glue : Bool → List ℕ → List (List ℕ) → List (List ℕ)
-glue true p ws = p ∷ ws
-glue false p ws = front p ws
-
-unfoldable pub glued : List ℕ → List ℕ → List (List ℕ)
-glued p rest = glue (at_space rest) p (words_of rest)
-
-front-more : (p : List ℕ) (b : ℕ) (ends : Bool) (ws : List (List ℕ)) → front p (before false ends b ws) ≡ glue ends (p ++ (b ∷ [])) ws
-front-more p b true ws = refl
-front-more p b false [] = refl
-front-more p b false (w ∷ ws) = rw append_assoc
-
-begun : (b : ℕ) (ends : Bool) (ws : List (List ℕ)) → before false ends b ws ≡ glue ends (b ∷ []) ws
-begun b true ws = refl
-begun b false [] = refl
-begun b false (w ∷ ws) = refl
-
-pub glued-first : (b : ℕ) (rest : List ℕ) → is_space b ≡ false → words_of (b ∷ rest) ≡ glued (b ∷ []) rest
-unfolding words_of glued
-glued-first b rest e = rw e (begun b (at_space rest) (words_of rest))
-
-pub glued-more : (p : List ℕ) (b : ℕ) (rest : List ℕ) → is_space b ≡ false → glued p (b ∷ rest) ≡ glued (p ++ (b ∷ [])) rest
-unfolding words_of glued
-glued-more p b rest e = rw e (front-more p b (at_space rest) (words_of rest))
-
-pub glued-last : (p rest : List ℕ) → at_space rest ≡ true → glued p rest ≡ p ∷ words_of rest
-unfolding glued
-glued-last p rest e = rw e
-
--- one more byte of a part
-pub part-more : (l : List ℕ) (at i : ℕ) → at ≤ i → i < length l → part l at (i + 1) ≡ part l at i ++ (get_or l i 0 ∷ [])
-part-more l at i a h =
-    let n : i + 1 - at ≡ suc (i - at) = omega arith in
-    let m : at + (i - at) ≡ i = omega arith in
-    let s : i - at < length (drop at l) = rw length-drop (omega arith) in
-    rw (n, take-suc (drop at l) (i - at) 0 s, get_or-drop, m)
-
--- The invariant of the loop that finds a word's end, at i.
-pub record Within (l : List ℕ) (at i : ℕ) : Type 0 where
-  pub word : words_of (drop at l) ≡ glued (part l at i) (drop i l)
-  pub left : past_word (drop i l) ≡ past_word (drop at l)
-
-module _ (l : List ℕ) (at : ℕ) where
-  passes : (i : ℕ) → i < length l → is_space (get_or l i 0) ≡ false → past_word (drop (i + 1) l) ≡ past_word (drop i l)
-  unfolding past_word
-  passes i h e = rw (add-one, drop-cons l i 0, e) refl
-
-  pub within_first : at < length l → is_space (get_or l at 0) ≡ false → Within l at (at + 1)
-  within_first h e =
-      let n : at + 1 - at ≡ 1 = omega arith in
-      record {
-        word = rw (n, add-one, drop-cons l at 0) (glued-first (get_or l at 0) (drop (suc at) l) e);
-        left = passes at h e;
-      }
-
-  pub within_more : (i : ℕ) → at ≤ i → i < length l → Within l at i → is_space (get_or l i 0) ≡ false → Within l at (i + 1)
-  within_more i a h w e =
-      record {
-        word =
-            rw (part-more l at i a h, add-one, ← glued-more (part l at i) (get_or l i 0) (drop (suc i) l) e, ← drop-cons l i 0 h) w.word;
-        left = passes i h e ∙ w.left;
-      }
-
-  pub within-ends : (i : ℕ) → Within l at i → at_space (drop i l) ≡ true → words_of (drop at l) ≡ part l at i ∷ words_of (drop i l)
-  within-ends i w e = w.word ∙ glued-last (part l at i) (drop i l) e
-
-  pub within-left : (i : ℕ) → Within l at i → at_space (drop i l) ≡ true → drop i l ≡ past_word (drop at l)
-  unfolding past_word
-  within-left i w e = go (drop i l) e ∙ w.left
-    where
-      go : (r : List ℕ) → at_space r ≡ true → r ≡ past_word r
-      go [] f = refl
-      go (b ∷ bs) f = rw f refl
-
-pub space-here : (l : List ℕ) (i : ℕ) → i < length l → is_space (get_or l i 0) ≡ true → at_space (drop i l) ≡ true
-space-here l i h e = rw (drop-cons l i 0, e)
-
-pub space-end : (l : List ℕ) (i : ℕ) → length l ≤ i → at_space (drop i l) ≡ true
-space-end l i h = rw (drop_of_length-le l h)
-
--- A word that was found, or none.
-pub word-at : (s : List ℕ) (at : ℕ) {from to : ℕ} {w : Word} → NextWord s at w → w ≡ At from to → WordAt s at from to
-word-at s at {from} {to} {w} n e = rw e at n
-
-pub no_word : (s : List ℕ) (at : ℕ) {w : Word} → NextWord s at w → w ≡ NoWord → words_of (drop at s) ≡ []
-no_word s at {w} n e = rw e at n
-
-pub at-end : (s : List ℕ) (at from : ℕ) → WordStart s at from → length s ≤ from → words_of (drop at s) ≡ []
+-- a word goes to the next white space
+first_word : (b : ℕ) (bs : List ℕ) → is_ascii_whitespace b ≡ false → words_of (b ∷ bs) ≡ (b ∷ take (word_len bs) bs) ∷ words_of (drop (word_len bs) bs)
 unfolding words_of
-at-end s at from w h = sym w.same ∙ rw (drop_of_length-le s h)
+first_word b [] e = rw e
+first_word b (c ∷ cs) e = go (is_ascii_whitespace c) refl (first_word c cs)
+  where
+    to : ℕ → List (List ℕ)
+    to k = (b ∷ take k (c ∷ cs)) ∷ words_of (drop k (c ∷ cs))
 
-pub found : (s : List ℕ) (at from to : ℕ) → WordStart s at from → WordEnd s from to → WordAt s at from to
-found s at from to a b =
-    record {
-      within = b.within;
-      behind = a.behind;
-      some = b.behind;
-      word = sym a.same ∙ b.word;
-      left = b.left ∙ ap past_word a.left;
-    }
+    go : (x : Bool) → is_ascii_whitespace c ≡ x
+        → (is_ascii_whitespace c ≡ false → words_of (c ∷ cs) ≡ (c ∷ take (word_len cs) cs) ∷ words_of (drop (word_len cs) cs))
+        → words_of (b ∷ c ∷ cs) ≡ to (word_len (c ∷ cs))
+    go true f h = rw (e, f) (rw f refl)
+    go false f h =
+        let g = rw f at (h f) in
+        let one : suc (word_len cs) ≡ 1 + word_len cs = omega arith in
+        rw (e, f) (ap (before false false b) g ∙ ap to one)
+
+past_first : (l : List ℕ) → past_word l ≡ drop (word_len l) l
+unfolding past_word
+past_first [] = refl
+past_first (b ∷ bs) = go (is_ascii_whitespace b) (past_first bs)
+  where
+    go : (x : Bool) → past_word bs ≡ drop (word_len bs) bs → cond x (b ∷ bs) (past_word bs) ≡ drop (cond (not x) (1 + word_len bs) 0) (b ∷ bs)
+    go true h = refl
+    go false h = let one : suc (word_len bs) ≡ 1 + word_len bs = omega arith in h ∙ ap (λ (k : ℕ). drop k (b ∷ bs)) one
+
+-- white space in front of a text holds no word
+words-past : (n : ℕ) (s : List ℕ) → IsAsciiWhitespaceBelow s n → words_of (drop n s) ≡ words_of s
+unfolding words_of
+words-past zero s w = refl
+words-past (suc n) [] w = refl
+words-past (suc n) (b ∷ bs) w = rw (w 0 (omega arith)) (words-past n bs (λ i h. w (suc i) (omega arith)))
+
+space-past : (n : ℕ) (s : List ℕ) → IsAsciiWhitespaceBelow s n → (n < length s → is_ascii_whitespace (get_or s n 0) ≡ false) → drop n s ≡ past_space s
+unfolding past_space
+space-past zero [] w e = refl
+space-past zero (b ∷ bs) w e = rw (e (omega arith)) refl
+space-past (suc n) [] w e = refl
+space-past (suc n) (b ∷ bs) w e = rw (w 0 (omega arith)) (space-past n bs (λ i h. w (suc i) (omega arith)) (λ h. e (omega arith)))
+
+module _ (s r : List ℕ) (t : IsTrimAsciiStart s r) where
+  ahead : words_of r ≡ words_of s
+  ahead = ap words_of t.1 ∙ words-past t.0 s t.3
+
+  pub no_word : length r ≡ 0 → words_of s ≡ []
+  unfolding words_of
+  no_word e = go r refl
+    where
+      go : (l : List ℕ) → l ≡ r → words_of s ≡ []
+      go [] f = sym ahead ∙ ap words_of (sym f)
+      go (b ∷ bs) f = absurd (omega (arith, ap length f))
+
+  pub takes_word : (length r ≡ 0 → ⊥) → TakesWord s (take (word_len r) r) (drop (word_len r) r)
+  takes_word ne = go r refl
+    where
+      go : (l : List ℕ) → l ≡ r → TakesWord s (take (word_len l) l) (drop (word_len l) l)
+      go [] f = absurd (ne (ap length (sym f)))
+      go (b ∷ bs) f =
+          let some : t.0 < length s = omega (arith, ap length f, t.2) in
+          let e : is_ascii_whitespace b ≡ false = rw (ap (λ (l : List ℕ). get_or l 0 0) (f ∙ t.1), get_or-drop, add-zero) (t.4 some) in
+          let one : suc (word_len bs) ≡ word_len (b ∷ bs) = rw e (omega arith) in
+          record {
+            word = sym ahead ∙ (ap words_of (sym f) ∙ first_word b bs e) ∙ ap (λ (k : ℕ). take k (b ∷ bs) ∷ words_of (drop k (b ∷ bs))) one;
+            left = sym (past_first (b ∷ bs)) ∙ ap past_word (f ∙ t.1 ∙ space-past t.0 s t.3 t.4);
+          }
+
+-- ENDS OF A TEXT ------------------------------------------------------------------------------------------------------------------
+pub record EndOf (s r : List ℕ) : Type 0 where
+  pub front : List ℕ
+  pub whole : s ≡ front ++ r
+
+pub end-itself : (s : List ℕ) → EndOf s s
+end-itself s = record { front = []; whole = refl }
+
+pub end-then : {s r q : List ℕ} → EndOf s r → EndOf r q → EndOf s q
+end-then {s} {r} {q} a b =
+    record { front = a.front ++ b.front; whole = a.whole ∙ (ap (λ (z : List ℕ). a.front ++ z) b.whole ∙ sym (append_assoc a.front b.front q)) }
+
+end_more : (b : ℕ) {s r : List ℕ} → EndOf s r → EndOf (b ∷ s) r
+end_more b a = record { front = b ∷ a.front; whole = ap (λ (z : List ℕ). b ∷ z) a.whole }
+
+pub end-space : (s : List ℕ) → EndOf s (past_space s)
+unfolding past_space
+end-space [] = end-itself []
+end-space (b ∷ bs) = go (is_ascii_whitespace b) (end-space bs)
+  where
+    go : (x : Bool) → EndOf bs (past_space bs) → EndOf (b ∷ bs) (cond x (past_space bs) (b ∷ bs))
+    go true e = end_more b e
+    go false e = end-itself (b ∷ bs)
+
+pub end-word : (s : List ℕ) → EndOf s (past_word s)
+unfolding past_word
+end-word [] = end-itself []
+end-word (b ∷ bs) = go (is_ascii_whitespace b) (end-word bs)
+  where
+    go : (x : Bool) → EndOf bs (past_word bs) → EndOf (b ∷ bs) (cond x (b ∷ bs) (past_word bs))
+    go true e = end-itself (b ∷ bs)
+    go false e = end_more b e
+
+pub end-words : (n : ℕ) (s : List ℕ) → EndOf s (past_words n s)
+unfolding past_words
+end-words zero s = end-itself s
+end-words (suc n) s = end-then (end-words n s) (end-then (end-space (past_words n s)) (end-word (past_space (past_words n s))))
+
+pub end-drop : (k : ℕ) (s : List ℕ) → EndOf s (drop k s)
+end-drop k s = record { front = take k s; whole = sym (take-append-drop k s) }
+
+-- what was taken, and the rest
+pub cut-rest : (n : ℕ) (l : List ℕ) → take n l ++ drop (length (take n l)) l ≡ l
+cut-rest zero l = refl
+cut-rest (suc n) [] = refl
+cut-rest (suc n) (b ∷ bs) = ap (λ (z : List ℕ). b ∷ z) (cut-rest n bs)

@@ -1,143 +1,213 @@
 // The table of calls: the rows of the definition.
-ghost use Rattle.std.specs.Prelude.{◌≡◌, ◌≤◌, ltb, length, get_or};
-ghost use Rattle.script.specs.Table.{rows, row_of, no_param};
-ghost use Rattle.script.specs.Rows.{shape_of};
-ghost use Rattle.script.specs.Print.{largest_of};
+ghost use Rattle.std.specs.Prelude.{◌≡◌, ◌≤◌, Some, length};
+ghost use Rattle.std.specs.List.{find};
+ghost use Rattle.std.specs.Str.{bytes_eq};
+ghost use Rattle.script.specs.Table.{rows, param_name, most_of};
+ghost use Rattle.script.specs.Script.{call_named};
+ghost use Rattle.script.specs.Print.{call_name};
 
-use crate::{Shape, Tail};
+use std::fmt;
 
-// The calls, by their numbers.
-pub const NEW: u32 = 0;
+#[derive(Clone, Copy, PartialEq, Eq)]
+pub enum Call {
+    New,
+    Load,
+    Unload,
+    Enable,
+    Tick,
+    Run,
+    Deadline,
+    Counters,
+    Lend,
+    Size,
+    Poke,
+    Peek,
+    Telegrams,
+    Crontab,
+    Start,
+    RoomFor,
+}
 
-pub const LOAD: u32 = 1;
+#[derive(Clone, Copy, PartialEq, Eq)]
+pub enum Param {
+    Time,
+    Rule,
+    Mark,
+    DryMark,
+    OutcomeWords,
+    EffectWords,
+    WordCount,
+    Place,
+    Word,
+    Room,
+    Sunday,
+    TriggerWords,
+}
 
-pub const UNLOAD: u32 = 2;
+// What stands behind the numbers of a call.
+#[derive(Clone, Copy, PartialEq, Eq)]
+pub enum Tail {
+    Nothing,
+    Words,
+    Text,
+}
 
-pub const ENABLE: u32 = 3;
+// A row of the table: up to four parameters.
+#[derive(Clone, Copy)]
+struct Shape {
+    name: &'static str,
+    params: &'static [Param],
+    tail: Tail,
+}
 
-pub const TICK: u32 = 4;
+impl Shape {
+    fn new(name: &'static str, params: &'static [Param], tail: Tail) -> Self
+        ensures name { result.name.now ≡ name.now }
+        ensures params { result.params.now ≡ params.now }
+        ensures tail { result.tail ≡ tail }
+    {
+        Shape { name, params, tail }
+    }
+}
 
-pub const RUN: u32 = 5;
-
-pub const DEADLINE: u32 = 6;
-
-pub const COUNTERS: u32 = 7;
-
-pub const LEND: u32 = 8;
-
-pub const SIZE: u32 = 9;
-
-pub const POKE: u32 = 10;
-
-pub const PEEK: u32 = 11;
-
-pub const TELEGRAMS: u32 = 12;
-
-pub const CRONTAB: u32 = 13;
-
-pub const START: u32 = 14;
-
-pub const ROOM_FOR: u32 = 15;
-
-// The parameters, by their numbers: as in `names`.
-const TIME: u32 = 0;
-
-const RULE: u32 = 1;
-
-const MARK: u32 = 2;
-
-const DRY_MARK: u32 = 3;
-
-const OUTCOME_WORDS: u32 = 4;
-
-const EFFECT_WORDS: u32 = 5;
-
-const WORDS: u32 = 6;
-
-const PLACE: u32 = 7;
-
-const WORD: u32 = 8;
-
-const ROOM: u32 = 9;
-
-const SUNDAY: u32 = 10;
-
-const TRIGGER_WORDS: u32 = 11;
-
-const NONE: u32 = 12;
-
-// The largest number of each.
-const LARGEST: [u64; 12] = [
-    u64::MAX,
-    4294967295,
-    1,
-    1,
-    24576,
-    327680,
-    4294967295,
-    16383,
-    4294967295,
-    8192,
-    4294967295,
-    16384,
+const CALLS: [Call; 16] = [
+    Call::New,
+    Call::Load,
+    Call::Unload,
+    Call::Enable,
+    Call::Tick,
+    Call::Run,
+    Call::Deadline,
+    Call::Counters,
+    Call::Lend,
+    Call::Size,
+    Call::Poke,
+    Call::Peek,
+    Call::Telegrams,
+    Call::Crontab,
+    Call::Start,
+    Call::RoomFor,
 ];
 
-fn row(call: u32) -> Shape
-    ensures { result ≡ shape_of (row_of rows call) }
-{
-    match call {
-        NEW => Shape(TIME, NONE, NONE, NONE, Tail::Nothing),
-        LOAD => Shape(TIME, NONE, NONE, NONE, Tail::Words),
-        UNLOAD => Shape(TIME, NONE, NONE, NONE, Tail::Nothing),
-        ENABLE => Shape(RULE, MARK, NONE, NONE, Tail::Nothing),
-        TICK => Shape(NONE, NONE, NONE, NONE, Tail::Words),
-        RUN => Shape(RULE, DRY_MARK, NONE, NONE, Tail::Words),
-        DEADLINE => Shape(NONE, NONE, NONE, NONE, Tail::Nothing),
-        COUNTERS => Shape(NONE, NONE, NONE, NONE, Tail::Nothing),
-        LEND => Shape(OUTCOME_WORDS, EFFECT_WORDS, NONE, NONE, Tail::Nothing),
-        SIZE => Shape(WORDS, NONE, NONE, NONE, Tail::Nothing),
-        POKE => Shape(PLACE, WORD, NONE, NONE, Tail::Nothing),
-        PEEK => Shape(PLACE, NONE, NONE, NONE, Tail::Nothing),
-        TELEGRAMS => Shape(ROOM, NONE, NONE, NONE, Tail::Words),
-        CRONTAB => Shape(SUNDAY, TRIGGER_WORDS, NONE, NONE, Tail::Text),
-        START => Shape(NONE, NONE, NONE, NONE, Tail::Words),
-        ROOM_FOR => Shape(NONE, NONE, NONE, NONE, Tail::Words),
-        _ => Shape(NONE, NONE, NONE, NONE, Tail::Nothing),
+impl Call {
+    fn shape(self) -> Shape
+        ensures name { result.name.now ≡ (rows self).name }
+        ensures params { result.params.now ≡ (rows self).params }
+        ensures few { length result.params.now ≤ 4 }
+        ensures tail { result.tail ≡ (rows self).tail }
+    {
+        match self {
+            Call::New => Shape::new("new", &[Param::Time], Tail::Nothing),
+            Call::Load => Shape::new("load", &[Param::Time], Tail::Words),
+            Call::Unload => Shape::new("unload", &[Param::Time], Tail::Nothing),
+            Call::Enable => Shape::new("enable", &[Param::Rule, Param::Mark], Tail::Nothing),
+            Call::Tick => Shape::new("tick", &[], Tail::Words),
+            Call::Run => Shape::new("run", &[Param::Rule, Param::DryMark], Tail::Words),
+            Call::Deadline => Shape::new("deadline", &[], Tail::Nothing),
+            Call::Counters => Shape::new("counters", &[], Tail::Nothing),
+            Call::Lend => {
+                Shape::new(
+                    "lend",
+                    &[Param::OutcomeWords, Param::EffectWords],
+                    Tail::Nothing,
+                )
+            }
+            Call::Size => Shape::new("size", &[Param::WordCount], Tail::Nothing),
+            Call::Poke => Shape::new("poke", &[Param::Place, Param::Word], Tail::Nothing),
+            Call::Peek => Shape::new("peek", &[Param::Place], Tail::Nothing),
+            Call::Telegrams => Shape::new("telegrams", &[Param::Room], Tail::Words),
+            Call::Crontab => Shape::new(
+                "crontab",
+                &[Param::Sunday, Param::TriggerWords],
+                Tail::Text,
+            ),
+            Call::Start => Shape::new("start", &[], Tail::Words),
+            Call::RoomFor => Shape::new("room", &[], Tail::Words),
+        }
+    }
+
+    pub fn params(self) -> &'static [Param]
+        ensures params { result.now ≡ (rows self).params }
+        ensures few { length result.now ≤ 4 }
+    {
+        self.shape().params
+    }
+
+    pub fn tail(self) -> Tail
+        ensures { result ≡ (rows self).tail }
+    {
+        self.shape().tail
+    }
+
+    fn is_named(self, word: &[u8]) -> bool
+        ensures { result ≡ bytes_eq (rows self).name word.now }
+    {
+        self.shape().name.as_bytes() == word
+    }
+
+    // The call of a name.
+    pub fn named(word: &[u8]) -> Option<Call>
+        ensures { result ≡ call_named rows word.now }
+    {
+        first_named(&CALLS, word)
     }
 }
 
-// What stands behind a call's numbers.
-pub fn tail_of(call: u32) -> Tail
-    ensures { result ≡ (row_of rows call).tail }
+fn first_named(calls: &[Call], word: &[u8]) -> Option<Call>
+    ensures { result ≡ find (λ c. bytes_eq (rows c).name word.now) calls.now }
 {
-    row(call).4
+    calls.iter().copied().find(|call| call.is_named(word))
 }
 
-// Parameter i of a call.
-pub fn param(call: u32, i: u32) -> u32
-    ensures { result ≡ get_or (row_of rows call).params i no_param }
-{
-    let r = row(call);
-    match i {
-        0 => r.0,
-        1 => r.1,
-        2 => r.2,
-        3 => r.3,
-        _ => NONE,
+impl fmt::Display for Call {
+    ghost output = { λ call. Some (call_name call) };
+
+    fn fmt<W: fmt::Write>(&self, f: &mut fmt::Formatter<W>) -> fmt::Result {
+        f.write_str(self.shape().name)
     }
 }
 
-// Whether a call has parameter i.
-pub fn has_param(call: u32, i: u32) -> bool
-    ensures { result ≡ ltb i (length (row_of rows call).params) }
-{
-    param(call, i) != NONE
+impl Param {
+    fn name(self) -> &'static str
+        ensures { result.now ≡ param_name self }
+    {
+        match self {
+            Param::Time => "time",
+            Param::Rule => "rule",
+            Param::Mark => "mark",
+            Param::DryMark => "dry mark",
+            Param::OutcomeWords => "number of outcome words",
+            Param::EffectWords => "number of effect words",
+            Param::WordCount => "number of words",
+            Param::Place => "place",
+            Param::Word => "word",
+            Param::Room => "room",
+            Param::Sunday => "Sunday",
+            Param::TriggerWords => "number of trigger words",
+        }
+    }
+
+    // Its largest number.
+    pub fn most(self) -> u64
+        ensures { result ≡ most_of self }
+    {
+        match self {
+            Param::Time => u64::MAX,
+            Param::Rule | Param::WordCount | Param::Word | Param::Sunday => 4294967295,
+            Param::Mark | Param::DryMark => 1,
+            Param::OutcomeWords => 24576,
+            Param::EffectWords => 327680,
+            Param::Place => 16383,
+            Param::Room => 8192,
+            Param::TriggerWords => 16384,
+        }
+    }
 }
 
-// Its largest number.
-pub fn largest(call: u32, i: u32) -> u64
-    ensures { result ≡ largest_of call i }
-{
-    let p = param(call, i);
-    if p < NONE { LARGEST[p as usize] } else { 0 }
+impl fmt::Display for Param {
+    ghost output = { λ param. Some (param_name param) };
+
+    fn fmt<W: fmt::Write>(&self, f: &mut fmt::Formatter<W>) -> fmt::Result {
+        f.write_str(self.name())
+    }
 }

@@ -1,132 +1,87 @@
 // The line for text that is no call.
-ghost use Rattle.std.specs.Prelude.{◌+◌, ◌*◌, ◌≤◌, [], ◌∷◌, ◌++◌, length, get_or};
-ghost use Rattle.model.specs.Text.{bytes_of};
-ghost use Rattle.script.specs.Print.{numbers, call_name, param_name, largest_of, over_text, of_call, wrong_text, wrong_line};
-ghost use Rattle.script.specs.Put.{Puts, Prints};
+ghost use Rattle.std.specs.Prelude.{Some};
+ghost use Rattle.script.specs.Print.{over_text, wrong_text, wrong_line, signed};
 
-use crate::{Wrong, calls, names, put};
+use crate::{Call, Param};
+use std::fmt;
+
+// What is wrong with a line. The words of a list are numbered from 0.
+#[derive(Clone, Copy, PartialEq, Eq)]
+pub enum Wrong {
+    NoSuchCall,
+    Missing { call: Call, param: Param },
+    NotDecimal { call: Call, param: Param },
+    OutOfRange { call: Call, param: Param },
+    WordNotDecimal { call: Call, word: usize },
+    WordOutOfRange { call: Call, word: usize },
+    TooManyWords { call: Call },
+    ListTooLong { call: Call, room: usize },
+    LineTooLong,
+}
 
 // What is wrong with a number over the largest.
-fn over(buf: &mut [u8], at: usize, most: u64) -> usize
-    requires { at + 64 ≤ length buf.old }
-    ensures { Puts buf.old at 2 (over_text most) buf.new result }
-{
-    if most == u64::MAX {
-        return put::text(buf, at, b" does not fit into 64 bits");
+#[derive(Clone, Copy)]
+struct Over(u64);
+
+impl fmt::Display for Over {
+    ghost output = { λ most. Some (over_text most.0) };
+
+    fn fmt<W: fmt::Write>(&self, f: &mut fmt::Formatter<W>) -> fmt::Result {
+        match self.0 {
+            u64::MAX => write!(f, " does not fit into 64 bits"),
+            4294967295 => write!(f, " does not fit into 32 bits"),
+            1 => write!(f, " is neither 0 nor 1"),
+            most => write!(f, " is over {most}"),
+        }
     }
-    if most == 4294967295 {
-        return put::text(buf, at, b" does not fit into 32 bits");
-    }
-    if most == 1 {
-        return put::text(buf, at, b" is neither 0 nor 1");
-    }
-    let a = put::text(buf, at, b" is over");
-    put::number(buf, a, most)
 }
 
-// A call's name and a colon.
-fn of_call(buf: &mut [u8], at: usize, call: u32) -> usize
-    requires { at + 64 ≤ length buf.old }
-    ensures { Puts buf.old at 2 (call_name call ++ bytes_of ": ") buf.new result }
-{
-    let a = names::put_call(buf, at, call);
-    put::text(buf, a, b": ")
-}
+impl fmt::Display for Wrong {
+    ghost output = { λ wrong. Some (wrong_text wrong) };
 
-// A call and a text.
-fn call_then(buf: &mut [u8], at: usize, call: u32, text: &[u8]) -> usize
-    requires { (at + 96 ≤ length buf.old) × (length text.now ≤ 32) }
-    ensures { Puts buf.old at 3 (of_call call text.now) buf.new result }
-{
-    let a = of_call(buf, at, call);
-    put::text(buf, a, text)
-}
-
-// A call and its parameter i.
-fn of_param(buf: &mut [u8], at: usize, call: u32, i: u32) -> usize
-    requires { at + 96 ≤ length buf.old }
-    ensures { Puts buf.old at 3 (of_call call (param_name call i)) buf.new result }
-{
-    let a = of_call(buf, at, call);
-    names::put_param(buf, a, call, i)
-}
-
-// A call's parameter i and a text.
-fn param_then(buf: &mut [u8], at: usize, call: u32, i: u32, text: &[u8]) -> usize
-    requires { (at + 128 ≤ length buf.old) × (length text.now ≤ 32) }
-    ensures { Puts buf.old at 4 (of_call call (param_name call i ++ text.now)) buf.new result }
-{
-    let a = of_param(buf, at, call, i);
-    put::text(buf, a, text)
-}
-
-// A call's parameter i, over its largest number.
-fn param_over(buf: &mut [u8], at: usize, call: u32, i: u32) -> usize
-    requires { at + 160 ≤ length buf.old }
-    ensures { Puts buf.old at 5 (of_call call (param_name call i ++ over_text (largest_of call i))) buf.new result }
-{
-    let a = of_param(buf, at, call, i);
-    over(buf, a, calls::largest(call, i))
-}
-
-// A call, a text, a number and a text.
-fn counted(buf: &mut [u8], at: usize, call: u32, text: &[u8], n: u64, more: &[u8]) -> usize
-    requires { (at + 160 ≤ length buf.old) × (length text.now ≤ 32) × (length more.now ≤ 32) }
-    ensures { Puts buf.old at 5 (of_call call (text.now ++ (numbers (n ∷ []) ++ more.now))) buf.new result }
-{
-    let a = call_then(buf, at, call, text);
-    let b = put::number(buf, a, n);
-    put::text(buf, b, more)
-}
-
-// What is wrong.
-fn message(buf: &mut [u8], at: usize, w: Wrong) -> usize
-    requires { at + 160 ≤ length buf.old }
-    ensures { Puts buf.old at 5 (wrong_text w) buf.new result }
-{
-    match w {
-        Wrong::NoSuchCall => put::text(buf, at, b"no such call"),
-        Wrong::Missing { call, param } => param_then(buf, at, call, param, b" is missing"),
-        Wrong::NotDecimal { call, param } => {
-            param_then(buf, at, call, param, b" is no decimal number")
+    fn fmt<W: fmt::Write>(&self, f: &mut fmt::Formatter<W>) -> fmt::Result {
+        match *self {
+            Wrong::NoSuchCall => write!(f, "no such call"),
+            Wrong::Missing { call, param } => write!(f, "{call}: {param} is missing"),
+            Wrong::NotDecimal { call, param } => write!(f, "{call}: {param} is no decimal number"),
+            Wrong::OutOfRange { call, param } => write!(f, "{call}: {param}{}", Over(param.most())),
+            Wrong::WordNotDecimal { call, word } => {
+                write!(f, "{call}: word {word} is no decimal number")
+            }
+            Wrong::WordOutOfRange { call, word } => {
+                write!(f, "{call}: word {word}{}", Over(4294967295))
+            }
+            Wrong::TooManyWords { call } => write!(f, "{call}: a word too many"),
+            Wrong::ListTooLong { call, room } => write!(f, "{call}: more than {room} words"),
+            Wrong::LineTooLong => write!(f, "line too long"),
         }
-        Wrong::OutOfRange { call, param } => param_over(buf, at, call, param),
-        Wrong::WordNotDecimal { call, word } => {
-            counted(
-                buf,
-                at,
-                call,
-                b"word",
-                word as u64,
-                b" is no decimal number",
-            )
-        }
-        Wrong::WordOutOfRange { call, word } => {
-            counted(
-                buf,
-                at,
-                call,
-                b"word",
-                word as u64,
-                b" does not fit into 32 bits",
-            )
-        }
-        Wrong::TooManyWords { call } => call_then(buf, at, call, b"a word too many"),
-        Wrong::ListTooLong { call, room } => {
-            counted(buf, at, call, b"more than", room as u64, b" words")
-        }
-        Wrong::LineTooLong => put::text(buf, at, b"line too long"),
     }
 }
 
 // The line's number and what is wrong with it.
-pub fn wrong_line(buf: &mut [u8], line: u64, w: Wrong) -> usize
-    requires { 1024 ≤ length buf.old }
-    ensures { Prints (wrong_line line w) buf.new result }
-{
-    let a = put::text(buf, 0, b"line");
-    let b = put::number(buf, a, line);
-    let c = put::text(buf, b, b": ");
-    let d = message(buf, c, w);
-    put::text(buf, d, b"\n")
+#[derive(Clone, Copy)]
+pub struct WrongLine {
+    pub line: u64,
+    pub wrong: Wrong,
+}
+
+impl fmt::Display for WrongLine {
+    ghost output = { λ l. Some (wrong_line l.line l.wrong) };
+
+    fn fmt<W: fmt::Write>(&self, f: &mut fmt::Formatter<W>) -> fmt::Result {
+        let WrongLine { line, wrong } = *self;
+        write!(f, "line {line}: {wrong}\n")
+    }
+}
+
+// A space, and a word as the signed number that its bits are.
+#[derive(Clone, Copy)]
+pub struct Signed(pub u32);
+
+impl fmt::Display for Signed {
+    ghost output = { λ w. Some (signed w.0) };
+
+    fn fmt<W: fmt::Write>(&self, f: &mut fmt::Formatter<W>) -> fmt::Result {
+        write!(f, " {}", self.0.cast_signed())
+    }
 }

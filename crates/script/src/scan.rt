@@ -1,78 +1,34 @@
 // Bytes and words of a text.
-ghost use Rattle.std.specs.Prelude.{◌≡◌, ◌≤◌, ◌<◌, false, length, take, get_or};
-ghost use Rattle.script.specs.Words.{up_to, is_space};
-ghost use Rattle.script.specs.Scan.{WordStart, WordEnd, NextWord};
+ghost use Rattle.std.specs.Prelude.{◌≡◌, length};
+ghost use Rattle.std.specs.Char.{is_ascii_whitespace};
+ghost use Rattle.std.specs.List.{position_or_len};
+ghost use Rattle.script.specs.Words.{uncommented};
+ghost use Rattle.script.specs.Scan.{NextWord};
 
-use crate::Word;
-
-// Where the byte c first stands, or the text's end.
-pub fn up_to(text: &[u8], c: u8) -> usize
-    ensures { (result ≤ length text.now) × (take result text.now ≡ up_to c text.now) }
+// The text in front of a comment.
+pub fn uncommented(line: &[u8]) -> &[u8]
+    ensures { result.now ≡ uncommented line.now }
 {
-    let mut i = 0;
-    while i < text.len() {
-        if text[i] == c {
-            return i;
-        }
-        i += 1;
-    }
-    i
+    let end = line.iter().position(|b| *b == b'#').unwrap_or(line.len());
+    &line[..end]
 }
 
-pub fn is_space(b: u8) -> bool
-    ensures { result ≡ is_space b }
+// How many bytes stand in front of the first white space.
+fn word_len(text: &[u8]) -> usize
+    ensures { result ≡ position_or_len is_ascii_whitespace text.now }
 {
-    if b == 32 {
-        return true;
-    }
-    if b < 9 {
-        return false;
-    }
-    if 13 < b {
-        return false;
-    }
-    b != 11
+    text.iter()
+        .position(|b| b.is_ascii_whitespace())
+        .unwrap_or(text.len())
 }
 
-// The start of the next word, or the text's end.
-fn word_start(text: &[u8], at: usize) -> usize
-    requires { at ≤ length text.now }
-    ensures { WordStart text.now at result }
+// The first word, and what stands behind it.
+pub fn next_word(text: &[u8]) -> Option<(&[u8], &[u8])>
+    ensures { NextWord text.now result }
 {
-    let mut i = at;
-    while i < text.len() {
-        if !is_space(text[i]) {
-            return i;
-        }
-        i += 1;
+    let text = text.trim_ascii_start();
+    if text.is_empty() {
+        return None;
     }
-    i
-}
-
-// The end of the word that starts at `at`.
-fn word_end(text: &[u8], at: usize) -> usize
-    requires { (at < length text.now) × (is_space (get_or text.now at 0) ≡ false) }
-    ensures { WordEnd text.now at result }
-{
-    let mut i = at + 1;
-    while i < text.len() {
-        if is_space(text[i]) {
-            return i;
-        }
-        i += 1;
-    }
-    i
-}
-
-// The next word from `at` on.
-pub fn next_word(text: &[u8], at: usize) -> Word
-    requires { at ≤ length text.now }
-    ensures { NextWord text.now at result }
-{
-    let from = word_start(text, at);
-    if from < text.len() {
-        let to = word_end(text, from);
-        return Word::At(from, to);
-    }
-    Word::NoWord
+    Some(text.split_at(word_len(text)))
 }

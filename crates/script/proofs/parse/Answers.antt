@@ -1,39 +1,27 @@
 -- `script::parse` meets its contract. Assumes nothing.
-use mathlib.Core.Path.{sym}
-use native.Mathlib.Nat.{le_of_lt}
-use lib.ListN.{take}
-use lib.Seq.{length-take-le}
-use Rattle.script.specs.Table.{rows, row_of}
-use Rattle.script.proofs.Splits.{word-at, no_word}
-use Rattle.script.proofs.Reading.{plainly, parses-by, blank, unknown-call, called, stop-within}
+use Rattle.std.proofs.Common.{◌≡◌, None, Some, arith}
+use Rattle.std.proofs.lemmas.Result.{err_from_is_err_and}
+use Rattle.script.specs.Table.{rows}
+use Rattle.script.specs.Script.{NoSuchCall, call_named}
+use Rattle.script.proofs.Reading.{blank, one_word, unknown-call, known-call}
+use Rattle.script.proofs.Ways.{line_finds}
 use Rattle.script.proofs.parse.Goals as goal
 
-pub slice_bounds-text-end : goal.slice_bounds-text-end
-slice_bounds-text-end c = sym (length-take-le _ _ c.up_to-end.ensures.0)
+pub returns-in_default-clause-parses : goal.returns-in_default-clause-parses
+returns-in_default-clause-parses c = blank _ _ _ c.uncommented-text.ensures c.in_default.ensures _
 
-pub slice_bounds-call_named-count : goal.slice_bounds-call_named-count
-slice_bounds-call_named-count c = le_of_lt (word-at (take c.up_to-end.result c.args.line.now) 0 c.next_word.ensures c.in-At.is).some
+pub behind_name-requires-clause-rest : goal.behind_name-requires-clause-rest
+behind_name-requires-clause-rest c = one_word 0 c.args.line.now _ c.uncommented-text.ensures _ _ c.in-Some.ensures
 
-pub slice_bounds-call_named-start : goal.slice_bounds-call_named-start
-slice_bounds-call_named-start c = le_of_lt (word-at (take c.up_to-end.result c.args.line.now) 0 c.next_word.ensures c.in-At.is).some
+pub returns-in_err-call-clause-parses : goal.returns-in_err-call-clause-parses
+returns-in_err-call-clause-parses c =
+    let p = err_from_is_err_and c.from_residual.result c.from_residual.ensures.1 in
+    let w : c.in_err-call.field-0.0 ≡ NoSuchCall = grind arith in
+    let n : None ≡ call_named rows c.in-Some.name.now = grind arith in
+    rw (p.1, p.2, w) (unknown-call _ _ _ c.uncommented-text.ensures _ _ c.in-Some.ensures n _)
 
-pub slice_bounds-call_named-end : goal.slice_bounds-call_named-end
-slice_bounds-call_named-end c = (word-at (take c.up_to-end.result c.args.line.now) 0 c.next_word.ensures c.in-At.is).within
-
-pub slice_bounds-call_of-count : goal.slice_bounds-call_of-count
-slice_bounds-call_of-count c = (stop-within (row_of rows c.in-Call.call).tail c.args.line.now _ _ _ c.up_to-end.ensures.0 (word-at (take c.up_to-end.result c.args.line.now) 0 c.next_word.ensures c.in-At.is).within c.last-stop.ensures).0
-
-pub slice_bounds-call_of-start : goal.slice_bounds-call_of-start
-slice_bounds-call_of-start c = (stop-within (row_of rows c.in-Call.call).tail c.args.line.now _ _ _ c.up_to-end.ensures.0 (word-at (take c.up_to-end.result c.args.line.now) 0 c.next_word.ensures c.in-At.is).within c.last-stop.ensures).0
-
-pub slice_bounds-call_of-end : goal.slice_bounds-call_of-end
-slice_bounds-call_of-end c = (stop-within (row_of rows c.in-Call.call).tail c.args.line.now _ _ _ c.up_to-end.ensures.0 (word-at (take c.up_to-end.result c.args.line.now) 0 c.next_word.ensures c.in-At.is).within c.last-stop.ensures).1
-
-pub returns-in-NoWord : goal.returns-in-NoWord
-returns-in-NoWord c = parses-by (blank _ _ (take c.up_to-end.result c.args.line.now) c.up_to-end.ensures.1 (no_word (take c.up_to-end.result c.args.line.now) 0 c.next_word.ensures c.in-NoWord.is)) (plainly _ _)
-
-pub returns-in-Unknown : goal.returns-in-Unknown
-returns-in-Unknown c = parses-by (unknown-call _ _ (take c.up_to-end.result c.args.line.now) c.up_to-end.ensures.1 _ _ (word-at (take c.up_to-end.result c.args.line.now) 0 c.next_word.ensures c.in-At.is).word c.call_named.ensures c.in-Unknown.is) (plainly _ _)
-
-pub returns-in-Call : goal.returns-in-Call
-returns-in-Call c = parses-by (called _ c.args.line.now _ _ _ _ _ c.up_to-end.ensures.0 c.up_to-end.ensures.1 (word-at (take c.up_to-end.result c.args.line.now) 0 c.next_word.ensures c.in-At.is) c.call_named.ensures c.in-Call.is c.last-stop.ensures) c.call_of.ensures
+pub returns : goal.returns
+returns c =
+    let n : Some c.in_ok-call.call ≡ call_named rows c.in-Some.name.now = grind arith in
+    let p = known-call _ _ _ c.uncommented-text.ensures _ _ c.in-Some.ensures _ n _ c.behind_name.ensures _ _ _ c.call_of.ensures in
+    record { parses = p; finds = line_finds _ _ _ _ _ c.call_of.auto.list p }

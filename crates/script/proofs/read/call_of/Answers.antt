@@ -1,14 +1,28 @@
 -- `script::read::call_of` meets its contract. Assumes nothing.
-use mathlib.Core.Path.{sym, ◌∙◌}
-use Rattle.script.specs.Table.{rows, row_of}
-use Rattle.script.proofs.Reading.{plainly, parses-by, failing, getting, numbers-failed, numbers-got, same-ending}
+use Rattle.std.proofs.Common.{sym}
+use Rattle.std.proofs.lemmas.Result.{err_from_is_err_and}
+use Rattle.script.specs.Table.{rows}
+use Rattle.script.proofs.Reading.{numbers-failed, ends-plain, too_many, ends-text, list-stopped, list_counted}
 use Rattle.script.proofs.read.call_of.Goals as goal
 
-pub rest-requires : goal.rest-requires
-rest-requires c = let t = getting c.args.text.now c.args.call (row_of rows c.args.call).params _ _ c.numbers.ensures c.in-Behind.is in (t.within, t.left)
+pub returns-in_err-numbers : goal.returns-in_err-numbers
+returns-in_err-numbers c =
+    let p = err_from_is_err_and c.from_residual.result c.from_residual.ensures.1 in
+    rw (p.1, p.2) (numbers-failed (rows c.args.call) _ _ _ _ _ c.in_err-numbers.ensures)
 
-pub returns-in-Failed : goal.returns-in-Failed
-returns-in-Failed c = parses-by (numbers-failed (row_of rows c.args.call) _ _ _ _ (failing c.args.text.now c.args.call (row_of rows c.args.call).params _ _ c.numbers.ensures c.in-Failed.is)) (plainly _ _)
+pub returns-in-None : goal.returns-in-None
+returns-in-None c = ends-plain (rows c.args.call) _ _ _ _ _ c.in_ok-numbers.ensures (sym c.in-Nothing.ensures) c.in-None.ensures _
 
-pub returns-in-Behind : goal.returns-in-Behind
-returns-in-Behind c = let t = getting c.args.text.now c.args.call (row_of rows c.args.call).params _ _ c.numbers.ensures c.in-Behind.is in parses-by (numbers-got (row_of rows c.args.call) _ _ _ _ _ t.takes ∙ sym (same-ending c.args.call _ t.numbers t.lent (row_of rows c.args.call) _ _ _)) c.rest.ensures
+pub returns-in-Some : goal.returns-in-Some
+returns-in-Some c = too_many (rows c.args.call) _ _ _ _ _ c.in_ok-numbers.ensures (sym c.in-Nothing.ensures) _ _ c.in-Some.ensures _
+
+pub returns-in_err-words-in-Words : goal.returns-in_err-words-in-Words
+returns-in_err-words-in-Words c =
+    let p = err_from_is_err_and c.from_residual-in_err-words-in-Words.result c.from_residual-in_err-words-in-Words.ensures.1 in
+    rw (p.1, p.2) (list-stopped (rows c.args.call) _ _ _ _ _ c.in_ok-numbers.ensures (sym c.in-Words.ensures) _ _ _ (rw c.in_err-words-in-Words.was at c.items.ensures))
+
+pub returns-in_ok-words-in-Words : goal.returns-in_ok-words-in-Words
+returns-in_ok-words-in-Words c = list_counted (rows c.args.call) _ _ _ _ _ c.in_ok-numbers.ensures (sym c.in-Words.ensures) _ _ _ (rw c.in_ok-words-in-Words.was at c.items.ensures)
+
+pub returns-in-Text : goal.returns-in-Text
+returns-in-Text c = ends-text (rows c.args.call) _ _ _ _ _ c.in_ok-numbers.ensures (sym c.in-Text.ensures) _ c.saturating_sub-bytes.ensures _

@@ -1,12 +1,17 @@
 -- `script::scan::next_word` meets its contract. Assumes nothing.
-use Rattle.script.proofs.Splits.{found, at-end}
+use Rattle.std.proofs.Common.{◌≡◌, rules, length}
+use Rattle.std.specs.Char.{is_ascii_whitespace}
+use Rattle.script.proofs.Splits.{position_within, no_word, takes_word}
 use Rattle.script.proofs.scan.next_word.Goals as goal
 
-pub word_end-to-requires : goal.word_end-to-requires
-word_end-to-requires c = (c.if-from-text.true, c.word_start-from.ensures.begins c.if-from-text.true)
+pub returns-then-is_empty : goal.returns-then-is_empty
+returns-then-is_empty c = no_word c.args.text.now c.trim_ascii_start-text.result.now c.trim_ascii_start-text.ensures.value (search rules)
 
-pub returns-then-from-text : goal.returns-then-from-text
-returns-then-from-text c = found _ _ _ _ c.word_start-from.ensures c.word_end-to.ensures
+pub split_at-requires : goal.split_at-requires
+split_at-requires c = rw c.word_len.ensures (position_within is_ascii_whitespace c.trim_ascii_start-text.result.now)
 
 pub returns : goal.returns
-returns c = at-end _ _ _ c.word_start-from.ensures c.if-from-text.false
+returns c =
+    let ne : length c.trim_ascii_start-text.result.now ≡ 0 → ⊥ = search rules in
+    let t = takes_word c.args.text.now c.trim_ascii_start-text.result.now c.trim_ascii_start-text.ensures.value ne in
+    rw (c.split_at.ensures.front, c.split_at.ensures.back, c.word_len.ensures) t
