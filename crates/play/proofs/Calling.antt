@@ -1,133 +1,133 @@
 -- A call on the words that are lent, as a C caller sees it, and what is printed for it. Assumes nothing.
-use mathlib.Core.Path.{◌≡◌, refl, sym, ap, ◌∙◌, subst}
-use mathlib.Core.List.{List, [], ◌++◌}
-use Prim.Native.Nat.{ℕ, min}
-use lib.ListN.{length, get_or, take, drop, take-append-drop}
-use lib.Seq.{take_at}
-use Rattle.model.specs.Calls.{Call}
+use Rattle.std.proofs.Common.{◌≡◌, ℕ, ◌≤◌, Bool, true, false, List, [], ◌++◌, length, take, drop, min, Result, Ok, Err, nat_le, refl, sym, ap, ◌∙◌, arith}
+use mathlib.Core.Path.{subst}
+use lib.ListN.{length-take, take-append-drop, drop_of_length-le}
+use lib.Seq.{take_all}
+use borrow.Author.Tests.{eq-eqb, ne_eqb, leb-true, leb-false}
+use Rattle.std.specs.Result.{MatchResult}
+use Rattle.model.specs.Calls as Calls
 use Rattle.model.specs.OnWords.{call_on}
 use Rattle.model.specs.Asked.{Asked}
 use Rattle.cerambiu.specs.Called.{Called, called, answered}
-use Rattle.cerambiu.specs.Told.{Told, tells, told}
-use Rattle.script.specs.declared.Line.{Line}
-use Rattle.play.specs.declared.Settings.{Settings}
-use Rattle.play.specs.declared.Stream.{Stream}
-use Rattle.play.specs.Printed.{call_number, answer_lines, handled_lines, unless_refused, call_lines, told_lines}
-use Rattle.play.specs.Playing.{Obeyed, seen_on, calling, quiet, obeyed}
-use Rattle.play.specs.Gathered.{Gathers, Does}
-use Rattle.play.specs.Played.{Lends}
-use Rattle.play.proofs.Gathering.{gathers-none}
+use Rattle.cerambiu.specs.Told.{tells, told}
+use Rattle.script.specs.declared.calls.Call.{Call}
+use Rattle.play.specs.declared.output.Output.{Output}
+use Rattle.play.specs.declared.calls.Refused.{Refused}
+use Rattle.play.specs.Printed.{name_of, answer_lines, handled_lines}
+use Rattle.play.specs.Playing.{seen, calling, asking}
+use Rattle.play.specs.Gathered.{Gathers, Makes}
+use Rattle.play.proofs.Gathering.{gathers_none}
 
-module _ (c : Call) (size n : ℕ) (w : List ℕ) (l : Lends size w n) where
+-- so many words of a store are lent, or all
+module _ (size n : ℕ) (w : List ℕ) (l : n ≡ min size (length w)) where
+  pub lent-first : take n w ≡ take size w
+  lent-first = go (nat_le size (length w)) refl
+    where
+      go : (b : Bool) → nat_le size (length w) ≡ b → take n w ≡ take size w
+      go true e = ap (λ (k : ℕ). take k w) (omega (arith, leb-true size (length w) e))
+      go false e =
+          let h = leb-false size (length w) e in
+          take_all n w (omega arith) ∙ sym (take_all size w (omega arith))
+
+  pub lent-rest : drop n w ≡ drop size w
+  lent-rest = go (nat_le size (length w)) refl
+    where
+      go : (b : Bool) → nat_le size (length w) ≡ b → drop n w ≡ drop size w
+      go true e = ap (λ (k : ℕ). drop k w) (omega (arith, leb-true size (length w) e))
+      go false e =
+          let h = leb-false size (length w) e in
+          let a : length w ≤ n = omega arith in
+          let b : length w ≤ size = omega arith in
+          drop_of_length-le w a ∙ sym (drop_of_length-le w b)
+
+  pub lent-length : length (take n w) ≡ min size (length w)
+  lent-length = length-take n w ∙ omega arith
+
+-- whether a call was refused, by its number
+abbrev pub Accepts : ℕ → Result (Unit {0}) Refused → Type 0
+Accepts number r = MatchResult r (λ _. number ≡ 0) (λ e. (number ≡ e.0) × (number ≡ 0 → ⊥))
+
+module _ (c : Calls.Call) (size n : ℕ) (w : List ℕ) (l : n ≡ min size (length w)) where
   module _ (x : Called) (e : x ≡ answered 16 (call_on c (take n w))) where
-    seen : x ≡ seen_on size c w
-    unfolding seen_on
-    seen = e ∙ ap (λ z. answered 16 (call_on c z)) l.first
+    same : x ≡ seen c (take size w)
+    unfolding seen
+    same = e ∙ ap (λ z. answered 16 (call_on c z)) (lent-first size n w l)
 
-    pub store-called : x.store ++ drop n w ≡ (calling size c w).store
+    store-called : x.store ++ drop n w ≡ (calling size c w).store
     unfolding calling
-    store-called = rw l.rest (ap (λ z. z.store ++ drop size w) seen)
+    store-called = rw (lent-rest size n w l) (ap (λ z. z.store ++ drop size w) same)
 
-    lines_called : (b after : List ℕ) (o r : Stream) → Gathers b o (unless_refused (call_number c) x.number (answer_lines c x)) after r
-        → Gathers b o (calling size c w).lines after r
-    unfolding calling call_lines
-    lines_called b after o r g = rw (← seen) g
+    pub made : (o o' : Output) → x.number ≡ 0 → Gathers o (answer_lines c x) o' → Makes (calling size c w) (name_of c) (x.store ++ drop n w) o o' (Ok tt)
+    unfolding calling
+    made o o' z g = record { store = store-called; lines = rw (← same, eq-eqb x.number 0 z) g }
 
-    pub does_call : (b after : List ℕ) (o r : Stream) → Gathers b o (unless_refused (call_number c) x.number (answer_lines c x)) after r
-        → Does (calling size c w) b o (x.store ++ drop n w) after r
-    does_call b after o r g = record { store = store-called; lines = lines_called b after o r g }
+    pub refused : (o : Output) (r : Refused) → (x.number ≡ r.0) × (x.number ≡ 0 → ⊥) → Makes (calling size c w) (name_of c) (x.store ++ drop n w) o o (Err r)
+    unfolding calling
+    refused o r h = record { store = store-called; lines = (rw (← same, ne_eqb x.number 0 h.1, h.0) refl, refl) }
 
     -- the store was lent to be read
-    pub does-read : (b after : List ℕ) (o r : Stream) → x.store ≡ take n w
-        → Gathers b o (unless_refused (call_number c) x.number (answer_lines c x)) after r → Does (calling size c w) b o w after r
-    does-read b after o r f g =
-        record {
-          store = sym (take-append-drop n w) ∙ ap (λ z. z ++ drop n w) (sym f) ∙ store-called;
-          lines = lines_called b after o r g;
-        }
+    read-only : x.store ≡ take n w → x.store ++ drop n w ≡ w
+    read-only f = rw f (take-append-drop n w)
+
+    pub made-reading : (o o' : Output) → x.store ≡ take n w → x.number ≡ 0 → Gathers o (answer_lines c x) o' → Makes (calling size c w) (name_of c) w o o' (Ok tt)
+    made-reading o o' f z g = subst (λ (v : List ℕ). Makes (calling size c w) (name_of c) v o o' (Ok tt)) (read-only f) (made o o' z g)
+
+    pub refused-reading : (o : Output) (r : Refused) → x.store ≡ take n w → (x.number ≡ r.0) × (x.number ≡ 0 → ⊥) → Makes (calling size c w) (name_of c) w o o (Err r)
+    refused-reading o r f h = subst (λ (v : List ℕ). Makes (calling size c w) (name_of c) v o o (Err r)) (read-only f) (refused o r h)
 
   -- a call without values
-  module _ (x : Called) (e : x ≡ answered 0 (call_on c (take n w))) where
+  module _ (number : ℕ) (w' : List ℕ) (e : called number [] w' [] [] ≡ answered 0 (call_on c (take n w))) (silent : (y : Called) → answer_lines c y ≡ []) where
     with_values : Called
     with_values = answered 16 (call_on c (take n w))
 
-    same_store : x.store ≡ with_values.store
+    same_store : with_values.store ≡ w'
     unfolding answered called with_values
-    same_store = ap (λ z. z.store) e
+    same_store = sym (ap (λ z. z.store) e)
 
-    same_number : x.number ≡ with_values.number
+    same_number : with_values.number ≡ number
     unfolding answered called with_values
-    same_number = ap (λ z. z.number) e
+    same_number = sym (ap (λ z. z.number) e)
 
-    pub store-done : x.store ++ drop n w ≡ (calling size c w).store
+    pub made-silently : (r : Result (Unit {0}) Refused) → Accepts number r → (o : Output) → Makes (calling size c w) (name_of c) (w' ++ drop n w) o o r
     unfolding with_values
-    store-done = ap (λ z. z ++ drop n w) same_store ∙ store-called with_values refl
-
-    pub does-done : (b after : List ℕ) (o r : Stream) → ((y : Called) → answer_lines c y ≡ []) → Gathers b o (unless_refused (call_number c) x.number []) after r
-        → Does (calling size c w) b o (x.store ++ drop n w) after r
-    unfolding with_values
-    does-done b after o r silent g =
-        record { store = store-done; lines = lines_called with_values refl b after o r (rw (silent with_values, ← same_number) g) }
+    made-silently (Ok tt) a o =
+        rw (← same_store) (made with_values refl o o (same_number ∙ a) (rw (silent with_values) (gathers_none o)))
+    made-silently (Err r) a o =
+        rw (← same_store) (refused with_values refl o r (same_number ∙ a.0, λ z. a.1 (sym same_number ∙ z)))
 
 -- a tick or a run: stores are lent for outcomes and effects
-module _ (c : ℕ → ℕ → Call) (call time size n : ℕ) (w : List ℕ) (l : Lends size w n) where
-  module _ (outcomes effects os es : ℕ) (ow ew : List ℕ) (lo : Lends outcomes ow os) (le : Lends effects ew es) where
-    pub does-handle : (number : ℕ) (answer w' ow' ew' : List ℕ)
-        → called number answer w' ow' ew' ≡ answered 16 (call_on (c (length (take os ow)) (length (take es ew))) (take n w))
-        → length ow' ≡ length (take os ow) → length ew' ≡ length (take es ew)
-        → ((a b : ℕ) (y : Called) → answer_lines (c a b) y ≡ handled_lines call time y.answer y.outcomes y.effects)
-        → ((a b : ℕ) → call_number (c a b) ≡ call)
-        → (b after : List ℕ) (o r : Stream)
-        → Gathers b o (unless_refused call number (handled_lines call time answer (take os (ow' ++ drop os ow)) (take es (ew' ++ drop es ew)))) after r
-        → Does (calling size (c (min outcomes (length ow)) (min effects (length ew))) w) b o (w' ++ drop n w) after r
-    unfolding called
-    does-handle number answer w' ow' ew' e fo fe lines numbers b after o r g =
-        let a : length (take os ow) ≡ min outcomes (length ow) = sym lo.counts.1 ∙ lo.least in
-        let d : length (take es ew) ≡ min effects (length ew) = sym le.counts.1 ∙ le.least in
-        let to : take os (ow' ++ drop os ow) ≡ ow' = take_at ow' (drop os ow) os (fo ∙ sym lo.counts.1) in
-        let te : take es (ew' ++ drop es ew) ≡ ew' = take_at ew' (drop es ew) es (fe ∙ sym le.counts.1) in
-        let x = called number answer w' ow' ew' in
-        does_call (c (min outcomes (length ow)) (min effects (length ew))) size n w l x (rw (a, d) at e) b after o r
-        (rw (numbers (min outcomes (length ow)) (min effects (length ew)), lines (min outcomes (length ow)) (min effects (length ew)) x) (rw (to, te) at g))
+module _ (c : ℕ → ℕ → Calls.Call) (call : Call) (time size n : ℕ) (w : List ℕ) (l : n ≡ min size (length w)) where
+  module _ (outcomes effects os es : ℕ) (ow ew : List ℕ) (lo : os ≡ min outcomes (length ow)) (le : es ≡ min effects (length ew)) where
+    module _ (number : ℕ) (answer w' ow' ew' : List ℕ)
+        (e : called number answer w' ow' ew' ≡ answered 16 (call_on (c (length (take os ow)) (length (take es ew))) (take n w))) where
+      at-most : called number answer w' ow' ew' ≡ answered 16 (call_on (c (min outcomes (length ow)) (min effects (length ew))) (take n w))
+      at-most =
+          rw (lent-length outcomes os ow lo, lent-length effects es ew le) at e
 
--- a call that asks is lent words for effects, to answer into
-module _ (a : ℕ → Asked) (call : ℕ) (lines : List ℕ → List ℕ → List ℕ) (room n : ℕ) (lw : List ℕ) (l : Lends room lw n) where
-  pub tells-lines : (number : ℕ) (answer lw' : List ℕ) → tells number answer lw' ≡ told 16 (a (length (take n lw))) → length lw' ≡ length (take n lw)
-      → (b after : List ℕ) (o r : Stream) → Gathers b o (unless_refused call number (lines answer (take n (lw' ++ drop n lw)))) after r
-      → Gathers b o (told_lines call lines (told 16 (a (min room (length lw))))) after r
-  unfolding tells told_lines
-  tells-lines number answer lw' e f b after o r g =
-      let i : length (take n lw) ≡ min room (length lw) = sym l.counts.1 ∙ l.least in
-      let s : tells number answer lw' ≡ told 16 (a (min room (length lw))) = e ∙ ap (λ (k : ℕ). told 16 (a k)) i in
-      let t : take n (lw' ++ drop n lw) ≡ lw' = take_at lw' (drop n lw) n (f ∙ sym l.counts.1) in
-      subst (λ (x : Told). Gathers b o (told_lines call lines x) after r) s (rw t at g)
+      pub handled-refused : ((a b : ℕ) → name_of (c a b) ≡ call) → (o : Output) (r : Refused) → (number ≡ r.0) × (number ≡ 0 → ⊥)
+          → Makes (calling size (c (min outcomes (length ow)) (min effects (length ew))) w) call (w' ++ drop n w) o o (Err r)
+      unfolding called
+      handled-refused names o r h =
+          rw (← names (min outcomes (length ow)) (min effects (length ew)))
+          (refused (c (min outcomes (length ow)) (min effects (length ew))) size n w l (called number answer w' ow' ew') at-most o r h)
 
--- one that is lent nothing
-module _ (a : Asked) (call : ℕ) (lines : List ℕ → List ℕ → List ℕ) where
-  pub told-lines : (number : ℕ) (answer : List ℕ) → tells number answer [] ≡ told 16 a
-      → (b after : List ℕ) (o r : Stream) → Gathers b o (unless_refused call number (lines answer [])) after r
-      → Gathers b o (told_lines call lines (told 16 a)) after r
-  unfolding tells told_lines
-  told-lines number answer e b after o r g = subst (λ (x : Told). Gathers b o (told_lines call lines x) after r) e g
+      pub handled-made : ((a b : ℕ) → name_of (c a b) ≡ call)
+          → ((a b : ℕ) (y : Called) → answer_lines (c a b) y ≡ handled_lines call time y.answer y.outcomes y.effects)
+          → (o o' : Output) → number ≡ 0 → Gathers o (handled_lines call time answer ow' ew') o'
+          → Makes (calling size (c (min outcomes (length ow)) (min effects (length ew))) w) call (w' ++ drop n w) o o' (Ok tt)
+      unfolding called
+      handled-made names lines o o' z g =
+          let x = called number answer w' ow' ew' in
+          rw (← names (min outcomes (length ow)) (min effects (length ew)))
+          (made (c (min outcomes (length ow)) (min effects (length ew))) size n w l x at-most o o' z
+          (rw (lines (min outcomes (length ow)) (min effects (length ew)) x) g))
 
--- and one that asks a store is lent words of it to be read
-module _ (a : List ℕ → Asked) (call : ℕ) (lines : List ℕ → List ℕ → List ℕ) (size n : ℕ) (w : List ℕ) (l : Lends size w n) where
-  pub asks-lines : (number : ℕ) (answer : List ℕ) → tells number answer [] ≡ told 16 (a (take n w))
-      → (b after : List ℕ) (o r : Stream) → Gathers b o (unless_refused call number (lines answer [])) after r
-      → Gathers b o (told_lines call lines (told 16 (a (take size w)))) after r
-  asks-lines number answer e = told-lines (a (take size w)) call lines number answer (e ∙ ap (λ (x : List ℕ). told 16 (a x)) l.first)
+-- a call that asks changes nothing
+module _ (a : Asked) (call : Call) (lines : List ℕ → List ℕ → List ℕ) (number : ℕ) (answer lent : List ℕ) (e : tells number answer lent ≡ told 16 a) where
+  pub asked : (w : List ℕ) (o o' : Output) → number ≡ 0 → Gathers o (lines answer lent) o' → Makes (asking call lines a w) call w o o' (Ok tt)
+  unfolding tells
+  asked w o o' z g = record { store = refl; lines = rw (← e, z) g }
 
--- A LINE ------------------------------------------------------------------------------------------------------------------------------
--- the call of a number
-pub does-command : (call k : ℕ) (table : List (List ℕ → Obeyed)) (w b : List ℕ) (o : Stream) (w' after : List ℕ) (r : Stream) → call ≡ k
-    → Does (get_or table k quiet w) b o w' after r → Does (get_or table call quiet w) b o w' after r
-does-command call k table w b o w' after r e d = subst (λ z. Does (get_or table z quiet w) b o w' after r) (sym e) d
-
-module _ (os es k : ℕ) (list text : List ℕ) (t : Settings) (w b : List ℕ) (o : Stream) where
-  pub does-line : (l v : Line) (w' after : List ℕ) (r : Stream) → l ≡ v → Does (obeyed os es k v list text t w) b o w' after r
-      → Does (obeyed os es k l list text t w) b o w' after r
-  does-line l v w' after r e d = subst (λ z. Does (obeyed os es k z list text t w) b o w' after r) (sym e) d
-
--- nothing is printed
-pub does-quietly : (w w' b : List ℕ) (o : Stream) → w' ≡ w → Does (quiet w) b o w' b o
-does-quietly w w' b o e = record { store = e; lines = gathers-none b o }
+  pub asked-refused : (w : List ℕ) (o : Output) (r : Refused) → (number ≡ r.0) × (number ≡ 0 → ⊥) → Makes (asking call lines a w) call w o o (Err r)
+  unfolding tells
+  asked-refused w o r h = record { store = refl; lines = (rw (← e, ne_eqb number 0 h.1, h.0) refl, refl) }

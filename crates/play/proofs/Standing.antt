@@ -1,121 +1,113 @@
 -- Where a script stands, and how it comes on. Assumes nothing.
-use mathlib.Core.Path.{◌≡◌, refl, sym, ap, ◌∙◌, subst}
-use mathlib.Core.List.{List, [], ◌∷◌, ◌++◌, append-nil, append_assoc}
-use Prim.Native.Nat.{ℕ, ◌+◌, ◌-◌, ◌<◌, ◌≤◌, min}
-use native.Mathlib.Numerals.{add-one}
-use borrow.Author.Tests.{eq-eqb, ne_eqb, ltb-false}
-use lib.ListN.{length, get_or, take, drop}
-use lib.Seq.{take-suc, take_all}
+use Rattle.std.proofs.Common.{◌≡◌, ℕ, ◌+◌, ◌≤◌, ◌<◌, Bool, true, false, List, [], ◌∷◌, ◌++◌, length, take, min, get_or, nat_lt, Some, Result, Ok, Err, refl, sym, ap, ◌∙◌, arith, append_assoc, add-one}
+use mathlib.Core.Path.{subst}
+use mathlib.Core.List.{append-nil}
+use lib.ListN.{length-take, length-append}
+use lib.Seq.{take-suc, take_all, take-append-le}
+use borrow.Author.Tests.{eq-eqb, ne_eqb, lt-ltb, ltb-true, ltb-false}
+use Rattle.arrayvec.specs.ArrayVec.{ArrayVec}
 use Rattle.words.specs.Saturating.{saturating_add, max64}
-use Rattle.script.specs.Scan.{part, Parses, over}
-use Rattle.script.specs.declared.Line.{Line}
-use Rattle.play.specs.declared.Cut.{Cut}
-use Rattle.play.specs.declared.Settings.{Settings}
-use Rattle.play.specs.declared.Stream.{Stream}
-use Rattle.play.specs.declared.Session.{Session}
-use Rattle.play.specs.Cut.{Holds}
+use Rattle.std.specs.Prelude.{◌↔◌, IsOk, OnOk, OnErr}
+use Rattle.script.specs.Script.{Line, Parsed}
+use Rattle.script.specs.declared.Command.{Command}
+use Rattle.play.specs.declared.output.Output.{Output}
+use Rattle.play.specs.declared.player.Player.{Player}
 use Rattle.play.specs.Gathered.{Does}
-use Rattle.play.specs.Playing.{Play, Room, obeyed, settings_after, said, line_ends, byte_comes, bytes_come, beginning, begins}
-use Rattle.play.specs.Played.{Stands, Follows, Reads, Lends, words_in, bytes_in, room_of}
-use Rattle.play.proofs.Cutting.{whole-there}
-use Rattle.play.proofs.Saying.{obeyed-said}
+use Rattle.play.specs.Playing.{Play, Room, doing, obeyed, settings_of, settings_after, said, line_ends, byte_comes, bytes_come}
+use Rattle.play.specs.Example.{room}
+use Rattle.play.specs.Played.{Stands, Obeys, Follows, Reads}
 
-pub begins-there : (line w out : List ℕ) (c : Cut) (t : Settings) (o : Stream) → Holds line c [] → t ≡ beginning → o.at ≡ 0
-    → Stands line (record { line = 0; cut = c; settings = t; output = o }) w out (begins w)
-begins-there line w out c t o h e i = record { number = refl; text = h; settings = e; store = refl; gone = []; printed = rw i refl }
+-- THE LINE THAT IS BEING READ --------------------------------------------------------------------------------------------------------
+-- a byte more is kept, where there is room for it
+cut-more : (n b : ℕ) (bytes xs : List ℕ) → xs ≡ take n bytes → length xs < n → xs ++ b ∷ [] ≡ take n (bytes ++ b ∷ [])
+cut-more n b bytes xs e h =
+    let l : length xs ≡ min n (length bytes) = ap length e ∙ length-take n bytes in
+    let short : length bytes ≤ n = omega arith in
+    let all : length (bytes ++ b ∷ []) ≤ n = omega (arith, length-append bytes (b ∷ [])) in
+    rw (take_all n (bytes ++ b ∷ []) all) (ap (λ (z : List ℕ). z ++ b ∷ []) (e ∙ take_all n bytes short))
 
--- what stands in the buffer goes out
-pub goes-out : (line w out : List ℕ) (s : Session) (r : Stream) (p : Play) → r.at ≡ 0 → Stands line s w out p
-    → Stands line (record { line = s.line; cut = s.cut; settings = s.settings; output = r }) w out p
-goes-out line w out s r p e h =
-    record {
-      number = h.number;
-      text = h.text;
-      settings = h.settings;
-      store = h.store;
-      gone = p.printed;
-      printed = rw e (append-nil p.printed);
-    }
+cut-full : (n b : ℕ) (bytes xs : List ℕ) → xs ≡ take n bytes → length xs ≡ n → xs ≡ take n (bytes ++ b ∷ [])
+cut-full n b bytes xs e h =
+    let l : length xs ≡ min n (length bytes) = ap length e ∙ length-take n bytes in
+    let long : n ≤ length bytes = omega arith in
+    e ∙ sym (take-append-le n bytes (b ∷ []) long)
+
+pub pushed : {E : Type 0} (r : Result (Unit {0}) E) (n b : ℕ) (bytes : List ℕ) (old new : ArrayVec ℕ) → old.items ≡ take n bytes → (IsOk r ↔ (length old.items < n))
+    → OnOk r (new.items ≡ old.items ++ b ∷ []) → OnErr r (new ≡ old) → OnErr r (length old.items ≡ n) → new.items ≡ take n (bytes ++ b ∷ [])
+pushed (Ok tt) n b bytes old new e short o u f = o ∙ cut-more n b bytes old.items e (short.0 refl)
+pushed (Err x) n b bytes old new e short o u f = ap (λ v. v.items) u ∙ cut-full n b bytes old.items e f
+
+-- a line says what its bytes say that are kept
+said-cut : (bytes : List ℕ) → said room (take 262145 bytes) ≡ said room bytes
+unfolding said room
+said-cut bytes = go (nat_lt 262144 (length bytes)) refl
+  where
+    go : (b : Bool) → nat_lt 262144 (length bytes) ≡ b → said room (take 262145 bytes) ≡ said room bytes
+    go true e =
+        let h = ltb-true 262144 (length bytes) e in
+        let k : 262144 < length (take 262145 bytes) = omega (arith, length-take 262145 bytes) in
+        rw (e, lt-ltb 262144 (length (take 262145 bytes)) k) refl
+    go false e = let h = ltb-false 262144 (length bytes) e in ap (said room) (take_all 262145 bytes (omega arith))
 
 -- A LINE ENDS ------------------------------------------------------------------------------------------------------------------------
--- with what stands in the buffers, a line does what it does with its own list and text
-said-does : (m : Room) (os es k n count end from : ℕ) (line : List ℕ) (c : Cut) (bytes list list' : List ℕ) (l : Line) (t : Settings) (w : List ℕ)
-    → m.line ≡ length line → Holds line c bytes → Parses (said m bytes) list list' l → count ≡ words_in l → Lends count list' n
-    → end ≡ min c.len (length line) → from ≡ end - bytes_in l
-    → obeyed os es k l (take n list') (part line from end) t w ≡ obeyed os es k (said m bytes).line (said m bytes).list (said m bytes).text t w
-said-does m os es k n count end from line c bytes list list' l t w e h x i y f g =
-    let q = said m bytes in
-    ap (λ z. obeyed os es k l z (part line from end) t w) (y.first ∙ ap (λ z. take z list') i)
-    ∙ ap (λ z. obeyed os es k l (take (words_in l) z) (part line from end) t w) x.list
-    ∙ ap (λ z. obeyed os es k z (take (words_in z) (over q.list list)) (part line from end) t w) x.line
-    ∙ obeyed-said os es k t w m line bytes (drop (length q.list) list) end from
-    (λ u.
-    let v = whole-there line c bytes h (ltb-false (length line) (length bytes) (rw e at u)) in
-    (v.0, f ∙ v.1))
-    (g ∙ ap (λ z. end - bytes_in z) x.line)
+pub obeys_by : (q : Parsed) (s r : Player) (l : Line) → l ≡ q.line
+    → Does (obeyed 24576 327680 s.number l q.list q.text s.lent.settings s.lent.store) r.lent.store s.output r.output
+    → r.lent.settings ≡ settings_after l s.lent.settings → r.number ≡ s.number → Obeys q s r
+obeys_by q s r l e d t n = record { does = rw e at d; settings = rw e at t; number = n }
 
-pub line-ended : (m : Room) (line : List ℕ) (s : Session) (w out list list' : List ℕ) (l : Line) (k n count end from : ℕ) (c : Cut) (t : Settings) (w' out' : List ℕ) (o : Stream) (p : Play)
-    → m.line ≡ length line
-    → ((bytes : List ℕ) → Holds line s.cut bytes → Parses (said m bytes) list list' l)
-    → count ≡ words_in l
-    → Lends count list' n
-    → end ≡ min s.cut.len (length line)
-    → from ≡ end - bytes_in l
-    → k ≡ saturating_add max64 s.line 1
-    → Does (obeyed m.outcomes m.effects k l (take n list') (part line from end) s.settings w) out s.output w' out' o
-    → Holds line c []
-    → t ≡ settings_after l s.settings
-    → Stands line s w out p
-    → Stands line (record { line = k; cut = c; settings = t; output = o }) w' out' (line_ends m p)
-unfolding line_ends
-line-ended m line s w out list list' l k n count end from c t w' out' o p room parses counts lends ends begins number does None settings h =
-    let q = said m p.text in
-    let x = parses p.text h.text in
-    let j = saturating_add max64 p.number 1 in
-    let i : k ≡ j = number ∙ ap (λ z. saturating_add max64 z 1) h.number in
-    let here = obeyed m.outcomes m.effects k l (take n list') (part line from end) s.settings w in
-    let same : here ≡ obeyed m.outcomes m.effects j q.line q.list q.text p.settings p.store =
-    said-does m m.outcomes m.effects k n count end from line s.cut p.text list list' l s.settings w room h.text x counts lends ends begins
-    ∙ ap (λ z. obeyed m.outcomes m.effects z q.line q.list q.text s.settings w) i
-    ∙ ap (λ z. obeyed m.outcomes m.effects j q.line q.list q.text z w) h.settings
-    ∙ ap (λ z. obeyed m.outcomes m.effects j q.line q.list q.text p.settings z) h.store
+pub obeys-call : (q : Parsed) (s r : Player) (c : Command) (list text : List ℕ) → Ok (Some c) ≡ q.line → list ≡ q.list → text ≡ q.text
+    → Does (doing 24576 327680 s.lent.settings list text (get_or c.numbers 0 0) (get_or c.numbers 1 0) c.call s.lent.store) r.lent.store s.output r.output
+    → r.lent.settings ≡ settings_of c.call (get_or c.numbers 0 0) (get_or c.numbers 1 0) s.lent.settings → r.number ≡ s.number → Obeys q s r
+obeys-call q s r c list text e f g d t n = obeys_by q s r (Ok (Some c)) e (rw (f, g) at d) t n
+
+pub line-ended : (s r : Player) (k : ℕ) (empty : ArrayVec ℕ) (p : Play) → Stands s p → k ≡ min (s.number + 1) max64 → empty.items ≡ []
+    → Obeys (said room s.line.items) (record { number = k; line = s.line; list = s.list; lent = s.lent; output = s.output }) r
+    → Stands (record { number = r.number; line = empty; list = r.list; lent = r.lent; output = r.output }) (line_ends room p)
+unfolding line_ends room saturating_add
+line-ended s r k empty p h n e o =
+    let q = said room p.text in
+    let f : said room s.line.items ≡ q = ap (said room) h.text ∙ said-cut p.text in
+    let i : k ≡ min (p.number + 1) max64 = n ∙ ap (λ (z : ℕ). min (z + 1) max64) h.number in
+    let x = rw f at o in
+    let here = obeyed 24576 327680 k q.line q.list q.text s.lent.settings s.lent.store in
+    let same : here ≡ obeyed 24576 327680 (min (p.number + 1) max64) q.line q.list q.text p.settings p.store =
+    ap (λ z. obeyed 24576 327680 z q.line q.list q.text s.lent.settings s.lent.store) i
+    ∙ ap (λ z. obeyed 24576 327680 (min (p.number + 1) max64) q.line q.list q.text z s.lent.store) h.settings
+    ∙ ap (λ z. obeyed 24576 327680 (min (p.number + 1) max64) q.line q.list q.text p.settings z) h.store
     in
-    let g = does.lines in
+    let g = x.does.lines in
     record {
-      number = i;
-      text = None;
-      settings = settings ∙ ap (λ z. settings_after z s.settings) x.line ∙ ap (settings_after q.line) h.settings;
-      store = does.store ∙ ap (λ z. z.store) same;
+      number = x.number ∙ i;
+      text = e;
+      settings = x.settings ∙ ap (settings_after q.line) h.settings;
+      store = x.does.store ∙ ap (λ z. z.store) same;
       gone = h.gone ++ g.gone;
       printed =
-          append_assoc h.gone g.gone (take o.at out') ∙ ap (λ z. h.gone ++ z) g.bytes-stand
-          ∙ sym (append_assoc h.gone (take s.output.at out) here.lines)
+          append_assoc h.gone g.gone r.output.bytes.items ∙ ap (λ z. h.gone ++ z) g.bytes-stand
+          ∙ sym (append_assoc h.gone s.output.bytes.items here.lines)
           ∙ ap (λ z. z ++ here.lines) h.printed
           ∙ ap (λ z. p.printed ++ z.lines) same;
     }
 
 -- BYTES COME ----------------------------------------------------------------------------------------------------------------------------
-module _ (m : Room) (b : ℕ) where
-  pub line-feed : (line : List ℕ) (s : Session) (w out line' : List ℕ) (r : Session) (w' out' : List ℕ) → b ≡ 10
-      → Follows (line_ends m) line s w out line' r w' out' → Follows (byte_comes m b) line s w out line' r w' out'
-  unfolding byte_comes
-  line-feed line s w out line' r w' out' e f = λ p h. rw (eq-eqb b 10 e) (f p h)
+pub line_feed : (m : Room) (b : ℕ) (p : Play) → b ≡ 10 → line_ends m p ≡ byte_comes m b p
+unfolding byte_comes
+line_feed m b p e = rw (eq-eqb b 10 e) refl
 
-  pub byte-added : (line : List ℕ) (s : Session) (w out line' : List ℕ) (c : Cut) → (b ≡ 10 → ⊥)
-      → ((bytes : List ℕ) → Holds line s.cut bytes → Holds line' c (bytes ++ b ∷ []))
-      → Follows (byte_comes m b) line s w out line' (record { line = s.line; cut = c; settings = s.settings; output = s.output }) w out
-  unfolding byte_comes
-  byte-added line s w out line' c e f =
-      λ p h.
-      rw (ne_eqb b 10 e)
-      (record {
-        number = h.number;
-        text = f p.text h.text;
-        settings = h.settings;
-        store = h.store;
-        gone = h.gone;
-        printed = h.printed;
-      })
+pub byte-added : (s : Player) (b : ℕ) (line : ArrayVec ℕ) → (b ≡ 10 → ⊥) → ((p : Play) → Stands s p → line.items ≡ take 262145 (p.text ++ b ∷ []))
+    → Follows (byte_comes room b) s (record { number = s.number; line = line; list = s.list; lent = s.lent; output = s.output })
+unfolding byte_comes
+byte-added s b line e f =
+    λ p h.
+    rw (ne_eqb b 10 e)
+    (record {
+      number = h.number;
+      text = f p h;
+      settings = h.settings;
+      store = h.store;
+      gone = h.gone;
+      printed = h.printed;
+    })
 
 one-comes : (m : Room) (b : ℕ) (p : Play) → byte_comes m b p ≡ bytes_come m (b ∷ []) p
 unfolding bytes_come
@@ -127,61 +119,58 @@ unfolding bytes_come
 bytes-come-then m [] ys p = refl
 bytes-come-then m (x ∷ xs) ys p = bytes-come-then m xs ys (byte_comes m x p)
 
-module _ (m : Room) (line₀ : List ℕ) (s₀ : Session) (w₀ out₀ : List ℕ) where
-  pub follows-none : Follows (bytes_come m []) line₀ s₀ w₀ out₀ line₀ s₀ w₀ out₀
-  unfolding bytes_come
-  follows-none = λ p h. h
+pub follows_none : (s : Player) → Follows (bytes_come room []) s s
+unfolding bytes_come
+follows_none s = λ p h. h
 
-  module _ (line : List ℕ) (s : Session) (w out : List ℕ) where
-    -- byte i of the input, played in a room that is the same
-    pub follows-byte : (input : List ℕ) (i b : ℕ) (m' : Room) (line' : List ℕ) (r : Session) (w' out' : List ℕ)
-        → i < length input → b ≡ get_or input i 0 → m' ≡ m
-        → Follows (bytes_come m (take i input)) line₀ s₀ w₀ out₀ line s w out
-        → Follows (byte_comes m' b) line s w out line' r w' out'
-        → Follows (bytes_come m (take (i + 1) input)) line₀ s₀ w₀ out₀ line' r w' out'
-    follows-byte input i b m' line' r w' out' l e j f g =
-        λ p h.
-        let x : byte_comes m b (bytes_come m (take i input) p) ≡ bytes_come m (take (i + 1) input) p =
-        rw (add-one, take-suc input i 0 l, ← e, bytes-come-then m (take i input) (b ∷ []) p) (one-comes m b (bytes_come m (take i input) p))
-        in
-        subst (Stands line' r w' out') (ap (λ z. byte_comes z b (bytes_come m (take i input) p)) j ∙ x) (g (bytes_come m (take i input) p) (f p h))
+-- byte i of the input
+pub follows_more : (s t r : Player) (input : List ℕ) (i : ℕ) → i < length input → Follows (bytes_come room (take i input)) s t
+    → Follows (byte_comes room (get_or input i 0)) t r → Follows (bytes_come room (take (i + 1) input)) s r
+follows_more s t r input i l f g =
+    λ p h.
+    let b = get_or input i 0 in
+    let q = bytes_come room (take i input) p in
+    let x : byte_comes room b q ≡ bytes_come room (take (i + 1) input) p =
+    rw (add-one, take-suc input i 0 l, bytes-come-then room (take i input) (b ∷ []) p) (one-comes room b q)
+    in
+    subst (Stands r) x (g q (f p h))
 
-    pub follows-all : (input : List ℕ) (i : ℕ) → length input ≤ i → Follows (bytes_come m (take i input)) line₀ s₀ w₀ out₀ line s w out
-        → Follows (bytes_come m input) line₀ s₀ w₀ out₀ line s w out
-    follows-all input i l f = rw (take_all i input l) at f
+pub follows_all : (s r : Player) (input : List ℕ) (i : ℕ) → length input ≤ i → Follows (bytes_come room (take i input)) s r → Follows (bytes_come room input) s r
+follows_all s r input i l f = λ p h. subst (λ (xs : List ℕ). Stands r (bytes_come room xs p)) (take_all i input l) (f p h)
 
 -- READING ----------------------------------------------------------------------------------------------------------------------------
-module _ (m : Room) (line : List ℕ) (s : Session) (w out : List ℕ) where
-  module _ (line' : List ℕ) (t r : Session) (w' out' : List ℕ) (g : (line w : List ℕ) → Follows (λ p. p) line t w out' line r w out') where
-    -- the end of the input ends its last line
-    pub reads_end : Follows (line_ends m) line s w out line' t w' out' → Reads m line s w out line' r w' out'
-    unfolding bytes_come
-    reads_end f =
-        record {
-          script = 10 ∷ [];
-          follows = λ p h. g line' w' (byte_comes m 10 p) (line-feed m 10 line s w out line' t w' out' refl f p h);
-        }
+-- what stands in the buffer goes out
+pub goes_out : (s : Player) (o : Output) (p : Play) → o.bytes.items ≡ [] → Stands s p
+    → Stands (record { number = s.number; line = s.line; list = s.list; lent = s.lent; output = o }) p
+goes_out s o p e h =
+    record {
+      number = h.number;
+      text = h.text;
+      settings = h.settings;
+      store = h.store;
+      gone = p.printed;
+      printed = rw e (append-nil p.printed);
+    }
 
-    pub reads_bytes : (input : List ℕ) → Follows (bytes_come m input) line s w out line' t w' out' → Reads m line s w out line' r w' out'
-    reads_bytes input f = record { script = input; follows = λ p h. g line' w' (bytes_come m input p) (f p h) }
+module _ (s t : Player) (o : Output) (e : o.bytes.items ≡ []) where
+  abbrev flushed : Player
+  flushed = record { number = t.number; line = t.line; list = t.list; lent = t.lent; output = o }
 
-  pub reads_none : Reads m line s w out line s w out
-  reads_none = record { script = []; follows = follows-none m line s w out }
+  -- the end of the input ends its last line
+  pub reads_end : Follows (line_ends room) s t → Reads s flushed
+  unfolding bytes_come byte_comes
+  reads_end f = record { script = 10 ∷ []; follows = λ p h. goes_out t o (line_ends room p) e (f p h) }
 
-  pub reads_then : (m' : Room) (line' : List ℕ) (t : Session) (w' out' line'' : List ℕ) (r : Session) (w'' out'' : List ℕ) → m' ≡ m
-      → Reads m line s w out line' t w' out' → Reads m' line' t w' out' line'' r w'' out'' → Reads m line s w out line'' r w'' out''
-  reads_then m' line' t w' out' line'' r w'' out'' j f g =
-      record {
-        script = f.script ++ g.script;
-        follows =
-            λ p h.
-            subst (Stands line'' r w'' out'')
-            (ap (λ z. bytes_come z g.script (bytes_come m f.script p)) j ∙ sym (bytes-come-then m f.script g.script p))
-            (g.follows (bytes_come m f.script p) (f.follows p h));
-      }
+  pub reads_bytes : (input : List ℕ) → Follows (bytes_come room input) s t → Reads s flushed
+  reads_bytes input f = record { script = input; follows = λ p h. goes_out t o (bytes_come room input p) e (f p h) }
 
--- buffers keep their lengths
-pub same-room : (line line' list list' outcomes outcomes' effects effects' : List ℕ) → length line' ≡ length line → length list' ≡ length list
-    → length outcomes' ≡ length outcomes → length effects' ≡ length effects
-    → room_of line' list' outcomes' effects' ≡ room_of line list outcomes effects
-same-room line line' list list' outcomes outcomes' effects effects' a b c d = rw (a, b, c, d)
+pub reads_none : (s : Player) → Reads s s
+reads_none s = record { script = []; follows = follows_none s }
+
+pub reads_then : (s t r : Player) → Reads s t → Reads t r → Reads s r
+reads_then s t r f g =
+    record {
+      script = f.script ++ g.script;
+      follows =
+          λ p h. subst (Stands r) (sym (bytes-come-then room f.script g.script p)) (g.follows (bytes_come room f.script p) (f.follows p h));
+    }

@@ -1,6 +1,5 @@
-pub mod Cut
 pub mod Printed
 pub mod Playing
 pub mod Gathered
-pub mod Played
 pub mod Example
+pub mod Played

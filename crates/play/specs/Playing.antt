@@ -1,7 +1,7 @@
 -- What a script does, byte by byte: each line that ends is a call of the specification on the words that are lent, and its answer is printed.
-use Rattle.std.specs.Prelude.{ℕ, min, List, [], ◌∷◌, ◌++◌, eqb, ltb, length, get_or, take, drop, set}
+use Rattle.std.specs.Prelude.{ℕ, min, List, [], ◌∷◌, ◌++◌, ◌==◌, nat_lt, if◌then◌else◌, length, get_or, take, drop, set, None, Some, Ok, Err}
 use Rattle.words.specs.Saturating.{saturating_add, max64}
-use Rattle.model.specs.Calls.{Call, new, load, unload, enable, tick, run, deadline, counters}
+use Rattle.model.specs.Calls as Calls
 use Rattle.model.specs.OnWords.{call_on}
 use Rattle.model.specs.Asked.{Asked}
 use Rattle.model.specs.Crontab.{crontab}
@@ -10,12 +10,12 @@ use Rattle.room.specs.Needed.{room_for}
 use Rattle.cerambiu.specs.Called.{Called, answered}
 use Rattle.cerambiu.specs.Told.{told, sending}
 use Rattle.script.specs.Table.{rows}
-use Rattle.script.specs.Script.{Parsed, plain, parse, pick}
-use Rattle.script.specs.declared.Line.{Line}
-use Rattle.script.specs.declared.Line.TheVariants.{Blank, Command, Bad}
-use Rattle.script.specs.declared.Wrong.TheVariants.{LineTooLong}
+use Rattle.script.specs.declared.calls.Call.{Call}
+use Rattle.script.specs.declared.calls.Call.TheVariants.{New, Load, Unload, Enable, Tick, Run, Deadline, Counters, Lend, Size, Poke, Peek, Telegrams, Crontab, Start, RoomFor}
+use Rattle.script.specs.Script.{Line, Parsed, plain, parse}
+use Rattle.script.specs.declared.complain.Wrong.TheVariants.{LineTooLong}
 use Rattle.script.specs.Print.{peek_line, wrong_line}
-use Rattle.play.specs.declared.Settings.{Settings}
+use Rattle.play.specs.declared.calls.Settings.{Settings}
 use Rattle.play.specs.Printed.{call_lines, told_lines, telegram_lines, trigger_lines, start_lines, room_lines}
 
 -- ONE LINE ---------------------------------------------------------------------------------------------------------------------------
@@ -24,62 +24,63 @@ pub record Obeyed : Type 0 where
   pub store : List ℕ
   pub lines : List ℕ
 
--- what is seen of a call on the first n words of a store, with 16 words lent for the values of its answer
-unfoldable pub seen_on : ℕ → Call → List ℕ → Called
-seen_on n c w = answered 16 (call_on c (take n w))
+-- what is seen of a call on the words of a store, with 16 words lent for the values of its answer; and on the first n words
+unfoldable pub seen : Calls.Call → List ℕ → Called
+seen c w = answered 16 (call_on c w)
 
-unfoldable pub calling : ℕ → Call → List ℕ → Obeyed
+abbrev pub seen_on : ℕ → Calls.Call → List ℕ → Called
+seen_on n c w = seen c (take n w)
+
+unfoldable pub calling : ℕ → Calls.Call → List ℕ → Obeyed
 calling n c w = record { store = (seen_on n c w).store ++ drop n w; lines = call_lines c (seen_on n c w) }
 
--- a call that asks, by its number; nothing changes
-abbrev pub asking : ℕ → (List ℕ → List ℕ → List ℕ) → Asked → List ℕ → Obeyed
+-- a call that asks; nothing changes
+abbrev pub asking : Call → (List ℕ → List ℕ → List ℕ) → Asked → List ℕ → Obeyed
 asking call lines a w = record { store = w; lines = told_lines call lines (told 16 a) }
 
 -- one that asks the first n words of the store
-abbrev pub asking_store : ℕ → ℕ → (List ℕ → List ℕ → List ℕ) → (List ℕ → Asked) → List ℕ → Obeyed
+abbrev pub asking_store : ℕ → Call → (List ℕ → List ℕ → List ℕ) → (List ℕ → Asked) → List ℕ → Obeyed
 asking_store n call lines a w = asking call lines (a (take n w)) w
 
 abbrev pub quiet : List ℕ → Obeyed
 quiet w = record { store = w; lines = [] }
 
--- what each call of the table does, with its numbers a to d, the words of its list and the bytes of its text. Tick and run are lent words for outcomes
+-- what each call of the table does, with its numbers a and b, the words of its list and the bytes of its text. Tick and run are lent words for outcomes
 -- and effects, of which the player has so many; a call that answers into a store of its own is lent words of those for effects
-unfoldable pub doings : ℕ → ℕ → Settings → List ℕ → List ℕ → ℕ → ℕ → ℕ → ℕ → List (List ℕ → Obeyed)
-doings os es t list text a b c d =
-    calling t.size (new a)
-    ∷ calling t.size (load a list)
-    ∷ calling t.size (unload a)
-    ∷ calling t.size (enable a (eqb b 1))
-    ∷ calling t.size (tick list (min t.outcomes os) (min t.effects es))
-    ∷ calling t.size (run a (eqb b 1) list (min t.outcomes os) (min t.effects es))
-    ∷ calling t.size deadline
-    ∷ calling t.size counters
-    ∷ quiet
-    ∷ quiet
-    ∷ (λ w. quiet (set w a b))
-    ∷ (λ w. record { store = w; lines = peek_line a (get_or w a 0) })
-    ∷ asking 12 telegram_lines (sending (min a es) list)
-    ∷ asking 13 trigger_lines (crontab text a (min b es))
-    ∷ asking_store t.size 14 start_lines (next_start_on list)
-    ∷ asking 15 room_lines (room_for list)
-    ∷ []
+unfoldable pub doing : ℕ → ℕ → Settings → List ℕ → List ℕ → ℕ → ℕ → Call → List ℕ → Obeyed
+doing os es t list text a b New = calling t.size (Calls.new a)
+doing os es t list text a b Load = calling t.size (Calls.load a list)
+doing os es t list text a b Unload = calling t.size (Calls.unload a)
+doing os es t list text a b Enable = calling t.size (Calls.enable a (b == 1))
+doing os es t list text a b Tick = calling t.size (Calls.tick list (min t.outcomes os) (min t.effects es))
+doing os es t list text a b Run = calling t.size (Calls.run a (b == 1) list (min t.outcomes os) (min t.effects es))
+doing os es t list text a b Deadline = calling t.size Calls.deadline
+doing os es t list text a b Counters = calling t.size Calls.counters
+doing os es t list text a b Lend = quiet
+doing os es t list text a b Size = quiet
+doing os es t list text a b Poke = λ w. quiet (set w a b)
+doing os es t list text a b Peek = λ w. record { store = w; lines = peek_line a (get_or w a 0) }
+doing os es t list text a b Telegrams = asking Telegrams telegram_lines (sending (min a es) list)
+doing os es t list text a b Crontab = asking Crontab trigger_lines (crontab text a (min b es))
+doing os es t list text a b Start = asking_store t.size Start start_lines (next_start_on list)
+doing os es t list text a b RoomFor = asking RoomFor room_lines (room_for list)
 
 -- line number k
 abbrev pub obeyed : ℕ → ℕ → ℕ → Line → List ℕ → List ℕ → Settings → List ℕ → Obeyed
-obeyed os es k Blank list text t w = quiet w
-obeyed os es k (Command call a b c d words bytes) list text t w = get_or (doings os es t list text a b c d) call quiet w
-obeyed os es k (Bad wrong) list text t w = record { store = w; lines = wrong_line k wrong }
+obeyed os es k (Ok None) list text t w = quiet w
+obeyed os es k (Ok (Some c)) list text t w = doing os es t list text (get_or c.numbers 0 0) (get_or c.numbers 1 0) c.call w
+obeyed os es k (Err wrong) list text t w = record { store = w; lines = wrong_line k wrong }
 
 -- `lend` and `size` are for later calls
-abbrev pub settings_of : ℕ → ℕ → ℕ → Settings → Settings
-settings_of call a b t =
-    pick (eqb call 8) (record { size = t.size; outcomes = a; effects = b })
-    (pick (eqb call 9) (record { size = a; outcomes = t.outcomes; effects = t.effects }) t)
+abbrev pub settings_of : Call → ℕ → ℕ → Settings → Settings
+settings_of Lend a b t = record { size = t.size; outcomes = a; effects = b }
+settings_of Size a b t = record { size = a; outcomes = t.outcomes; effects = t.effects }
+settings_of call a b t = t
 
 abbrev pub settings_after : Line → Settings → Settings
-settings_after Blank t = t
-settings_after (Command call a b c d words bytes) t = settings_of call a b t
-settings_after (Bad wrong) t = t
+settings_after (Ok None) t = t
+settings_after (Ok (Some c)) t = settings_of c.call (get_or c.numbers 0 0) (get_or c.numbers 1 0) t
+settings_after (Err wrong) t = t
 
 -- A SCRIPT ---------------------------------------------------------------------------------------------------------------------------
 -- lines ended, the line that is being read, what is lent, the store's words, and all that was printed
@@ -99,7 +100,7 @@ pub record Room : Type 0 where
 
 -- what the bytes of a line say
 unfoldable pub said : Room → List ℕ → Parsed
-said m bytes = pick (ltb m.line (length bytes)) (plain (Bad LineTooLong)) (parse rows m.list bytes)
+said m bytes = if nat_lt m.line (length bytes) then plain (Err LineTooLong) else parse rows m.list bytes
 
 unfoldable pub line_ends : Room → Play → Play
 line_ends m p =
@@ -111,8 +112,8 @@ line_ends m p =
 -- a line ends with byte 10
 unfoldable pub byte_comes : Room → ℕ → Play → Play
 byte_comes m b p =
-    pick (eqb b 10) (line_ends m p)
-    (record { number = p.number; text = p.text ++ b ∷ []; settings = p.settings; store = p.store; printed = p.printed })
+    if b == 10 then line_ends m p
+    else record { number = p.number; text = p.text ++ b ∷ []; settings = p.settings; store = p.store; printed = p.printed }
 
 unfoldable pub bytes_come : Room → List ℕ → Play → Play
 bytes_come m [] p = p

@@ -1,309 +1,315 @@
-// A line's call is made on the store, and its answer printed.
-ghost use Rattle.std.specs.Prelude.{◌≤◌, min, ◌≡◌, length, get_or, take, set};
+// A line's call is made on what is lent, and its answer printed.
+ghost use Rattle.std.specs.Prelude.{ℕ, ◌≡◌, ◌≢◌, List, MatchResult, length, min, get_or, set, replicate};
 ghost use Rattle.model.specs.Calls as Calls;
 ghost use Rattle.model.specs.Crontab as Crontab;
 ghost use Rattle.engine.specs.Asked.{next_start_on};
 ghost use Rattle.room.specs.Needed.{room_for};
-ghost use Rattle.cerambiu.specs.Told.{told, sending};
-ghost use Rattle.script.specs.Print.{peek_line, largest_of};
-ghost use Rattle.play.specs.Printed.{told_lines, telegram_lines, trigger_lines, start_lines, room_lines};
-ghost use Rattle.play.specs.Playing.{calling, quiet, doings, obeyed};
-ghost use Rattle.play.specs.Gathered.{Gathers, Does};
-ghost use Rattle.play.specs.Played.{Lends, Ranged};
+ghost use Rattle.cerambiu.specs.Told.{sending};
+ghost use Rattle.script.specs.declared.calls.Call.TheVariants as Call;
+ghost use Rattle.script.specs.Scan.{Ranged};
+ghost use Rattle.play.specs.Printed.{telegram_lines, trigger_lines, start_lines, room_lines};
+ghost use Rattle.play.specs.Playing.{calling, asking, asking_store, settings_of, beginning};
+ghost use Rattle.play.specs.declared.output.Output.{Output};
+ghost use Rattle.play.specs.Gathered.{Makes, Does, done, lent_after};
 
-use crate::{Settings, Stream, answers, output};
-use script::{Line, calls};
+use crate::answers;
+use crate::output::Output;
+use script::{Call, Command};
 
-// How many of the words are lent where n are asked for.
-pub fn within(n: usize, words: &[u32]) -> usize
-    ensures { Lends n words.now result }
-{
-    if n < words.len() { n } else { words.len() }
+// The words of the store, of outcomes and of effects that later calls are lent.
+#[derive(Clone, Copy, PartialEq, Eq)]
+pub struct Settings {
+    pub size: usize,
+    pub outcomes: usize,
+    pub effects: usize,
 }
 
-// A store made new at time 0, which a script finds.
-pub fn begin(store: &mut [u32])
-    ensures { store.new ≡ (calling 16384 (Calls.new 0) store.old).store }
-{
-    let n = within(16384, store);
-    let _refusal = cerambiu::cerambiu_new(&mut store[..n], 0);
+// What calls are lent. The store has a word to spare, so that a call on one that is too long can be tried. The words for effects also serve a call that
+// answers into a store of its own: nothing of them is kept from call to call.
+#[derive(Drop)]
+pub struct Lent {
+    store: [u32; 16385],
+    outcomes: [u32; 24576],
+    effects: [u32; 327680],
+    settings: Settings,
 }
 
-fn poke(store: &mut [u32], place: u64, word: u32)
-    ensures { store.new ≡ set store.old place word }
+// A call as a line says it: with the words of its list and the bytes of its text.
+#[derive(Clone, Copy)]
+pub struct Said<'a> {
+    pub command: Command,
+    pub list: &'a [u32],
+    pub text: &'a [u8],
+}
+
+// The number of a refusal, as the C interface gives it.
+#[derive(Clone, Copy, PartialEq, Eq)]
+struct Refused(u32);
+
+fn accepted(number: u32) -> Result<(), Refused>
+    ensures { MatchResult result (λ _. number ≡ 0) (λ e. (number ≡ e.0) × (number ≢ 0)) }
 {
-    let i = place as usize;
-    if i < store.len() {
-        store[i] = word;
+    match number {
+        0 => Ok(()),
+        _ => Err(Refused(number)),
     }
 }
 
-fn new(o: Stream, size: usize, time: u64, store: &mut [u32], out: &mut [u8]) -> Stream
-    requires { 1024 ≤ length out.old }
-    ensures { Does (calling size (Calls.new time) store.old) out.old o store.new out.new result }
+fn new(size: usize, time: u64, store: &mut [u32]) -> Result<(), Refused>
+    ensures { (o : Output) → Makes (calling size (Calls.new time) store.old) Call.New store.new o o result }
 {
-    let n = within(size, store);
-    let number = cerambiu::cerambiu_new(&mut store[..n], time);
-    answers::done(o, out, calls::NEW, number)
+    let n = size.min(store.len());
+    accepted(cerambiu::cerambiu_new(&mut store[..n], time))
 }
 
-fn load(
-    o: Stream,
+fn load(size: usize, time: u64, image: &[u32], store: &mut [u32]) -> Result<(), Refused>
+    ensures { (o : Output) → Makes (calling size (Calls.load time image.now) store.old) Call.Load store.new o o result }
+{
+    let n = size.min(store.len());
+    accepted(cerambiu::cerambiu_load(&mut store[..n], time, image))
+}
+
+fn unload(size: usize, time: u64, store: &mut [u32]) -> Result<(), Refused>
+    ensures { (o : Output) → Makes (calling size (Calls.unload time) store.old) Call.Unload store.new o o result }
+{
+    let n = size.min(store.len());
+    accepted(cerambiu::cerambiu_unload(&mut store[..n], time))
+}
+
+fn enable(
     size: usize,
-    time: u64,
-    image: &[u32],
+    rule: u32,
+    on: bool,
     store: &mut [u32],
-    out: &mut [u8],
-) -> Stream
-    requires { 1024 ≤ length out.old }
-    ensures { Does (calling size (Calls.load time image.now) store.old) out.old o store.new out.new result }
+    out: &mut Output,
+) -> Result<(), Refused>
+    ensures { Makes (calling size (Calls.enable rule on) store.old) Call.Enable store.new out.old out.new result }
 {
-    let n = within(size, store);
-    let number = cerambiu::cerambiu_load(&mut store[..n], time, image);
-    answers::done(o, out, calls::LOAD, number)
-}
-
-fn unload(o: Stream, size: usize, time: u64, store: &mut [u32], out: &mut [u8]) -> Stream
-    requires { 1024 ≤ length out.old }
-    ensures { Does (calling size (Calls.unload time) store.old) out.old o store.new out.new result }
-{
-    let n = within(size, store);
-    let number = cerambiu::cerambiu_unload(&mut store[..n], time);
-    answers::done(o, out, calls::UNLOAD, number)
-}
-
-fn enable(o: Stream, size: usize, rule: u32, on: bool, store: &mut [u32], out: &mut [u8]) -> Stream
-    requires { 1024 ≤ length out.old }
-    ensures { Does (calling size (Calls.enable rule on) store.old) out.old o store.new out.new result }
-{
-    let n = within(size, store);
+    let n = size.min(store.len());
     let mut answer = [0u32; 16];
-    let number = cerambiu::cerambiu_enable(&mut store[..n], rule, on, &mut answer);
-    answers::enabled(o, out, calls::ENABLE, number, rule, &answer)
+    accepted(cerambiu::cerambiu_enable(&mut store[..n], rule, on, &mut answer))?;
+    answers::enabled(out, rule, &answer);
+    Ok(())
 }
 
-fn deadline(o: Stream, size: usize, store: &[u32], out: &mut [u8]) -> Stream
-    requires { 1024 ≤ length out.old }
-    ensures { Does (calling size Calls.deadline store.now) out.old o store.now out.new result }
+fn deadline(size: usize, store: &[u32], out: &mut Output) -> Result<(), Refused>
+    ensures { Makes (calling size Calls.deadline store.now) Call.Deadline store.now out.old out.new result }
 {
-    let n = within(size, store);
+    let n = size.min(store.len());
     let mut answer = [0u32; 16];
-    let number = cerambiu::cerambiu_next_deadline(&store[..n], &mut answer);
-    answers::deadline(o, out, calls::DEADLINE, number, &answer)
+    accepted(cerambiu::cerambiu_next_deadline(&store[..n], &mut answer))?;
+    answers::deadline(out, &answer);
+    Ok(())
 }
 
-fn counters(o: Stream, size: usize, store: &[u32], out: &mut [u8]) -> Stream
-    requires { 1024 ≤ length out.old }
-    ensures { Does (calling size Calls.counters store.now) out.old o store.now out.new result }
+fn counters(size: usize, store: &[u32], out: &mut Output) -> Result<(), Refused>
+    ensures { Makes (calling size Calls.counters store.now) Call.Counters store.now out.old out.new result }
 {
-    let n = within(size, store);
+    let n = size.min(store.len());
     let mut answer = [0u32; 16];
-    let number = cerambiu::cerambiu_counters(&store[..n], &mut answer);
-    answers::counters(o, out, calls::COUNTERS, number, &answer)
+    accepted(cerambiu::cerambiu_counters(&store[..n], &mut answer))?;
+    answers::counters(out, &answer);
+    Ok(())
 }
 
 fn tick(
-    o: Stream,
-    t: Settings,
+    most: Settings,
     snapshot: &[u32],
     store: &mut [u32],
     outcomes: &mut [u32],
     effects: &mut [u32],
-    out: &mut [u8],
-) -> Stream
-    requires { 1024 ≤ length out.old }
-    ensures { Does (calling t.size (Calls.tick snapshot.now (min t.outcomes (length outcomes.old)) (min t.effects (length effects.old))) store.old) out.old o store.new out.new result }
+    out: &mut Output,
+) -> Result<(), Refused>
+    ensures { Makes (calling most.size (Calls.tick snapshot.now (min most.outcomes (length outcomes.old)) (min most.effects (length effects.old))) store.old) Call.Tick store.new out.old out.new result }
 {
-    let n = within(t.size, store);
-    let os = within(t.outcomes, outcomes);
-    let es = within(t.effects, effects);
+    let n = most.size.min(store.len());
+    let os = most.outcomes.min(outcomes.len());
+    let es = most.effects.min(effects.len());
+    let outcomes = &mut outcomes[..os];
+    let effects = &mut effects[..es];
     let mut answer = [0u32; 16];
-    let number = cerambiu::cerambiu_tick(
-        &mut store[..n],
-        snapshot,
-        &mut outcomes[..os],
-        &mut effects[..es],
-        &mut answer,
-    );
-    answers::handled(
-        o,
-        out,
-        calls::TICK,
-        number,
-        snapshot,
-        &answer,
-        &outcomes[..os],
-        &effects[..es],
-    )
+    accepted(cerambiu::cerambiu_tick(&mut store[..n], snapshot, outcomes, effects, &mut answer))?;
+    let time = world::now_ms(snapshot);
+    answers::handled(out, Call::Tick, time, &answer, outcomes, effects);
+    Ok(())
 }
 
 fn run(
-    o: Stream,
-    t: Settings,
+    most: Settings,
     rule: u32,
     dry: bool,
     snapshot: &[u32],
     store: &mut [u32],
     outcomes: &mut [u32],
     effects: &mut [u32],
-    out: &mut [u8],
-) -> Stream
-    requires { 1024 ≤ length out.old }
-    ensures { Does (calling t.size (Calls.run rule dry snapshot.now (min t.outcomes (length outcomes.old)) (min t.effects (length effects.old))) store.old) out.old o store.new out.new result }
+    out: &mut Output,
+) -> Result<(), Refused>
+    ensures { Makes (calling most.size (Calls.run rule dry snapshot.now (min most.outcomes (length outcomes.old)) (min most.effects (length effects.old))) store.old) Call.Run store.new out.old out.new result }
 {
-    let n = within(t.size, store);
-    let os = within(t.outcomes, outcomes);
-    let es = within(t.effects, effects);
+    let n = most.size.min(store.len());
+    let os = most.outcomes.min(outcomes.len());
+    let es = most.effects.min(effects.len());
+    let outcomes = &mut outcomes[..os];
+    let effects = &mut effects[..es];
     let mut answer = [0u32; 16];
-    let number = cerambiu::cerambiu_run(
+    accepted(cerambiu::cerambiu_run(
         &mut store[..n],
         rule,
         dry,
         snapshot,
-        &mut outcomes[..os],
-        &mut effects[..es],
+        outcomes,
+        effects,
         &mut answer,
-    );
-    answers::handled(
-        o,
-        out,
-        calls::RUN,
-        number,
-        snapshot,
-        &answer,
-        &outcomes[..os],
-        &effects[..es],
-    )
+    ))?;
+    let time = world::now_ms(snapshot);
+    answers::handled(out, Call::Run, time, &answer, outcomes, effects);
+    Ok(())
 }
 
-fn peek(o: Stream, place: u64, store: &[u32], out: &mut [u8]) -> Stream
-    requires { 1024 ≤ length out.old }
-    ensures { Gathers out.old o (peek_line place (get_or store.now place 0)) out.new result }
+fn telegrams(
+    room: usize,
+    words: &[u32],
+    effects: &mut [u32],
+    out: &mut Output,
+) -> Result<(), Refused>
+    ensures { (w : List ℕ) → Makes (asking Call.Telegrams telegram_lines (sending (min room (length effects.old)) words.now) w) Call.Telegrams w out.old out.new result }
 {
-    let word = fields::word(store, place as usize);
-    answers::peeked(o, out, place, word)
-}
-
-fn telegrams(o: Stream, room: usize, words: &[u32], effects: &mut [u32], out: &mut [u8]) -> Stream
-    requires { 1024 ≤ length out.old }
-    ensures { Gathers out.old o (told_lines 12 telegram_lines (told 16 (sending (min room (length effects.old)) words.now))) out.new result }
-{
-    let n = within(room, effects);
+    let n = room.min(effects.len());
+    let list = &mut effects[..n];
     let mut answer = [0u32; 16];
-    let number = cerambiu::cerambiu_telegrams(words, &mut effects[..n], &mut answer);
-    answers::telegrams(o, out, calls::TELEGRAMS, number, &answer, &effects[..n])
+    accepted(cerambiu::cerambiu_telegrams(words, list, &mut answer))?;
+    answers::telegrams(out, &answer, list);
+    Ok(())
 }
 
 fn crontab(
-    o: Stream,
     sunday: u32,
     room: usize,
     text: &[u8],
     effects: &mut [u32],
-    out: &mut [u8],
-) -> Stream
-    requires { 1024 ≤ length out.old }
-    ensures { Gathers out.old o (told_lines 13 trigger_lines (told 16 (Crontab.crontab text.now sunday (min room (length effects.old))))) out.new result }
+    out: &mut Output,
+) -> Result<(), Refused>
+    ensures { (w : List ℕ) → Makes (asking Call.Crontab trigger_lines (Crontab.crontab text.now sunday (min room (length effects.old))) w) Call.Crontab w out.old out.new result }
 {
-    let n = within(room, effects);
+    let n = room.min(effects.len());
+    let triggers = &mut effects[..n];
     let mut answer = [0u32; 16];
-    let number = cerambiu::cerambiu_crontab(text, sunday, &mut effects[..n], &mut answer);
-    answers::crontab(o, out, calls::CRONTAB, number, &answer, &effects[..n])
+    accepted(cerambiu::cerambiu_crontab(text, sunday, triggers, &mut answer))?;
+    answers::triggers(out, &answer, triggers);
+    Ok(())
 }
 
-fn start(o: Stream, size: usize, snapshot: &[u32], store: &[u32], out: &mut [u8]) -> Stream
-    requires { 1024 ≤ length out.old }
-    ensures { Gathers out.old o (told_lines 14 start_lines (told 16 (next_start_on snapshot.now (take size store.now)))) out.new result }
+fn start(size: usize, snapshot: &[u32], store: &[u32], out: &mut Output) -> Result<(), Refused>
+    ensures { Makes (asking_store size Call.Start start_lines (next_start_on snapshot.now) store.now) Call.Start store.now out.old out.new result }
 {
-    let n = within(size, store);
+    let n = size.min(store.len());
     let mut answer = [0u32; 16];
-    let number = cerambiu::cerambiu_next_start(&store[..n], snapshot, &mut answer);
-    answers::start(o, out, calls::START, number, &answer)
+    accepted(cerambiu::cerambiu_next_start(&store[..n], snapshot, &mut answer))?;
+    answers::start(out, &answer);
+    Ok(())
 }
 
-fn room(o: Stream, image: &[u32], out: &mut [u8]) -> Stream
-    requires { 1024 ≤ length out.old }
-    ensures { Gathers out.old o (told_lines 15 room_lines (told 16 (room_for image.now))) out.new result }
+fn room(image: &[u32], out: &mut Output) -> Result<(), Refused>
+    ensures { (w : List ℕ) → Makes (asking Call.RoomFor room_lines (room_for image.now) w) Call.RoomFor w out.old out.new result }
 {
     let mut answer = [0u32; 16];
-    let number = cerambiu::cerambiu_room(image, &mut answer);
-    answers::room(o, out, calls::ROOM_FOR, number, &answer)
+    accepted(cerambiu::cerambiu_room(image, &mut answer))?;
+    answers::room(out, &answer);
+    Ok(())
 }
 
-// A call of the table, with its numbers, the words of its list and the bytes of its text.
-fn command(
-    o: Stream,
-    call: u32,
-    a: u64,
-    b: u64,
-    c: u64,
-    d: u64,
-    list: &[u32],
-    text: &[u8],
-    t: Settings,
-    store: &mut [u32],
-    outcomes: &mut [u32],
-    effects: &mut [u32],
-    out: &mut [u8],
-) -> Stream
-    requires { (1024 ≤ length out.old) × (a ≤ largest_of call 0) × (b ≤ largest_of call 1) × (c ≤ largest_of call 2) × (d ≤ largest_of call 3) }
-    ensures { Does (get_or (doings (length outcomes.old) (length effects.old) t list.now text.now a b c d) call quiet store.old) out.old o store.new out.new result }
+fn poke(store: &mut [u32], place: usize, word: u32)
+    ensures { store.new ≡ set store.old place word }
 {
-    match call {
-        calls::NEW => new(o, t.size, a, store, out),
-        calls::LOAD => load(o, t.size, a, list, store, out),
-        calls::UNLOAD => unload(o, t.size, a, store, out),
-        calls::ENABLE => enable(o, t.size, a as u32, b == 1, store, out),
-        calls::TICK => tick(o, t, list, store, outcomes, effects, out),
-        calls::RUN => run(o, t, a as u32, b == 1, list, store, outcomes, effects, out),
-        calls::DEADLINE => deadline(o, t.size, store, out),
-        calls::COUNTERS => counters(o, t.size, store, out),
-        calls::LEND => o,
-        calls::SIZE => o,
-        calls::POKE => {
-            poke(store, a, b as u32);
-            o
-        }
-        calls::PEEK => peek(o, a, store, out),
-        calls::TELEGRAMS => telegrams(o, a as usize, list, effects, out),
-        calls::CRONTAB => crontab(o, a as u32, b as usize, text, effects, out),
-        calls::START => start(o, t.size, list, store, out),
-        calls::ROOM_FOR => room(o, list, out),
-        _ => o,
+    if place < store.len() {
+        store[place] = word;
     }
 }
 
-// Obeys a line.
-pub fn obey(
-    o: Stream,
-    number: u64,
-    l: Line,
-    list: &[u32],
-    text: &[u8],
-    t: Settings,
-    store: &mut [u32],
-    outcomes: &mut [u32],
-    effects: &mut [u32],
-    out: &mut [u8],
-) -> Stream
-    requires { (1024 ≤ length out.old) × Ranged l }
-    ensures { Does (obeyed (length outcomes.old) (length effects.old) number l list.now text.now t store.old) out.old o store.new out.new result }
+// What later calls are lent once a call was made.
+fn settings_of(command: Command, t: Settings) -> Settings
+    ensures { result ≡ settings_of command.call (get_or command.numbers 0 0) (get_or command.numbers 1 0) t }
 {
-    match l {
-        Line::Blank => o,
-        Line::Command {
-            call,
-            a,
-            b,
-            c,
-            d,
-            words,
-            bytes,
-        } => {
-            command(
-                o, call, a, b, c, d, list, text, t, store, outcomes, effects, out,
-            )
+    let [a, b, _, _] = command.numbers;
+    match command.call {
+        Call::Lend => Settings {
+            outcomes: a as usize,
+            effects: b as usize,
+            ..t
+        },
+        Call::Size => Settings {
+            size: a as usize,
+            ..t
+        },
+        _ => t,
+    }
+}
+
+impl Lent {
+    // A store made new at time 0, which a script finds.
+    pub fn new() -> Self
+        ensures store { result.store ≡ (calling 16384 (Calls.new 0) (replicate 16385 0)).store }
+        ensures settings { result.settings ≡ beginning }
+    {
+        let mut store = [0u32; 16385];
+        let _accepted = new(16384, 0, &mut store);
+        Lent {
+            store,
+            outcomes: [0; 24576],
+            effects: [0; 327680],
+            settings: Settings {
+                size: 16384,
+                outcomes: 24576,
+                effects: 327680,
+            },
         }
-        Line::Bad(wrong) => output::wrong(o, out, number, wrong),
+    }
+
+    // Makes a call of the table.
+    fn make(&mut self, line: &Said, out: &mut Output) -> Result<(), Refused>
+        requires { Ranged line.now.command }
+        ensures makes { Makes (done line.now self.old) line.now.command.call self.new.store out.old out.new result }
+        ensures settings { self.new.settings ≡ lent_after line.now self.old.settings }
+    {
+        let (list, text) = (line.list, line.text);
+        let [a, b, _, _] = line.command.numbers;
+        let (most, size) = (self.settings, self.settings.size);
+        self.settings = settings_of(line.command, most);
+        let (store, os, es) = (&mut self.store, &mut self.outcomes, &mut self.effects);
+        match line.command.call {
+            Call::New => new(size, a, store),
+            Call::Load => load(size, a, list, store),
+            Call::Unload => unload(size, a, store),
+            Call::Enable => enable(size, a as u32, b == 1, store, out),
+            Call::Tick => tick(most, list, store, os, es, out),
+            Call::Run => run(most, a as u32, b == 1, list, store, os, es, out),
+            Call::Deadline => deadline(size, store, out),
+            Call::Counters => counters(size, store, out),
+            Call::Telegrams => telegrams(a as usize, list, es, out),
+            Call::Crontab => crontab(a as u32, b as usize, text, es, out),
+            Call::Start => start(size, list, store, out),
+            Call::RoomFor => room(list, out),
+            Call::Lend => Ok(()),
+            Call::Size => Ok(()),
+            Call::Poke => {
+                poke(store, a as usize, b as u32);
+                Ok(())
+            }
+            Call::Peek => {
+                answers::peeked(out, a, fields::word(store, a as usize));
+                Ok(())
+            }
+        }
+    }
+
+    // Makes the call that a line says, and prints its answer or its refusal.
+    pub fn obey(&mut self, line: &Said, out: &mut Output)
+        requires { Ranged line.now.command }
+        ensures does { Does (done line.now self.old) self.new.store out.old out.new }
+        ensures settings { self.new.settings ≡ lent_after line.now self.old.settings }
+    {
+        if let Err(Refused(number)) = self.make(line, out) {
+            answers::refused(out, line.command.call, number);
+        }
     }
 }

@@ -1,117 +1,66 @@
-// What is printed is gathered in a buffer, and written out when it is nearly full and whenever all input that has come is played. A line is gathered
-// piece by piece, so that it may have any width.
-ghost use Rattle.std.specs.Prelude.{◌≡◌, ◌+◌, ◌≤◌, [], ◌∷◌, length};
-ghost use Rattle.io.specs.Counts.{IsPrefixLen};
-ghost use Rattle.script.specs.Print.{numbers, call_name, wrong_line, signed as Print·signed};
-ghost use Rattle.play.specs.Printed.{words_at};
+// What is printed is gathered in a buffer, and written out when it is full and whenever all input that has come is played. A line is gathered piece
+// by piece, so that it may have any width. The buffer is an array, since a player that asks for no memory cannot run out of it.
+ghost use Rattle.std.specs.Prelude.{◌≡◌, [], IfSome};
 ghost use Rattle.play.specs.Gathered.{Gathers};
 
-use crate::Stream;
-use script::{Wrong, complain, put};
+use arrayvec::ArrayVec;
+use std::fmt;
+use std::io::{Print, Stdout};
 
-fn within(n: usize, bytes: &[u8]) -> usize
-    ensures { IsPrefixLen result bytes.now }
-{
-    if n < bytes.len() { n } else { bytes.len() }
+// The bytes that are gathered, and where they go, if it is still open.
+#[derive(Drop)]
+pub struct Output {
+    bytes: ArrayVec<u8, 65536>,
+    to: Option<Stdout>,
 }
 
-// Writes out what was gathered; where that fails, nothing more is written.
-pub fn flush(o: Stream, out: &[u8]) -> Stream
-    ensures { result.at ≡ 0 }
-{
-    if !o.open {
-        return Stream { at: 0, ..o };
+// Sends bytes out; where that fails, nothing more is.
+fn send(to: Option<Stdout>, bytes: &[u8]) -> Option<Stdout> {
+    to.filter(|to| to.write_all(bytes).is_ok())
+}
+
+impl Output {
+    pub fn new(to: Stdout) -> Self
+        ensures { result.bytes.items ≡ [] }
+    {
+        Output {
+            bytes: ArrayVec::new(),
+            to: Some(to),
+        }
     }
-    let n = within(o.at, out);
-    let open = o.to.write_all(&out[..n]).is_ok();
-    Stream { at: 0, open, ..o }
-}
 
-// Room for a piece.
-fn room(o: Stream, out: &[u8]) -> Stream
-    requires { 1024 ≤ length out.now }
-    ensures { Gathers out.now o [] out.now result × (result.at + 1024 ≤ length out.now) }
-{
-    if o.at <= out.len() - 1024 {
-        return o;
+    pub fn is_open(&self) -> bool {
+        self.to.is_some()
     }
-    flush(o, out)
-}
 
-// Bytes as they are.
-pub fn text(o: Stream, out: &mut [u8], bytes: &[u8]) -> Stream
-    requires { (1024 ≤ length out.old) × (length bytes.now ≤ 32) }
-    ensures { Gathers out.old o bytes.now out.new result }
-{
-    let t = room(o, out);
-    let at = t.at;
-    let n = put::text(&mut out[at..], 0, bytes);
-    Stream { at: at + n, ..t }
-}
-
-// The name of a call.
-pub fn name(o: Stream, out: &mut [u8], call: u32) -> Stream
-    requires { 1024 ≤ length out.old }
-    ensures { Gathers out.old o (call_name call) out.new result }
-{
-    let t = room(o, out);
-    let at = t.at;
-    let n = put::name(&mut out[at..], 0, call);
-    Stream { at: at + n, ..t }
-}
-
-// A number behind a space.
-pub fn number(o: Stream, out: &mut [u8], n: u64) -> Stream
-    requires { 1024 ≤ length out.old }
-    ensures { Gathers out.old o (numbers (n ∷ [])) out.new result }
-{
-    let t = room(o, out);
-    let at = t.at;
-    let k = put::number(&mut out[at..], 0, n);
-    Stream { at: at + k, ..t }
-}
-
-// A signed word behind a space.
-pub fn signed(o: Stream, out: &mut [u8], word: u32) -> Stream
-    requires { 1024 ≤ length out.old }
-    ensures { Gathers out.old o (Print·signed word) out.new result }
-{
-    let t = room(o, out);
-    let at = t.at;
-    let n = put::signed(&mut out[at..], 0, word);
-    Stream { at: at + n, ..t }
-}
-
-// So many words of a store from a place on, each behind a space.
-pub fn words(o: Stream, out: &mut [u8], ws: &[u32], at: usize, n: usize) -> Stream
-    requires { (1024 ≤ length out.old) × (at + n ≤ 18446744073709551615) }
-    ensures { Gathers out.old o (numbers (words_at ws.now at n)) out.new result }
-{
-    let mut t = o;
-    let mut i = 0;
-    while i < n {
-        let word = fields::word(ws, at + i);
-        t = number(t, out, word as u64);
-        i += 1;
+    // Writes out what was gathered.
+    pub fn flush(&mut self)
+        ensures { self.new.bytes.items ≡ [] }
+    {
+        self.to = send(self.to, self.bytes.as_slice());
+        self.bytes.clear();
     }
-    t
+
+    // What `write!` calls. A value that cannot be formatted ends the output.
+    pub fn write_fmt<D: fmt::Display + Drop>(&mut self, value: D)
+        ensures { IfSome (D.output value) (λ text. Gathers self.old text self.new) }
+    {
+        if let Err(fmt::Error) = fmt::Write::write_fmt(self, value) {
+            self.bytes.clear();
+            self.to = None;
+        }
+    }
 }
 
-// The end of a line.
-pub fn end(o: Stream, out: &mut [u8]) -> Stream
-    requires { 1024 ≤ length out.old }
-    ensures { Gathers out.old o (10 ∷ []) out.new result }
-{
-    text(o, out, b"\n")
-}
+impl fmt::Write for Output {
+    ghost write_str_gives = { Gathers };
 
-// The line for text that is no call.
-pub fn wrong(o: Stream, out: &mut [u8], line: u64, w: Wrong) -> Stream
-    requires { 1024 ≤ length out.old }
-    ensures { Gathers out.old o (wrong_line line w) out.new result }
-{
-    let t = room(o, out);
-    let at = t.at;
-    let n = complain::wrong_line(&mut out[at..], line, w);
-    Stream { at: at + n, ..t }
+    fn write_str(&mut self, s: &str) -> fmt::Result {
+        let bytes = s.as_bytes();
+        if self.bytes.try_extend_from_slice(bytes).is_err() {
+            self.flush();
+            self.to = send(self.to, bytes);
+        }
+        Ok(())
+    }
 }

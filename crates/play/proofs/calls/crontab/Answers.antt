@@ -1,16 +1,18 @@
 -- `play::calls::crontab` meets its contract. Assumes nothing.
-use mathlib.Core.Path.{sym}
-use borrow.Author.Rules.{rules}
-use lib.Seq.{length-take-le}
-use Rattle.model.specs.Crontab as model
+use Rattle.std.proofs.Common.{length, min}
+use Rattle.std.proofs.lemmas.Result.{err_from_is_err_and}
+use Rattle.model.specs.Crontab.{crontab}
+use Rattle.script.specs.declared.calls.Call.TheVariants.{Crontab}
 use Rattle.play.specs.Printed.{trigger_lines}
-use Rattle.play.proofs.Calling.{tells-lines}
+use Rattle.play.proofs.Calling.{lent-length, asked, asked-refused}
 use Rattle.play.proofs.calls.crontab.Goals as goal
 
-pub slice_bounds-crontab-end-3 : goal.slice_bounds-crontab-end-3
-slice_bounds-crontab-end-3 c = sym (length-take-le _ _ (search rules))
+pub returns-in_err-accepted : goal.returns-in_err-accepted
+returns-in_err-accepted c =
+    let e = rw (lent-length c.args.room c.min-n.result c.args.effects.now c.min-n.ensures) at c.cerambiu_crontab.ensures in
+    let p = err_from_is_err_and c.from_residual.result c.from_residual.ensures.1 in rw (p.1, p.2) (λ w. asked-refused (crontab c.args.text.now c.args.sunday (min c.args.room (length c.args.effects.now))) Crontab trigger_lines _ _ _ e w _ _ c.in_err-accepted.ensures)
 
 pub returns : goal.returns
 returns c =
-    let s = c.args in
-    tells-lines (model.crontab s.text.now s.sunday) 13 trigger_lines _ _ _ c.within-n.ensures _ _ _ c.cerambiu_crontab-number.ensures c.cerambiu_crontab-number.auto.triggers _ _ _ _ c.crontab.ensures
+    let e = rw (lent-length c.args.room c.min-n.result c.args.effects.now c.min-n.ensures) at c.cerambiu_crontab.ensures in
+    λ w. asked (crontab c.args.text.now c.args.sunday (min c.args.room (length c.args.effects.now))) Crontab trigger_lines _ _ _ e w _ _ c.in_ok-accepted.ensures c.triggers.ensures

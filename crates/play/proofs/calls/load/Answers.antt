@@ -1,9 +1,7 @@
 -- `play::calls::load` meets its contract. Assumes nothing.
-use mathlib.Core.Path.{refl}
-use Rattle.cerambiu.specs.Called.{called}
-use Rattle.play.proofs.Calling.{does-done}
+use Rattle.std.proofs.Common.{refl}
+use Rattle.play.proofs.Calling.{made-silently}
 use Rattle.play.proofs.calls.load.Goals as goal
 
 pub returns : goal.returns
-unfolding called
-returns c = does-done _ _ _ _ c.within-n.ensures _ c.cerambiu_load-number.ensures _ _ _ _ (λ y. refl) c.done.ensures
+returns c = λ o. made-silently _ _ _ _ c.min-n.ensures _ _ c.cerambiu_load.ensures (λ y. refl) _ c.accepted.ensures o

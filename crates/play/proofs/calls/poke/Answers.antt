@@ -3,5 +3,5 @@ use mathlib.Core.Path.{sym}
 use lib.Seq.{set_out}
 use Rattle.play.proofs.calls.poke.Goals as goal
 
-pub returns-else-i-store : goal.returns-else-i-store
-returns-else-i-store c = sym (set_out _ _ _ c.if-i-store.false)
+pub returns-else-place-store : goal.returns-else-place-store
+returns-else-place-store c = sym (set_out _ _ _ c.if-place-store.false)

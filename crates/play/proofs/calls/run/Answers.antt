@@ -1,18 +1,18 @@
 -- `play::calls::run` meets its contract. Assumes nothing.
-use mathlib.Core.Path.{refl, sym}
-use borrow.Author.Rules.{rules}
-use lib.Seq.{length-take-le}
+use Rattle.std.proofs.Common.{refl}
+use Rattle.std.proofs.lemmas.Result.{err_from_is_err_and}
+use Rattle.model.specs.World.{now_of, world_of}
 use Rattle.model.specs.Calls.{run}
-use Rattle.cerambiu.specs.Called.{called}
-use Rattle.play.proofs.Calling.{does-handle}
+use Rattle.play.proofs.Calling.{handled-made, handled-refused}
 use Rattle.play.proofs.calls.run.Goals as goal
 
-pub slice_bounds-handled-end-3 : goal.slice_bounds-handled-end-3
-slice_bounds-handled-end-3 c = sym (length-take-le _ _ (search rules))
-
-pub slice_bounds-handled-end-5 : goal.slice_bounds-handled-end-5
-slice_bounds-handled-end-5 c = sym (length-take-le _ _ (search rules))
+pub returns-in_err-accepted : goal.returns-in_err-accepted
+returns-in_err-accepted c =
+    let p = err_from_is_err_and c.from_residual.result c.from_residual.ensures.1 in rw (p.1, p.2)
+    (handled-refused (run c.args.rule c.args.dry c.args.snapshot.now) _ 0 _ _ _ c.min-n.ensures _ _ _ _ _ _ c.min-os.ensures c.min-es.ensures _ _ _ _ _ c.cerambiu_run.ensures (λ a b. refl) _ _ c.in_err-accepted.ensures)
 
 pub returns : goal.returns
-unfolding called
-returns c = does-handle (run c.args.rule c.args.dry c.args.snapshot.now) 5 _ _ _ _ c.within-n.ensures _ _ _ _ _ _ c.within-os.ensures c.within-es.ensures _ _ _ _ _ c.cerambiu_run-number.ensures c.cerambiu_run-number.auto.outcomes c.cerambiu_run-number.auto.effects (λ a b y. refl) (λ a b. refl) _ _ _ _ c.handled.ensures
+unfolding now_of world_of
+returns c =
+    handled-made (run c.args.rule c.args.dry c.args.snapshot.now) _ _ _ _ _ c.min-n.ensures _ _ _ _ _ _ c.min-os.ensures c.min-es.ensures _ _ _ _ _ c.cerambiu_run.ensures (λ a b. refl) (λ a b y. refl)
+    _ _ c.in_ok-accepted.ensures (rw c.now_ms-time.ensures at c.handled.ensures)

@@ -1,15 +1,18 @@
 -- `play::calls::telegrams` meets its contract. Assumes nothing.
-use mathlib.Core.Path.{sym}
-use Prim.Native.Nat.{ℕ}
-use borrow.Author.Rules.{rules}
-use lib.Seq.{length-take-le}
+use Rattle.std.proofs.Common.{length, min}
+use Rattle.std.proofs.lemmas.Result.{err_from_is_err_and}
 use Rattle.cerambiu.specs.Told.{sending}
+use Rattle.script.specs.declared.calls.Call.TheVariants.{Telegrams}
 use Rattle.play.specs.Printed.{telegram_lines}
-use Rattle.play.proofs.Calling.{tells-lines}
+use Rattle.play.proofs.Calling.{lent-length, asked, asked-refused}
 use Rattle.play.proofs.calls.telegrams.Goals as goal
 
-pub slice_bounds-telegrams-end-3 : goal.slice_bounds-telegrams-end-3
-slice_bounds-telegrams-end-3 c = sym (length-take-le _ _ (search rules))
+pub returns-in_err-accepted : goal.returns-in_err-accepted
+returns-in_err-accepted c =
+    let e = rw (lent-length c.args.room c.min-n.result c.args.effects.now c.min-n.ensures) at c.cerambiu_telegrams.ensures in
+    let p = err_from_is_err_and c.from_residual.result c.from_residual.ensures.1 in rw (p.1, p.2) (λ w. asked-refused (sending (min c.args.room (length c.args.effects.now)) c.args.words.now) Telegrams telegram_lines _ _ _ e w _ _ c.in_err-accepted.ensures)
 
 pub returns : goal.returns
-returns c = tells-lines (λ (n : ℕ). sending n c.args.words.now) 12 telegram_lines _ _ _ c.within-n.ensures _ _ _ c.cerambiu_telegrams-number.ensures c.cerambiu_telegrams-number.auto.list _ _ _ _ c.telegrams.ensures
+returns c =
+    let e = rw (lent-length c.args.room c.min-n.result c.args.effects.now c.min-n.ensures) at c.cerambiu_telegrams.ensures in
+    λ w. asked (sending (min c.args.room (length c.args.effects.now)) c.args.words.now) Telegrams telegram_lines _ _ _ e w _ _ c.in_ok-accepted.ensures c.telegrams.ensures

@@ -1,0 +1,126 @@
+// Bytes come in, and each line that ends is played.
+ghost use Rattle.std.specs.Prelude.{◌≡◌, IfOk, IfSome, length};
+ghost use Rattle.script.specs.Scan.{Parses, Finds};
+ghost use Rattle.play.specs.Playing.{said, line_ends, byte_comes, bytes_come};
+ghost use Rattle.play.specs.Example.{room, start};
+ghost use Rattle.play.specs.Played.{Stands, Obeys, Follows, Reads};
+
+use crate::calls::{Lent, Said};
+use crate::output::Output;
+use arrayvec::ArrayVec;
+use script::{Command, Wrong, WrongLine};
+use std::io::{Read, Stdin, Stdout};
+
+// Where a script stands: lines ended, the line that is being read, the list of the line before, what is lent, the output. Of a line its buffer has room
+// for one byte more than a line may have: a line that is longer has that byte too, and what follows is not kept.
+#[derive(Drop)]
+pub struct Player {
+    number: u64,
+    line: ArrayVec<u8, 262145>,
+    list: [u32; 8192],
+    lent: Lent,
+    output: Output,
+}
+
+// What a line says.
+fn say(line: &[u8], list: &mut [u32; 8192]) -> Result<Option<Command>, Wrong>
+    ensures parses { Parses (said room line.now) list.old list.new result }
+    ensures finds { IfOk result (λ o. IfSome o (Finds (said room line.now) line.now list.new)) }
+    ensures list { length list.new ≡ 8192 }
+{
+    if line.len() > 262144 {
+        return Err(Wrong::LineTooLong);
+    }
+    script::parse(line, list)
+}
+
+impl Player {
+    pub fn new(to: Stdout) -> Self
+        ensures { Stands result start }
+    {
+        Player {
+            number: 0,
+            line: ArrayVec::new(),
+            list: [0; 8192],
+            lent: Lent::new(),
+            output: Output::new(to),
+        }
+    }
+
+    // Obeys the line that has ended.
+    fn obey(&mut self)
+        ensures { Obeys (said room self.old.line.items) self.old self.new }
+    {
+        let line = self.line.as_slice();
+        match say(line, &mut self.list) {
+            Ok(None) => {}
+            Ok(Some(command)) => {
+                let said = Said {
+                    command,
+                    list: &self.list[..command.words],
+                    text: &line[line.len() - command.bytes..],
+                };
+                self.lent.obey(&said, &mut self.output);
+            }
+            Err(wrong) => {
+                let line = self.number;
+                write!(self.output, "{}", WrongLine { line, wrong });
+            }
+        }
+    }
+
+    // Plays the line that has ended.
+    fn end_line(&mut self)
+        ensures { Follows (line_ends room) self.old self.new }
+    {
+        self.number = self.number.saturating_add(1);
+        self.obey();
+        self.line.clear();
+    }
+
+    fn feed_byte(&mut self, b: u8)
+        ensures { Follows (byte_comes room b) self.old self.new }
+    {
+        if b == b'\n' {
+            return self.end_line();
+        }
+        let _fits = self.line.try_push(b);
+    }
+
+    // Plays the lines that end in what was read; the rest of it is kept.
+    fn feed(&mut self, input: &[u8])
+        ensures { Follows (bytes_come room input.now) self.old self.new }
+    {
+        for b in input {
+            self.feed_byte(*b);
+        }
+    }
+
+    // Reads once, plays what came, and writes the answers out. The end of the input ends its last line, and so does a read that fails. Whether the
+    // script goes on.
+    fn read_some(&mut self, from: &mut Stdin) -> bool
+        ensures { Reads self.old self.new }
+    {
+        let mut bytes = [0u8; 65536];
+        let n = from.read(&mut bytes).unwrap_or(0);
+        if n == 0 {
+            self.end_line();
+            self.output.flush();
+            return false;
+        }
+        self.feed(&bytes[..n]);
+        self.output.flush();
+        self.output.is_open()
+    }
+
+    // A proved loop has to end, and nothing says that the input does. So the loop has a number of turns that no run uses up.
+    pub fn play(&mut self, mut from: Stdin)
+        ensures { Reads self.old self.new }
+    {
+        for _ in 0..u64::MAX {
+            if !self.read_some(&mut from) {
+                return;
+            }
+        }
+    }
+}
