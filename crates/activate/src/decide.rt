@@ -3,12 +3,12 @@ ghost use Rattle.std.specs.Prelude.{◌≡◌, ◌<◌};
 ghost use Rattle.model.specs.Image.{size_of};
 ghost use Rattle.model.specs.Rows.{rules};
 ghost use Rattle.image.specs.Accepted.{Accepted};
-ghost use Rattle.state.specs.Meaning.{Sound, meaning};
+ghost use Rattle.state.specs.Meaning.{meaning};
 ghost use Rattle.activate.specs.Decisions.{InCooldownIs, Decides};
 
 use crate::Mode;
+use eval::Env;
 use eval::conditions::conditions_hold;
-use exec::Env;
 
 #[derive(Clone, Copy)]
 pub enum Decision {
@@ -18,12 +18,11 @@ pub enum Decision {
     Unevaluable,
 }
 
-#[tactic(auto, unfolding(model::specs::Activate::in_cooldown, words::specs::Saturating::saturating_sub))]
-fn in_cooldown(env: &Env, v: &[u32], i: u32) -> bool
-    requires { Sound v.now }
-    ensures { InCooldownIs env.now.snapshot.now env.now.image.now i (meaning v.now).rest result }
+#[tactic(auto, using(eval::proofs::Kept::open_sound), unfolding(model::specs::Activate::in_cooldown, words::specs::Saturating::saturating_sub))]
+fn in_cooldown(env: &Env, i: u32) -> bool
+    ensures { InCooldownIs env.now.snapshot.now env.now.image.now i (meaning env.now.state.now).rest result }
 {
-    let Some(last) = state::rules::last_activation(v, i as usize) else {
+    let Some(last) = state::rules::last_activation(env.state, i as usize) else {
         return false;
     };
     let age = world::now_ms(env.snapshot).saturating_sub(last);
@@ -32,19 +31,14 @@ fn in_cooldown(env: &Env, v: &[u32], i: u32) -> bool
 
 // Only an automatic activation waits for the cooldown.
 #[tactic(auto, unfolding(model::specs::Activate::decide))]
-pub fn decide(env: &Env, v: &[u32], i: u32, mode: Mode) -> Decision
-    requires { Accepted env.now.image.now × (i < size_of env.now.image.now rules) × Sound v.now }
-    ensures { Decides env.now.snapshot.now env.now.image.now i mode (meaning v.now).rest result }
+pub fn decide(env: &Env, i: u32, mode: Mode) -> Decision
+    requires { Accepted env.now.image.now × (i < size_of env.now.image.now rules) }
+    ensures { Decides env.now.snapshot.now env.now.image.now i mode (meaning env.now.state.now).rest result }
 {
-    if mode.is_auto() && in_cooldown(env, v, i) {
+    if mode.is_auto() && in_cooldown(env, i) {
         return Decision::InCooldown;
     }
-    let given = eval::Env {
-        snapshot: env.snapshot,
-        image: env.image,
-        state: v,
-    };
-    match conditions_hold(&given, i) {
+    match conditions_hold(env, i) {
         Some(true) => Decision::Begins,
         Some(false) => Decision::Rejected,
         None => Decision::Unevaluable,

@@ -64,16 +64,15 @@ pub fn run_wet(
     effects: &mut [u32],
     v: &mut [u32],
     x: Handled,
-    job: Job,
     from: Point,
     most: u32,
 ) -> Handled
     requires { (most ≤ 256) × RunRoom (carried v.old x) }
-    ensures { RunsWet env.now.snapshot.now env.now.image.now rule.now.part.now rule.now.own job from most (carried v.old x) outcomes.old effects.old (carried v.new result) outcomes.new effects.new }
+    ensures { RunsWet env.now.snapshot.now env.now.image.now rule.now.part.now rule.now.own env.now.job from most (carried v.old x) outcomes.old effects.old (carried v.new result) outcomes.new effects.new }
 {
-    let run = run_steps(env, rule, effects, v, job, from, most, x.effects);
+    let run = run_steps(env, rule, effects, v, from, most, x.effects);
     finish_wet(v, run.count - x.effects, run.reason);
-    x.push_outcome(outcomes, job, reason_word(run.reason), run.count)
+    x.push_outcome(outcomes, env.job, reason_word(run.reason), run.count)
 }
 
 // A dry run of the whole rule, and its outcome.
@@ -84,14 +83,13 @@ fn run_dry(
     effects: &mut [u32],
     v: &mut [u32],
     x: Handled,
-    job: Job,
 ) -> Handled
-    requires { Accepted env.now.image.now × (job.dry ≡ true) × Room 1 (carried v.old x) }
-    ensures { RunsDry env.now.snapshot.now env.now.image.now rule.now.part.now rule.now.own job (carried v.old x) outcomes.old effects.old (carried v.new result) outcomes.new effects.new }
+    requires { Accepted env.now.image.now × (env.now.job.dry ≡ true) × Room 1 (carried v.old x) }
+    ensures { RunsDry env.now.snapshot.now env.now.image.now rule.now.part.now rule.now.own env.now.job (carried v.old x) outcomes.old effects.old (carried v.new result) outcomes.new effects.new }
 {
     let most = budget(env.image);
-    let run = run_steps_dry(env, rule, effects, v, job, START, most, x.effects);
-    x.push_outcome(outcomes, job, reason_word(run.reason), run.count)
+    let run = run_steps_dry(env, rule, effects, v, START, most, x.effects);
+    x.push_outcome(outcomes, env.job, reason_word(run.reason), run.count)
 }
 
 pub fn execute(
@@ -101,16 +99,20 @@ pub fn execute(
     effects: &mut [u32],
     v: &mut [u32],
     x: Handled,
-    job: Job,
 ) -> Handled
     requires { Accepted env.now.image.now × Room 1 (carried v.old x) }
-    ensures { Executes env.now.snapshot.now env.now.image.now rule.now.part.now rule.now.own job (carried v.old x) outcomes.old effects.old (carried v.new result) outcomes.new effects.new }
+    ensures { Executes env.now.snapshot.now env.now.image.now rule.now.part.now rule.now.own env.now.job (carried v.old x) outcomes.old effects.old (carried v.new result) outcomes.new effects.new }
 {
-    if job.dry {
+    if env.job.dry {
         state::bump(v, Counter::ActivationsDry, 1);
-        return run_dry(env, rule, outcomes, effects, v, x, job);
+        return run_dry(env, rule, outcomes, effects, v, x);
     }
-    let begun = start(env.snapshot, v, job);
+    let job = start(env.snapshot, v, env.job);
+    let begun = Env {
+        snapshot: env.snapshot,
+        image: env.image,
+        job,
+    };
     let most = budget(env.image);
-    run_wet(env, rule, outcomes, effects, v, x, begun, START, most)
+    run_wet(&begun, rule, outcomes, effects, v, x, START, most)
 }

@@ -89,12 +89,21 @@ pub fn activate(
     requires room { Room 1 (carried v.old x) }
     ensures { Activates snapshot.now image.now part.now own i kind mode (carried v.old x) outcomes.old effects.old (carried v.new result) outcomes.new effects.new }
 {
-    let env = Env { snapshot, image };
     let rule = FlatRule { part, own };
     let dry = mode.is_dry();
     let job = job_of(image, image::rule::name_of(image, i), i, kind, dry, 0);
-    match decide::decide(&env, v, i, mode) {
-        Decision::Begins => execute::execute(&env, &rule, outcomes, effects, v, x, job),
+    let env = Env {
+        snapshot,
+        image,
+        job,
+    };
+    let given = eval::Env {
+        snapshot,
+        image,
+        state: v,
+    };
+    match decide::decide(&given, i, mode) {
+        Decision::Begins => execute::execute(&env, &rule, outcomes, effects, v, x),
         Decision::InCooldown => {
             state::bump(v, Counter::SuppressedCooldown, 1);
             x
@@ -132,10 +141,14 @@ pub fn resume(
     requires budget_bound { (c.budget ≤ 256) × Room 1 (carried v.old x) }
     ensures { Resumes snapshot.now image.now part.now own i c (carried v.old x) outcomes.old effects.old (carried v.new result) outcomes.new effects.new }
 {
-    let env = Env { snapshot, image };
     let rule = FlatRule { part, own };
     let from = c.point;
     let job = job_of(image, c.rule, i, c.trigger, false, c.number);
+    let env = Env {
+        snapshot,
+        image,
+        job,
+    };
     state::bump(v, Counter::ContinuationsFired, 1);
-    execute::run_wet(&env, &rule, outcomes, effects, v, x, job, from, c.budget)
+    execute::run_wet(&env, &rule, outcomes, effects, v, x, from, c.budget)
 }

@@ -1,10 +1,8 @@
 -- That words are sound is kept truncated, since one of its facts goes by two cases that can both hold; it is had back as it was. Assumes nothing.
-use mathlib.Core.Path.{◌≡◌}
 use mathlib.Core.HLevel.{Unit-prop, ×_prop}
-use mathlib.Core.Logic.{◌⊎◌, inl, inr, ∥∥₁_elim, ∥∥₁_map}
-use mathlib.Core.Bool.{Bool, true}
+use mathlib.Core.Logic.{inl, inr, ∥∥₁_elim, ∥∥₁_map}
 use mathlib.Core.List.{List, [], ◌∷◌}
-use Prim.Native.Nat.{ℕ, ◌<◌}
+use Prim.Native.Nat.{ℕ}
 use native.Mathlib.Nat.{ℕ_set}
 use native.Mathlib.Omega.{arith}
 use native.Mathlib.Decide.{dec_le}

@@ -2,14 +2,12 @@
 use Rattle.std.specs.Prelude.{ℕ, ◌≡◌, Bool, List, ℤ}
 use Rattle.std.specs.Prelude.{Option}
 use Rattle.model.specs.State.{Env, Rest}
-use Rattle.model.specs.World.{is_one}
-use Rattle.model.specs.Eval.{eval_reading, eval_value, value_at, resolve_time_bound, bound_at, sun_is_up, level_is, compare_var, older_than, eval_condition, condition_at, conditions_hold}
+use Rattle.model.specs.Eval.{eval_reading, eval_value, value_at, resolve_time_bound, bound_at, sun_is_up, level_is, eval_condition, condition_at, conditions_hold}
 use Rattle.model.specs.Rules.{conditions_of_rule}
 use Rattle.model.specs.Steps.{FlatStep}
 use Rattle.model.specs.declared.Reading.{Reading}
 use Rattle.model.specs.declared.Value.{Value}
 use Rattle.model.specs.declared.TimeBound.{TimeBound}
-use Rattle.model.specs.declared.VarValue.{VarValue}
 use Rattle.model.specs.declared.Condition.{Condition}
 use Rattle.state.specs.Meaning.{meaning}
 use Rattle.eval.specs.declared.Env.{Env as Given}

@@ -36,9 +36,9 @@ Follows a to r = (v : List ℕ) (x : actions.PrimResult) → Does v a x → Step
 abbrev pub GoesOn : List ℕ → Point → StepDone → Type 0
 GoesOn v to r = Steps v r (record { vol = meaning v; report = plain; effect = None; reason = 0; next = Some to })
 
--- a step, in every environment; in every environment of a snapshot; in every one of a snapshot and an image
-abbrev pub StepsAlways : Job → List ℕ → Point → Step → StepDone → Type 0
-StepsAlways j v sp x r = (e : Env) (b : ℕ) → Steps v r (model.exec e (job_of j) b sp x (meaning v))
+-- a step, of every job in every environment; in every environment of a snapshot; in every one of a snapshot and an image
+abbrev pub StepsAlways : List ℕ → Point → Step → StepDone → Type 0
+StepsAlways v sp x r = (j : Job) (e : Env) (b : ℕ) → Steps v r (model.exec e (job_of j) b sp x (meaning v))
 
 module _ (snapshot image : List ℕ) where
   abbrev pub StepsIn : Job → List ℕ → ℕ → Point → Step → StepDone → Type 0

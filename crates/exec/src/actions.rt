@@ -4,17 +4,18 @@ ghost use Rattle.exec.specs.Done.{action_done};
 ghost use Rattle.exec.specs.Results.{PerformsIn, PerformsAt};
 
 use crate::answers::{EffectKind, emits, fails};
-use crate::{Env, Job, PrimResult, lights, rules, timers, variables};
+use crate::{Env, PrimResult, lights, rules, timers, variables};
 use image::action::action_of;
 use image::layout::Table;
 use image::record::record_at;
 use model::Action;
 
 // One arm for each kind.
+// kept: one match over the 24 kinds, of an arm each; parts of it, as it had once, need a clause that says which kinds are left
 #[tactic(auto, unfolding(model::specs::Actions::run_prim))]
-pub fn run_prim(env: &Env, v: &mut [u32], job: Job, action: Action) -> PrimResult
+pub fn run_prim(env: &Env, v: &mut [u32], action: Action) -> PrimResult
     requires { Sound v.old }
-    ensures { PerformsIn env.now.snapshot.now env.now.image.now job v.old action (action_done v.new result) }
+    ensures { PerformsIn env.now.snapshot.now env.now.image.now env.now.job v.old action (action_done v.new result) }
 {
     match action {
         Action::Light {
@@ -22,20 +23,20 @@ pub fn run_prim(env: &Env, v: &mut [u32], job: Job, action: Action) -> PrimResul
             hold,
             answer,
             verb,
-        } => lights::prim_light(v, job, target, hold, answer, verb),
+        } => lights::prim_light(env, v, target, hold, answer, verb),
         Action::Recall {
             answer,
             scene,
             present,
             target,
-        } => lights::prim_recall(v, job, answer, scene, present, target),
-        Action::Apply { answer, scene } => lights::prim_apply(v, job, answer, scene),
-        Action::Cycle { first, count } => lights::prim_cycle(env.image, v, job, first, count),
+        } => lights::prim_recall(env, v, answer, scene, present, target),
+        Action::Apply { answer, scene } => lights::prim_apply(env, v, answer, scene),
+        Action::Cycle { first, count } => lights::prim_cycle(env, v, first, count),
         Action::Percent {
             target,
             hold,
             value,
-        } => lights::prim_percent(env, v, job, target, hold, value),
+        } => lights::prim_percent(env, v, target, hold, value),
         Action::HclResume { target } => emits(EffectKind::HclResume, target, 0, 0, 0),
         Action::HclHold { target } => emits(EffectKind::HclHold, target, 0, 0, 0),
         Action::HclEnable { schedule } => emits(EffectKind::HclSchedule, schedule, 1, 0, 0),
@@ -54,7 +55,7 @@ pub fn run_prim(env: &Env, v: &mut [u32], job: Job, action: Action) -> PrimResul
             adapter,
             group,
             selected,
-        } => variables::panel_select(env, v, job, adapter, group, selected),
+        } => variables::panel_select(env, v, adapter, group, selected),
         Action::CancelHold {
             adapter,
             address,
@@ -66,29 +67,27 @@ pub fn run_prim(env: &Env, v: &mut [u32], job: Job, action: Action) -> PrimResul
             instance,
         } => emits(EffectKind::CatchMovement, adapter, address, instance, 0),
         Action::TimerStart { timer, duration_ms } => timers::timer_start(
-            env.snapshot,
+            env,
             v,
-            job,
             timer,
             duration_ms,
         ),
         Action::TimerRestart { timer, duration_ms } => timers::timer_restart(
-            env.snapshot,
+            env,
             v,
-            job,
             timer,
             duration_ms,
         ),
-        Action::TimerCancel { timer } => timers::timer_cancel(v, job, timer),
+        Action::TimerCancel { timer } => timers::timer_cancel(env, v, timer),
         Action::VarSet {
             name,
             tag,
             low,
             high,
-        } => variables::var_set(env.image, v, job, name, tag, low, high),
-        Action::VarAdd { name, delta } => variables::var_add(env, v, job, name, delta),
-        Action::RuleEnable { rule } => rules::set_rule_bit(env.image, v, job, rule, true),
-        Action::RuleDisable { rule } => rules::set_rule_bit(env.image, v, job, rule, false),
+        } => variables::var_set(env, v, name, tag, low, high),
+        Action::VarAdd { name, delta } => variables::var_add(env, v, name, delta),
+        Action::RuleEnable { rule } => rules::set_rule_bit(env, v, rule, true),
+        Action::RuleDisable { rule } => rules::set_rule_bit(env, v, rule, false),
         Action::MqttPublish {
             topic,
             payload,
@@ -101,10 +100,10 @@ pub fn run_prim(env: &Env, v: &mut [u32], job: Job, action: Action) -> PrimResul
 }
 
 // Action i of the image.
-pub fn prim_at(env: &Env, v: &mut [u32], job: Job, i: u32) -> PrimResult
+pub fn prim_at(env: &Env, v: &mut [u32], i: u32) -> PrimResult
     requires { Sound v.old }
-    ensures { PerformsAt env.now.snapshot.now env.now.image.now job v.old i (action_done v.new result) }
+    ensures { PerformsAt env.now.snapshot.now env.now.image.now env.now.job v.old i (action_done v.new result) }
 {
     let action = action_of(record_at(env.image, Table::Actions, i));
-    run_prim(env, v, job, action)
+    run_prim(env, v, action)
 }

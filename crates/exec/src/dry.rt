@@ -9,19 +9,19 @@ ghost use Rattle.exec.specs.DryRuns.{DryStepsIn, Queues, Moves, DryReady, RunsDr
 use crate::places::advance;
 use crate::queue::Queue;
 use crate::runs::{note_partial, take_step, unpaid};
-use crate::{Env, FlatRule, Job, RunResult, StepResult, steps};
+use crate::{Env, FlatRule, RunResult, StepResult, steps};
 use model::{Point, Step};
 
-fn exec_dry(env: &Env, v: &mut [u32], job: Job, sp: Point, step: Step) -> StepResult
-    requires { Sound v.old × (job.dry ≡ true) × (suc sp.place + reach step ≤ max32) }
-    ensures { DryStepsIn env.now.snapshot.now env.now.image.now job v.old sp step (step_done v.new result) }
+fn exec_dry(env: &Env, v: &mut [u32], sp: Point, step: Step) -> StepResult
+    requires { Sound v.old × (env.now.job.dry ≡ true) × (suc sp.place + reach step ≤ max32) }
+    ensures { DryStepsIn env.now.snapshot.now env.now.image.now env.now.job v.old sp step (step_done v.new result) }
 {
     match step {
-        Step::Primitive(i) => steps::primitive(env, v, job, sp, i),
+        Step::Primitive(i) => steps::primitive(env, v, sp, i),
         Step::Wait(_) => steps::goes_on(advance(sp, 0)),
-        Step::Branch(c, t, n) => steps::run_branch(env, v, job, sp, c, t, n),
+        Step::Branch(c, t, n) => steps::run_branch(env, v, sp, c, t, n),
         Step::After(_) => steps::goes_on(advance(sp, 0)),
-        Step::Fail => steps::fail(v, job, sp),
+        Step::Fail => steps::fail(v, sp),
     }
 }
 
@@ -36,6 +36,7 @@ fn queue_body(bodies: &mut Queue, sp: Point, step: Step)
 }
 
 // Where a list is at its end, the next body that has a step is begun.
+// kept: the loop counts nothing, it pops the queue until a list has a step; a search of an iterator would still have to move the point
 fn next_step(rule: &FlatRule, point: &mut Point, bodies: &mut Queue) -> Option<Step>
     ensures { Moves rule.now.part.now rule.now.own point.old bodies.old point.new bodies.new result }
 {
@@ -58,14 +59,13 @@ pub fn run_steps_dry(
     rule: &FlatRule,
     effects: &mut [u32],
     v: &mut [u32],
-    job: Job,
     from: Point,
     budget: u32,
     count: u32,
 ) -> RunResult
-    requires dry { job.dry ≡ true }
+    requires dry { env.now.job.dry ≡ true }
     requires dry_ready { DryReady v.old budget count }
-    ensures { RunsDry env.now.snapshot.now env.now.image.now rule.now.part.now rule.now.own job v.old from budget count effects.old (run_done v.new result) effects.new }
+    ensures { RunsDry env.now.snapshot.now env.now.image.now rule.now.part.now rule.now.own env.now.job v.old from budget count effects.old (run_done v.new result) effects.new }
 {
     let mut run = RunResult {
         reason: None,
@@ -77,7 +77,7 @@ pub fn run_steps_dry(
         let Some(step) = next_step(rule, &mut point, &mut bodies) else {
             return run;
         };
-        let d = exec_dry(env, v, job, point, step);
+        let d = exec_dry(env, v, point, step);
         run = take_step(run, effects, d);
         queue_body(&mut bodies, point, step);
         point = d.next.unwrap_or(point);

@@ -22,11 +22,23 @@ ghost use Rattle.exec.specs.Lists.{NearLists};
 use model::{Effect, Point};
 use state::reasons::Reason;
 
-// What a call is given: the words of the snapshot and of the image.
+// What a run knows of its rule: name, place in the image, hold_hcl; and the trigger and the activation number for the outcome, 0 for none.
+#[derive(Clone, Copy)]
+pub struct Job {
+    pub rule: u32,
+    pub index: u32,
+    pub hold: u32,
+    pub trigger: u32,
+    pub dry: bool,
+    pub number: u64,
+}
+
+// What a run is given: the words of the snapshot and of the image, and what it knows of its rule.
 #[derive(Clone, Copy)]
 pub struct Env<'a> {
     pub snapshot: &'a [u32],
     pub image: &'a [u32],
+    pub job: Job,
 
     ghost sized: { Sized image.now },
 }
@@ -38,17 +50,6 @@ pub struct FlatRule<'a> {
     pub own: usize,
 
     ghost near: { NearLists part.now own },
-}
-
-// What a run knows of its rule: name, place in the image, hold_hcl; and the trigger and the activation number for the outcome, 0 for none.
-#[derive(Clone, Copy)]
-pub struct Job {
-    pub rule: u32,
-    pub index: u32,
-    pub hold: u32,
-    pub trigger: u32,
-    pub dry: bool,
-    pub number: u64,
 }
 
 // An action that cannot be evaluated.

@@ -4,13 +4,12 @@ ghost use Rattle.model.specs.Actions.{hold_or};
 ghost use Rattle.model.specs.Lists.{or_else};
 ghost use Rattle.model.specs.State.{cycle_pos_at};
 ghost use Rattle.model.specs.declared.Action.TheVariants.{Light, Recall, Apply, Cycle, Percent};
-ghost use Rattle.image.specs.Sized.{Sized};
 ghost use Rattle.state.specs.Meaning.{Sound, meaning};
 ghost use Rattle.exec.specs.Done.{action_done};
 ghost use Rattle.exec.specs.Results.{Performs, PerformsIn, LevelAt};
 
 use crate::answers::{EffectKind, emits, fails};
-use crate::{Env, Job, PrimResult};
+use crate::{Env, PrimResult};
 use eval::values::value_at;
 use image::layout::{Table, word_at};
 
@@ -23,18 +22,24 @@ fn hold_or(hold: u32, rule: u32) -> u32
 
 #[tactic(auto, unfolding(model::specs::Actions::run_prim, model::specs::Actions::prim_light))]
 pub fn prim_light(
+    env: &Env,
     v: &mut [u32],
-    job: Job,
     target: u32,
     hold: u32,
     answer: u32,
     verb: u32,
 ) -> PrimResult
     requires { Sound v.old }
-    ensures { Performs job v.old (Light target hold answer verb) (action_done v.new result) }
+    ensures { Performs env.now.job v.old (Light target hold answer verb) (action_done v.new result) }
 {
     if answer == 0 {
-        return emits(EffectKind::Light, target, verb, hold_or(hold, job.hold), 0);
+        return emits(
+            EffectKind::Light,
+            target,
+            verb,
+            hold_or(hold, env.job.hold),
+            0,
+        );
     }
     if answer == 1 {
         return Ok(None);
@@ -44,29 +49,29 @@ pub fn prim_light(
 
 #[tactic(auto, unfolding(model::specs::Actions::run_prim, model::specs::Actions::prim_recall))]
 pub fn prim_recall(
+    env: &Env,
     v: &mut [u32],
-    job: Job,
     answer: u32,
     scene: u32,
     mark: u32,
     target: u32,
 ) -> PrimResult
     requires { Sound v.old }
-    ensures { Performs job v.old (Recall answer scene mark target) (action_done v.new result) }
+    ensures { Performs env.now.job v.old (Recall answer scene mark target) (action_done v.new result) }
 {
     if answer == 0 {
-        return emits(EffectKind::SceneRecall, scene, mark, target, job.hold);
+        return emits(EffectKind::SceneRecall, scene, mark, target, env.job.hold);
     }
     fails(v)
 }
 
 #[tactic(auto, unfolding(model::specs::Actions::run_prim, model::specs::Actions::prim_apply))]
-pub fn prim_apply(v: &mut [u32], job: Job, answer: u32, scene: u32) -> PrimResult
+pub fn prim_apply(env: &Env, v: &mut [u32], answer: u32, scene: u32) -> PrimResult
     requires { Sound v.old }
-    ensures { Performs job v.old (Apply answer scene) (action_done v.new result) }
+    ensures { Performs env.now.job v.old (Apply answer scene) (action_done v.new result) }
 {
     if answer == 0 {
-        return emits(EffectKind::SceneApply, scene, job.hold, 0, 0);
+        return emits(EffectKind::SceneApply, scene, env.job.hold, 0, 0);
     }
     fails(v)
 }
@@ -81,21 +86,21 @@ fn cycle_place(v: &[u32], index: u32, count: u32) -> u32
 
 // The sum saturates: past the end of the image there is no word, however far.
 #[tactic(auto, unfolding(model::specs::Actions::run_prim, model::specs::Actions::prim_cycle))]
-pub fn prim_cycle(image: &[u32], v: &mut [u32], job: Job, first: u32, count: u32) -> PrimResult
-    requires { Sized image.now × Sound v.old }
-    ensures { (snapshot : List ℕ) → PerformsIn snapshot image.now job v.old (Cycle first count) (action_done v.new result) }
+pub fn prim_cycle(env: &Env, v: &mut [u32], first: u32, count: u32) -> PrimResult
+    requires { Sound v.old }
+    ensures { (snapshot : List ℕ) → PerformsIn snapshot env.now.image.now env.now.job v.old (Cycle first count) (action_done v.new result) }
 {
     if count == 0 {
         return fails(v);
     }
-    let at = cycle_place(v, job.index, count);
+    let at = cycle_place(v, env.job.index, count);
     let place = first.saturating_add(at);
-    let scene = word_at(image, Table::Pool, place, 0);
-    if job.dry {
-        return emits(EffectKind::SceneRecall, scene, 0, 0, job.hold);
+    let scene = word_at(env.image, Table::Pool, place, 0);
+    if env.job.dry {
+        return emits(EffectKind::SceneRecall, scene, 0, 0, env.job.hold);
     }
-    state::rules::set_cycle_pos(v, job.index as usize, (at + 1) % count);
-    emits(EffectKind::SceneRecall, scene, 0, 0, job.hold)
+    state::rules::set_cycle_pos(v, env.job.index as usize, (at + 1) % count);
+    emits(EffectKind::SceneRecall, scene, 0, 0, env.job.hold)
 }
 
 // The level of value i, where it can be evaluated and has one.
@@ -113,19 +118,18 @@ fn level_at(env: &Env, v: &[u32], i: u32) -> Option<u32>
 
 // A value in parts per million of full light.
 #[tactic(auto, unfolding(model::specs::Actions::run_prim))]
-pub fn prim_percent(
-    env: &Env,
-    v: &mut [u32],
-    job: Job,
-    target: u32,
-    hold: u32,
-    value: u32,
-) -> PrimResult
+pub fn prim_percent(env: &Env, v: &mut [u32], target: u32, hold: u32, value: u32) -> PrimResult
     requires { Sound v.old }
-    ensures { PerformsIn env.now.snapshot.now env.now.image.now job v.old (Percent target hold value) (action_done v.new result) }
+    ensures { PerformsIn env.now.snapshot.now env.now.image.now env.now.job v.old (Percent target hold value) (action_done v.new result) }
 {
     match level_at(env, v, value) {
-        Some(level) => emits(EffectKind::Level, target, level, hold_or(hold, job.hold), 0),
+        Some(level) => emits(
+            EffectKind::Level,
+            target,
+            level,
+            hold_or(hold, env.job.hold),
+            0,
+        ),
         None => fails(v),
     }
 }

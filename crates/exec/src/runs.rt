@@ -8,7 +8,7 @@ ghost use Rattle.exec.specs.Runs.{Taken, Ready, Runs};
 
 use crate::effects::put_effect;
 use crate::steps::exec;
-use crate::{Env, FlatRule, Job, RunResult, StepResult};
+use crate::{Env, FlatRule, RunResult, StepResult};
 use model::{Point, Step};
 use state::reasons::Reason;
 
@@ -44,13 +44,12 @@ pub fn run_steps(
     rule: &FlatRule,
     effects: &mut [u32],
     v: &mut [u32],
-    job: Job,
     from: Point,
     budget: u32,
     count: u32,
 ) -> RunResult
     requires { Ready v.old budget count }
-    ensures { Runs env.now.snapshot.now env.now.image.now rule.now.part.now rule.now.own job v.old from budget count effects.old (run_done v.new result) effects.new }
+    ensures { Runs env.now.snapshot.now env.now.image.now rule.now.part.now rule.now.own env.now.job v.old from budget count effects.old (run_done v.new result) effects.new }
 {
     let mut run = RunResult {
         reason: None,
@@ -61,7 +60,7 @@ pub fn run_steps(
         let Some(step) = rule.step_at(point) else {
             return run;
         };
-        let d = exec(env, v, job, left, point, step);
+        let d = exec(env, v, left, point, step);
         run = take_step(run, effects, d);
         let Some(next) = d.next else {
             return run;

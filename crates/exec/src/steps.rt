@@ -9,7 +9,7 @@ ghost use Rattle.exec.specs.Paid.{Follows, GoesOn, StepsAlways, StepsAt, StepsIn
 use crate::actions::prim_at;
 use crate::answers::fails;
 use crate::places::{advance, body_start, enter_then};
-use crate::{Env, Job, PrimResult, StepResult, Unevaluable};
+use crate::{Env, PrimResult, StepResult, Unevaluable};
 use eval::conditions::condition_at;
 use model::{Point, Step};
 use state::reasons::Reason;
@@ -43,22 +43,31 @@ pub fn goes_on(to: Point) -> StepResult
     }
 }
 
-pub fn primitive(env: &Env, v: &mut [u32], job: Job, sp: Point, i: u32) -> StepResult
+pub fn primitive(env: &Env, v: &mut [u32], sp: Point, i: u32) -> StepResult
     requires { Sound v.old × (suc sp.place ≤ max32) }
-    ensures { (b : ℕ) → StepsIn env.now.snapshot.now env.now.image.now job v.old b sp (Primitive i) (step_done v.new result) }
+    ensures { (b : ℕ) → StepsIn env.now.snapshot.now env.now.image.now env.now.job v.old b sp (Primitive i) (step_done v.new result) }
 {
-    after_prim(prim_at(env, v, job, i), advance(sp, 0))
+    after_prim(prim_at(env, v, i), advance(sp, 0))
 }
 
 // What follows a wait is scheduled, and the run ends: also where the continuation is dropped.
 #[tactic(auto, unfolding(model::specs::Exec::exec))]
-fn run_wait(snapshot: &[u32], v: &mut [u32], job: Job, left: u32, sp: Point, ms: u32) -> StepResult
+fn run_wait(env: &Env, v: &mut [u32], left: u32, sp: Point, ms: u32) -> StepResult
     requires { Sound v.old × (accepted v.old < max64) × (suc sp.place ≤ max32) }
-    ensures { StepsAt snapshot.now job v.old left sp (Wait ms) (step_done v.new result) }
+    ensures { StepsAt env.now.snapshot.now env.now.job v.old left sp (Wait ms) (step_done v.new result) }
 {
     let to = advance(sp, 0);
-    let time = world::now_ms(snapshot);
-    let reason = state::pending::schedule(v, time, job.rule, job.trigger, job.number, left, ms, to);
+    let time = world::now_ms(env.snapshot);
+    let reason = state::pending::schedule(
+        v,
+        time,
+        env.job.rule,
+        env.job.trigger,
+        env.job.number,
+        left,
+        ms,
+        to,
+    );
     StepResult {
         effect: None,
         reason,
@@ -68,18 +77,18 @@ fn run_wait(snapshot: &[u32], v: &mut [u32], job: Job, left: u32, sp: Point, ms:
 
 // The body is scheduled, and the run goes on behind the step: also where the continuation is dropped.
 #[tactic(auto, unfolding(model::specs::Exec::exec))]
-fn run_after(snapshot: &[u32], v: &mut [u32], job: Job, left: u32, sp: Point, ms: u32) -> StepResult
+fn run_after(env: &Env, v: &mut [u32], left: u32, sp: Point, ms: u32) -> StepResult
     requires { Sound v.old × (accepted v.old < max64) × (suc sp.place ≤ max32) }
-    ensures { StepsAt snapshot.now job v.old left sp (After ms) (step_done v.new result) }
+    ensures { StepsAt env.now.snapshot.now env.now.job v.old left sp (After ms) (step_done v.new result) }
 {
     let body = body_start(sp);
-    let time = world::now_ms(snapshot);
+    let time = world::now_ms(env.snapshot);
     let reason = state::pending::schedule(
         v,
         time,
-        job.rule,
-        job.trigger,
-        job.number,
+        env.job.rule,
+        env.job.trigger,
+        env.job.number,
         left,
         ms,
         body,
@@ -94,17 +103,9 @@ fn run_after(snapshot: &[u32], v: &mut [u32], job: Job, left: u32, sp: Point, ms
 
 // A condition that cannot be evaluated skips both regions.
 #[tactic(auto, unfolding(model::specs::Exec::exec, model::specs::Exec::run_branch))]
-pub fn run_branch(
-    env: &Env,
-    v: &mut [u32],
-    job: Job,
-    sp: Point,
-    c: u32,
-    t: u32,
-    n: u32,
-) -> StepResult
+pub fn run_branch(env: &Env, v: &mut [u32], sp: Point, c: u32, t: u32, n: u32) -> StepResult
     requires { Sound v.old × (suc sp.place + (t + n) ≤ max32) }
-    ensures { (b : ℕ) → StepsIn env.now.snapshot.now env.now.image.now job v.old b sp (Branch c t n) (step_done v.new result) }
+    ensures { (b : ℕ) → StepsIn env.now.snapshot.now env.now.image.now env.now.job v.old b sp (Branch c t n) (step_done v.new result) }
 {
     let given = eval::Env {
         snapshot: env.snapshot,
@@ -118,23 +119,23 @@ pub fn run_branch(
     }
 }
 
-pub fn fail(v: &mut [u32], job: Job, sp: Point) -> StepResult
+pub fn fail(v: &mut [u32], sp: Point) -> StepResult
     requires { Sound v.old × (suc sp.place ≤ max32) }
-    ensures { StepsAlways job v.old sp Fail (step_done v.new result) }
+    ensures { StepsAlways v.old sp Fail (step_done v.new result) }
 {
     after_prim(fails(v), advance(sp, 0))
 }
 
 #[tactic(auto, unfolding(model::specs::Exec::exec))]
-pub fn exec(env: &Env, v: &mut [u32], job: Job, left: u32, sp: Point, step: Step) -> StepResult
+pub fn exec(env: &Env, v: &mut [u32], left: u32, sp: Point, step: Step) -> StepResult
     requires { Sound v.old × (accepted v.old < max64) × (suc sp.place + reach step ≤ max32) }
-    ensures { StepsIn env.now.snapshot.now env.now.image.now job v.old left sp step (step_done v.new result) }
+    ensures { StepsIn env.now.snapshot.now env.now.image.now env.now.job v.old left sp step (step_done v.new result) }
 {
     match step {
-        Step::Primitive(i) => primitive(env, v, job, sp, i),
-        Step::Wait(ms) => run_wait(env.snapshot, v, job, left, sp, ms),
-        Step::Branch(c, t, n) => run_branch(env, v, job, sp, c, t, n),
-        Step::After(ms) => run_after(env.snapshot, v, job, left, sp, ms),
-        Step::Fail => fail(v, job, sp),
+        Step::Primitive(i) => primitive(env, v, sp, i),
+        Step::Wait(ms) => run_wait(env, v, left, sp, ms),
+        Step::Branch(c, t, n) => run_branch(env, v, sp, c, t, n),
+        Step::After(ms) => run_after(env, v, left, sp, ms),
+        Step::Fail => fail(v, sp),
     }
 }

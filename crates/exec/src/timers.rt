@@ -6,53 +6,53 @@ ghost use Rattle.exec.specs.Done.{action_done};
 ghost use Rattle.exec.specs.Results.{Performs, PerformsIn, Arms};
 
 use crate::answers::fails;
-use crate::{Job, PrimResult};
+use crate::{Env, PrimResult};
 
 #[tactic(auto, unfolding(model::specs::Actions::arm_timer))]
-fn arm_timer(snapshot: &[u32], v: &mut [u32], job: Job, name: u32, ms: u32) -> PrimResult
+fn arm_timer(env: &Env, v: &mut [u32], name: u32, ms: u32) -> PrimResult
     requires { Sound v.old }
-    ensures { Arms snapshot.now job v.old name ms (action_done v.new result) }
+    ensures { Arms env.now.snapshot.now env.now.job v.old name ms (action_done v.new result) }
 {
-    if job.dry {
+    if env.job.dry {
         return Ok(None);
     }
     if state::timers::timers_full(v) {
         return fails(v);
     }
-    let due = world::now_ms(snapshot).saturating_add(ms as u64);
+    let due = world::now_ms(env.snapshot).saturating_add(ms as u64);
     state::timers::arm_timer(v, name, due);
     Ok(None)
 }
 
 #[tactic(auto, unfolding(model::specs::Actions::run_prim))]
-pub fn timer_start(snapshot: &[u32], v: &mut [u32], job: Job, timer: u32, ms: u32) -> PrimResult
+pub fn timer_start(env: &Env, v: &mut [u32], timer: u32, ms: u32) -> PrimResult
     requires { Sound v.old }
-    ensures { (image : List ℕ) → PerformsIn snapshot.now image job v.old (TimerStart timer ms) (action_done v.new result) }
+    ensures { (image : List ℕ) → PerformsIn env.now.snapshot.now image env.now.job v.old (TimerStart timer ms) (action_done v.new result) }
 {
     if state::timers::has_timer(v, timer) {
         return Ok(None);
     }
-    arm_timer(snapshot, v, job, timer, ms)
+    arm_timer(env, v, timer, ms)
 }
 
 #[tactic(auto, unfolding(model::specs::Actions::run_prim, model::specs::Actions::arm_timer))]
-pub fn timer_restart(snapshot: &[u32], v: &mut [u32], job: Job, timer: u32, ms: u32) -> PrimResult
+pub fn timer_restart(env: &Env, v: &mut [u32], timer: u32, ms: u32) -> PrimResult
     requires { Sound v.old }
-    ensures { (image : List ℕ) → PerformsIn snapshot.now image job v.old (TimerRestart timer ms) (action_done v.new result) }
+    ensures { (image : List ℕ) → PerformsIn env.now.snapshot.now image env.now.job v.old (TimerRestart timer ms) (action_done v.new result) }
 {
-    if job.dry {
+    if env.job.dry {
         return Ok(None);
     }
     state::timers::cancel_timer(v, timer);
-    arm_timer(snapshot, v, job, timer, ms)
+    arm_timer(env, v, timer, ms)
 }
 
 #[tactic(auto, unfolding(model::specs::Actions::run_prim))]
-pub fn timer_cancel(v: &mut [u32], job: Job, timer: u32) -> PrimResult
+pub fn timer_cancel(env: &Env, v: &mut [u32], timer: u32) -> PrimResult
     requires { Sound v.old }
-    ensures { Performs job v.old (TimerCancel timer) (action_done v.new result) }
+    ensures { Performs env.now.job v.old (TimerCancel timer) (action_done v.new result) }
 {
-    if job.dry {
+    if env.job.dry {
         return Ok(None);
     }
     state::timers::cancel_timer(v, timer);

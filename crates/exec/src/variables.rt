@@ -2,22 +2,21 @@
 ghost use Rattle.std.specs.Prelude.{List, ℕ};
 ghost use Rattle.std.specs.Prelude.{Some};
 ghost use Rattle.model.specs.declared.Action.TheVariants.{VarSet, VarAdd, PanelSelect};
-ghost use Rattle.image.specs.Sized.{Sized};
 ghost use Rattle.state.specs.Meaning.{Sound};
 ghost use Rattle.exec.specs.Done.{action_done};
 ghost use Rattle.exec.specs.Results.{PerformsIn, Assigns, Adds};
 
 use crate::answers::{EffectKind, emits, fails};
-use crate::{Env, Job, PrimResult};
+use crate::{Env, PrimResult};
 use eval::values::value_at;
 use model::VarValue;
 
 #[tactic(auto, unfolding(model::specs::Actions::var_set, state::specs::Named::lacks_room))]
-fn assign(v: &mut [u32], job: Job, name: u32, value: VarValue) -> PrimResult
+fn assign(env: &Env, v: &mut [u32], name: u32, value: VarValue) -> PrimResult
     requires { Sound v.old }
-    ensures { Assigns job v.old name value (action_done v.new result) }
+    ensures { Assigns env.now.job v.old name value (action_done v.new result) }
 {
-    if job.dry {
+    if env.job.dry {
         return Ok(None);
     }
     if state::variables::lacks_room(v, name) {
@@ -29,46 +28,38 @@ fn assign(v: &mut [u32], job: Job, name: u32, value: VarValue) -> PrimResult
 
 // A text of more bytes than the limit is refused, in a dry run too.
 #[tactic(auto, unfolding(model::specs::Actions::run_prim, model::specs::Actions::prim_var_set))]
-pub fn var_set(
-    image: &[u32],
-    v: &mut [u32],
-    job: Job,
-    name: u32,
-    tag: u32,
-    low: u32,
-    high: u32,
-) -> PrimResult
-    requires { Sized image.now × Sound v.old }
-    ensures { (snapshot : List ℕ) → PerformsIn snapshot image.now job v.old (VarSet name tag low high) (action_done v.new result) }
+pub fn var_set(env: &Env, v: &mut [u32], name: u32, tag: u32, low: u32, high: u32) -> PrimResult
+    requires { Sound v.old }
+    ensures { (snapshot : List ℕ) → PerformsIn snapshot env.now.image.now env.now.job v.old (VarSet name tag low high) (action_done v.new result) }
 {
     if tag == 1 {
-        if image::layout::text_limit(image) < high {
+        if image::layout::text_limit(env.image) < high {
             return fails(v);
         }
-        return assign(v, job, name, VarValue::Text(low));
+        return assign(env, v, name, VarValue::Text(low));
     }
-    assign(v, job, name, VarValue::Int(words::join_words(low, high)))
+    assign(env, v, name, VarValue::Int(words::join_words(low, high)))
 }
 
 // A number is added to what a variable holds: to 0 where there is none, to no text.
-fn add_to(v: &mut [u32], job: Job, name: u32, step: i64, held: Option<VarValue>) -> PrimResult
+fn add_to(env: &Env, v: &mut [u32], name: u32, step: i64, held: Option<VarValue>) -> PrimResult
     requires { Sound v.old }
-    ensures { Adds job v.old name (Some step) held (action_done v.new result) }
+    ensures { Adds env.now.job v.old name (Some step) held (action_done v.new result) }
 {
     match held {
-        None => assign(v, job, name, VarValue::Int(step.cast_unsigned())),
+        None => assign(env, v, name, VarValue::Int(step.cast_unsigned())),
         Some(VarValue::Int(n)) => {
             let sum = n.cast_signed().saturating_add(step);
-            assign(v, job, name, VarValue::Int(sum.cast_unsigned()))
+            assign(env, v, name, VarValue::Int(sum.cast_unsigned()))
         }
         Some(VarValue::Text(_)) => fails(v),
     }
 }
 
 #[tactic(auto, unfolding(model::specs::Actions::run_prim))]
-pub fn var_add(env: &Env, v: &mut [u32], job: Job, name: u32, delta: u32) -> PrimResult
+pub fn var_add(env: &Env, v: &mut [u32], name: u32, delta: u32) -> PrimResult
     requires { Sound v.old }
-    ensures { PerformsIn env.now.snapshot.now env.now.image.now job v.old (VarAdd name delta) (action_done v.new result) }
+    ensures { PerformsIn env.now.snapshot.now env.now.image.now env.now.job v.old (VarAdd name delta) (action_done v.new result) }
 {
     let given = eval::Env {
         snapshot: env.snapshot,
@@ -78,7 +69,7 @@ pub fn var_add(env: &Env, v: &mut [u32], job: Job, name: u32, delta: u32) -> Pri
     match value_at(&given, delta) {
         Some(step) => {
             let held = state::variables::variable(v, name);
-            add_to(v, job, name, step, held)
+            add_to(env, v, name, step, held)
         }
         None => fails(v),
     }
@@ -86,16 +77,9 @@ pub fn var_add(env: &Env, v: &mut [u32], job: Job, name: u32, delta: u32) -> Pri
 
 // From 0 to the group limit.
 #[tactic(auto, unfolding(model::specs::Actions::run_prim))]
-pub fn panel_select(
-    env: &Env,
-    v: &mut [u32],
-    job: Job,
-    adapter: u32,
-    group: u32,
-    selected: u32,
-) -> PrimResult
+pub fn panel_select(env: &Env, v: &mut [u32], adapter: u32, group: u32, selected: u32) -> PrimResult
     requires { Sound v.old }
-    ensures { PerformsIn env.now.snapshot.now env.now.image.now job v.old (PanelSelect adapter group selected) (action_done v.new result) }
+    ensures { PerformsIn env.now.snapshot.now env.now.image.now env.now.job v.old (PanelSelect adapter group selected) (action_done v.new result) }
 {
     let given = eval::Env {
         snapshot: env.snapshot,

@@ -9,21 +9,21 @@ use Rattle.activate.proofs.execute.execute.Goals as goal
 
 pub run_dry-requires : goal.run_dry-requires
 run_dry-requires c =
-    (c.requires.0, c.if-job.true, changed-room (carried c.args.v.now c.args.x) _ _ c.bump.ensures 1 c.requires.1)
+    (c.requires.0, c.if-env.true, changed-room (carried c.args.v.now c.args.x) _ _ c.bump.ensures 1 c.requires.1)
 
-pub returns-then-job : goal.returns-then-job
-returns-then-job c =
-    executes-dry c.args.env.now.snapshot.now c.args.env.now.image.now c.args.rule.now.part.now c.args.rule.now.own c.args.job (carried c.args.v.now c.args.x) _ _ _ _ _ _ c.if-job.true c.bump.ensures c.run_dry.ensures
+pub returns-then-env : goal.returns-then-env
+returns-then-env c =
+    executes-dry c.args.env.now.snapshot.now c.args.env.now.image.now c.args.rule.now.part.now c.args.rule.now.own c.args.env.now.job (carried c.args.v.now c.args.x) _ _ _ _ _ _ c.if-env.true c.bump.ensures c.run_dry.ensures
 
-pub start-begun-requires : goal.start-begun-requires
-start-begun-requires c =
+pub start-job-requires : goal.start-job-requires
+start-job-requires c =
     (c.requires.1.sound, omega (arith, c.requires.1.numbers))
 
 pub run_wet-requires : goal.run_wet-requires
 run_wet-requires c =
     let few = (budget-fits c.args.env.now.image.now c.requires.0.passes).1 in
-    (rw c.budget-most.ensures few, start-room (carried c.args.v.now c.args.x) _ _ c.start-begun.ensures.0 refl refl c.requires.1)
+    (rw c.budget-most.ensures few, start-room (carried c.args.v.now c.args.x) _ _ c.start-job.ensures.0 refl refl c.requires.1)
 
 pub returns : goal.returns
 returns c =
-    executes-wet c.args.env.now.snapshot.now c.args.env.now.image.now c.args.rule.now.part.now c.args.rule.now.own c.args.job (carried c.args.v.now c.args.x) _ _ _ _ _ _ c.budget-most.result c.start-begun.result c.if-job.false c.budget-most.ensures c.start-begun.ensures c.run_wet.ensures
+    executes-wet c.args.env.now.snapshot.now c.args.env.now.image.now c.args.rule.now.part.now c.args.rule.now.own c.args.env.now.job (carried c.args.v.now c.args.x) _ _ _ _ _ _ c.budget-most.result c.start-job.result c.if-env.false c.budget-most.ensures c.start-job.ensures c.run_wet.ensures

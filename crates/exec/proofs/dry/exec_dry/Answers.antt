@@ -10,20 +10,20 @@ run_branch-requires c = (c.requires.0, reach-at _ _ _ c.in-Branch.is c.requires.
 
 pub returns-in-Primitive : goal.returns-in-Primitive
 returns-in-Primitive c flat qs =
-    rw c.in-Primitive.is (primitive-dry (env_of c.args.env.now.snapshot.now c.args.env.now.image.now flat) (job_of c.args.job) 0 c.args.sp c.args.v.now _ qs _ c.requires.1 (c.primitive.ensures 0 flat))
+    rw c.in-Primitive.is (primitive-dry (env_of c.args.env.now.snapshot.now c.args.env.now.image.now flat) (job_of c.args.env.now.job) 0 c.args.sp c.args.v.now _ qs _ c.requires.1 (c.primitive.ensures 0 flat))
 
 pub returns-in-Wait : goal.returns-in-Wait
 returns-in-Wait c flat qs =
-    rw c.in-Wait.is (wait-dry (env_of c.args.env.now.snapshot.now c.args.env.now.image.now flat) (job_of c.args.job) 0 c.args.sp c.args.v.now _ qs _ _ c.advance.ensures (c.goes_on.ensures _ c.requires.0))
+    rw c.in-Wait.is (wait-dry (env_of c.args.env.now.snapshot.now c.args.env.now.image.now flat) (job_of c.args.env.now.job) 0 c.args.sp c.args.v.now _ qs _ _ c.advance.ensures (c.goes_on.ensures _ c.requires.0))
 
 pub returns-in-Branch : goal.returns-in-Branch
 returns-in-Branch c flat qs =
-    rw c.in-Branch.is (branch-dry (env_of c.args.env.now.snapshot.now c.args.env.now.image.now flat) (job_of c.args.job) 0 c.args.sp c.args.v.now _ qs _ _ _ (c.run_branch.ensures 0 flat))
+    rw c.in-Branch.is (branch-dry (env_of c.args.env.now.snapshot.now c.args.env.now.image.now flat) (job_of c.args.env.now.job) 0 c.args.sp c.args.v.now _ qs _ _ _ (c.run_branch.ensures 0 flat))
 
 pub returns-in-After : goal.returns-in-After
 returns-in-After c flat qs =
-    rw c.in-After.is (after-dry (env_of c.args.env.now.snapshot.now c.args.env.now.image.now flat) (job_of c.args.job) 0 c.args.sp c.args.v.now _ qs _ _ c.advance-in-After.ensures (c.goes_on-in-After.ensures _ c.requires.0))
+    rw c.in-After.is (after-dry (env_of c.args.env.now.snapshot.now c.args.env.now.image.now flat) (job_of c.args.env.now.job) 0 c.args.sp c.args.v.now _ qs _ _ c.advance-in-After.ensures (c.goes_on-in-After.ensures _ c.requires.0))
 
 pub returns-in-Fail : goal.returns-in-Fail
 returns-in-Fail c flat qs =
-    rw c.in-Fail.is (fail-dry (env_of c.args.env.now.snapshot.now c.args.env.now.image.now flat) (job_of c.args.job) 0 c.args.sp c.args.v.now _ qs (c.fail.ensures (env_of c.args.env.now.snapshot.now c.args.env.now.image.now flat) 0))
+    rw c.in-Fail.is (fail-dry (env_of c.args.env.now.snapshot.now c.args.env.now.image.now flat) (job_of c.args.env.now.job) 0 c.args.sp c.args.v.now _ qs (c.fail.ensures c.args.env.now.job (env_of c.args.env.now.snapshot.now c.args.env.now.image.now flat) 0))

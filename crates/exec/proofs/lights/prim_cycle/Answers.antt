@@ -8,15 +8,15 @@ use Rattle.exec.proofs.Follows.{follows}
 use Rattle.exec.proofs.PoolWords.{pool-word}
 use Rattle.exec.proofs.lights.prim_cycle.Goals as goal
 
-pub returns-then-job : goal.returns-then-job
+pub returns-then-env : goal.returns-then-env
 unfolding run_prim prim_cycle cycle_effect
-returns-then-job c snapshot flat =
-    let word = c.word_at-scene.ensures ∙ pool-word c.args.image.now _ _ _ c.requires.0.1 (c.saturating_add-place.ensures ∙ sum_is _ _ _) in
-    rw (ne_eqb c.args.count 0 c.if-count-eq0.false, c.if-job.true, ← c.cycle_place-at.ensures.0, ← word) (c.emits.ensures _ c.requires.1)
+returns-then-env c snapshot flat =
+    let word = c.word_at-scene.ensures ∙ pool-word c.args.env.now.image.now _ _ _ c.args.env.now.sized.1 (c.saturating_add-place.ensures ∙ sum_is _ _ _) in
+    rw (ne_eqb c.args.count 0 c.if-count-eq0.false, c.if-env.true, ← c.cycle_place-at.ensures.0, ← word) (c.emits.ensures _ c.requires)
 
 pub returns : goal.returns
 unfolding run_prim prim_cycle cycle_effect
 returns c snapshot flat =
-    let word = c.word_at-scene.ensures ∙ pool-word c.args.image.now _ _ _ c.requires.0.1 (c.saturating_add-place.ensures ∙ sum_is _ _ _) in
-    rw (ne_eqb c.args.count 0 c.if-count-eq0.false, c.if-job.false, ← c.cycle_place-at.ensures.0, ← word, ← add-one c.cycle_place-at.result)
-    (follows (λ s. emits s 1 c.word_at-scene.result 0 0 c.args.job.hold) _ _ _ _ c.set_cycle_pos.ensures (c.emits-2.ensures _ c.set_cycle_pos.ensures.sound))
+    let word = c.word_at-scene.ensures ∙ pool-word c.args.env.now.image.now _ _ _ c.args.env.now.sized.1 (c.saturating_add-place.ensures ∙ sum_is _ _ _) in
+    rw (ne_eqb c.args.count 0 c.if-count-eq0.false, c.if-env.false, ← c.cycle_place-at.ensures.0, ← word, ← add-one c.cycle_place-at.result)
+    (follows (λ s. emits s 1 c.word_at-scene.result 0 0 c.args.env.now.job.hold) _ _ _ _ c.set_cycle_pos.ensures (c.emits-2.ensures _ c.set_cycle_pos.ensures.sound))

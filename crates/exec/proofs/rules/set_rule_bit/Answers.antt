@@ -7,7 +7,7 @@ use Rattle.exec.proofs.rules.set_rule_bit.Goals as goal
 pub returns : goal.returns
 returns c e =
     let d = does-nothing c.set_enabled.ensures.sound in
-    rw (sym c.rule_named.ensures ∙ c.in-Some.is, c.if-job.false)
+    rw (sym c.rule_named.ensures ∙ c.in-Some.is, c.if-env.false)
     (record {
       state = subst (Means c.set_enabled.new.v (base c.args.v.now)) (bit-flipped c.args.on c.args.rule c.in-Some.i (meaning c.args.v.now)) c.set_enabled.ensures;
       effect = d.effect;

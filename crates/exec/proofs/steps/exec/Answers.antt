@@ -9,4 +9,4 @@ pub returns-in-Branch : goal.returns-in-Branch
 returns-in-Branch c flat = rw c.in-Branch.is (c.run_branch.ensures _ flat)
 
 pub returns-in-Fail : goal.returns-in-Fail
-returns-in-Fail c flat = rw c.in-Fail.is (c.fail.ensures (env_of c.args.env.now.snapshot.now c.args.env.now.image.now flat) _)
+returns-in-Fail c flat = rw c.in-Fail.is (c.fail.ensures c.args.env.now.job (env_of c.args.env.now.snapshot.now c.args.env.now.image.now flat) _)

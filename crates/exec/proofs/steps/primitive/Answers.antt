@@ -7,4 +7,4 @@ use Rattle.exec.proofs.steps.primitive.Goals as goal
 pub returns : goal.returns
 returns c b flat =
     steps-as (c.after_prim.ensures _ _ _ (c.prim_at.ensures flat))
-    (primitive-is (env_of c.args.env.now.snapshot.now c.args.env.now.image.now flat) (job_of c.args.job) b c.args.sp _ c.args.v.now c.args.i c.advance.ensures)
+    (primitive-is (env_of c.args.env.now.snapshot.now c.args.env.now.image.now flat) (job_of c.args.env.now.job) b c.args.sp _ c.args.v.now c.args.i c.advance.ensures)

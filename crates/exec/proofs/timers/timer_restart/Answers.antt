@@ -10,5 +10,5 @@ pub returns : goal.returns
 unfolding run_prim
 returns c image flat =
     let a = c.args in
-    let d = follows (arm_timer (env_of a.snapshot.now image flat) (job_of a.job) (meaning a.v.now).rest a.timer a.ms) _ _ _ _ c.cancel_timer.ensures (c.arm_timer.ensures image flat _) in
-    rw c.if-job.false (rw c.if-job.false at d)
+    let d = follows (arm_timer (env_of a.env.now.snapshot.now image flat) (job_of a.env.now.job) (meaning a.v.now).rest a.timer a.ms) _ _ _ _ c.cancel_timer.ensures (c.arm_timer.ensures image flat _) in
+    rw c.if-env.false (rw c.if-env.false at d)
