@@ -58,7 +58,7 @@ fn run_wait(env: &Env, v: &mut [u32], left: u32, sp: Point, ms: u32) -> StepResu
 {
     let to = advance(sp, 0);
     let time = world::now_ms(env.snapshot);
-    let reason = state::pending::schedule(
+    let reason = state::pending::schedule_continuation(
         v,
         time,
         env.job.rule,
@@ -83,7 +83,7 @@ fn run_after(env: &Env, v: &mut [u32], left: u32, sp: Point, ms: u32) -> StepRes
 {
     let body = body_start(sp);
     let time = world::now_ms(env.snapshot);
-    let reason = state::pending::schedule(
+    let reason = state::pending::schedule_continuation(
         v,
         time,
         env.job.rule,

@@ -17,13 +17,13 @@ use Rattle.model.specs.Parts.{any}
 use Rattle.model.specs.State as model
 use Rattle.model.specs.declared.Pending.{Pending}
 use Rattle.rows.specs.Places.{laid, row_at}
-use Rattle.state.specs.Cuts.{cut}
+use Rattle.state.specs.Cuts.{cut, Words}
 use Rattle.state.specs.Meaning.{pending_row, part_sizes, pending_part, next_part, stored_part, accepted_part, place_of, words_in, meaning_of, accepted_in, numbered, offset_from, Below, meaning, base, accepted, stored_count, pending_count, Sound, AllNumbered, Holds, Counted}
 use Rattle.state.proofs.Closing.{at_rest, drop_more}
 use Rattle.state.proofs.Lists.{joins}
 use Rattle.state.proofs.Numbers.{numbered-all, numbered-joins}
 use Rattle.state.proofs.Typed.{holds-get, holds-count, holds-few, holds-long, holds-set}
-use Rattle.state.proofs.Good.{Words, words-laid, pending-roomy}
+use Rattle.state.proofs.Good.{words-laid, pending-roomy}
 use Rattle.state.proofs.Held.{row_read, row_stays, laid-first}
 use Rattle.state.proofs.Frame.{Changed, changed-laid, table-back, across, sound-of, part_at}
 use Rattle.state.proofs.Follows.{next-is}

@@ -15,7 +15,8 @@ use Rattle.model.proofs.PartsLaws.{slot_laws}
 use Rattle.rows.specs.Places.{laid, row_at, table_at}
 use Rattle.state.specs.Meaning.{Sound, Means, Holds, Counted, meaning, base, slots_part, place_of, words_in}
 use Rattle.state.proofs.Typed.{holds-get, holds-count, holds-few, holds-long, holds-set}
-use Rattle.state.proofs.Good.{Roomy, Words, words-laid, any-roomy, wide-roomy, ⊗-roomy, as-roomy}
+use Rattle.state.specs.Cuts.{Words}
+use Rattle.state.proofs.Good.{Roomy, words-laid, any-roomy, wide-roomy, ⊗-roomy, as-roomy}
 use Rattle.state.proofs.Mapped.{Mapped, mapped-none, mapped-more, mapped-all}
 use Rattle.state.proofs.Held.{table-read, row_read}
 use Rattle.state.proofs.Frame.{part-is, part-word, table-lent, table-back, table-laid, slots-changed}

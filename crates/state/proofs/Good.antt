@@ -18,11 +18,8 @@ use Rattle.model.specs.declared.VarValue.{VarValue}
 use Rattle.model.specs.declared.VarValue.TheVariants.{Int, Text}
 use Rattle.model.proofs.Bools.{join}
 use Rattle.rows.specs.Places.{laid}
+use Rattle.state.specs.Cuts.{Words}
 use Rattle.state.specs.Meaning.{pending_row}
-
-abbrev pub Words : List ℕ → Type 0
-Words [] = Unit
-Words (x ∷ w) = (x < 4294967296) × Words w
 
 pub are_words : (w : List ℕ) → ((i : ℕ) → get_or w i 0 < 4294967296) → Words w
 are_words [] h = tt

@@ -1,14 +1,14 @@
 -- What is kept for each rule: its bit, its last activation, its cycle position. Assumes nothing.
 use mathlib.Core.Path.{◌≡◌, refl, sym, ap, subst, ◌∙◌}
-use mathlib.Core.Bool.{Bool, true, false, not, ◌&&◌, ◌||◌}
+use mathlib.Core.Bool.{Bool, true, false, cond, not, ◌&&◌, ◌||◌}
 use mathlib.Core.List.{List, [], ◌∷◌, map}
 use Rattle.std.specs.Prelude.{Option, None}
 use Prim.Native.Nat.{ℕ, zero, suc, ◌+◌, ◌-◌, ◌*◌, ◌≤◌, ◌<◌}
 use native.Mathlib.Omega.{arith}
-use lib.Dec.{eqb, leb}
+use lib.Dec.{eqb, leb, ltb}
 use lib.ListN.{length, get_or, take, drop, set, length-take, get_or-eq_default}
 use lib.Seq.{get_or-take, set_out, take-set-lt, take-take}
-use borrow.Author.Tests.{leb-true}
+use borrow.Author.Tests.{leb-true, ltb-true, ltb-false}
 use Rattle.model.specs.Layout.{fixed, row_fits, rows_fit, zeros, up_to}
 use Rattle.model.specs.Codec.{Row, word, wide, maybe, rows_at}
 use Rattle.model.specs.Parts.{any}
@@ -21,6 +21,8 @@ use Rattle.model.proofs.RowLaws.{RowLaws, word_laws, wide_laws, maybe-laws, word
 use Rattle.rows.specs.Places.{laid, row_at}
 use Rattle.rows.specs.Rows.{bool_row}
 use Rattle.state.specs.Meaning.{state_parts, place_of, part, bits_part, activations_part, positions_part, rules_part, unset_from, meaning, base, rules_of, Sound, Means}
+use Rattle.state.specs.Named.{kept_for, kept_laid}
+use Rattle.state.proofs.Cutting.{row-end}
 use Rattle.state.proofs.Frame.{Changed, part-long, bits-changed, activations-changed, positions-changed}
 use Rattle.state.proofs.Good.{maybe-roomy, wide-roomy, any-roomy, words-laid, are_words}
 use Rattle.state.proofs.Fixed.{fixed-at, fixed-set, rows_set, set_long, set-rows, set-behind, one_at}
@@ -180,17 +182,17 @@ module _ (w : List ℕ) (s : Sound w) (i : ℕ) where
   unfolding meaning rules_of
   activations-are = refl
 
-  pub activation-at : (x : Option ℕ) → i < rules_of w → x ≡ row_at maybe-wide w (place_of activations_part + i * 3) → x ≡ last_activation_at (meaning w).rest i
+  activation-at : (x : Option ℕ) → i < rules_of w → x ≡ row_at maybe-wide w (place_of activations_part + i * 3) → x ≡ last_activation_at (meaning w).rest i
   unfolding last_activation_at row_at
   activation-at x h e =
       e ∙ kept_at maybe-wide wide-option-laws activations_part (omega arith) refl w s i None h ∙ ap (λ (l : List (Option ℕ)). get_or l i None) (sym activations-are)
 
-  pub activation-none : rules_of w ≤ i → None ≡ last_activation_at (meaning w).rest i
+  activation-none : rules_of w ≤ i → None ≡ last_activation_at (meaning w).rest i
   unfolding last_activation_at
   activation-none h =
       at-past (rows_at maybe-wide 64 (part activations_part w)) (rules_of w) i None h ∙ ap (λ (l : List (Option ℕ)). get_or l i None) (sym activations-are)
 
-  pub activation-put : (w' : List ℕ) (x : Option ℕ) → i < rules_of w → ((j : ℕ) → get_or w' j 0 < 4294967296) → w' ≡ laid w (place_of activations_part + i * 3) (maybe-wide.put x)
+  activation-put : (w' : List ℕ) (x : Option ℕ) → i < rules_of w → ((j : ℕ) → get_or w' j 0 < 4294967296) → w' ≡ laid w (place_of activations_part + i * 3) (maybe-wide.put x)
       → Means w' (base w) (with_rest (with_last_activation (set (meaning w).rest.last_activation i x) (meaning w).rest) (meaning w))
   activation-put w' x h words e =
       let g = good-64 w w' (place_of activations_part + i * 3) words x e in
@@ -201,7 +203,7 @@ module _ (w : List ℕ) (s : Sound w) (i : ℕ) where
       subst (λ (l : List (Option ℕ)). Means w' (base w) (with_rest (with_last_activation l (meaning w).rest) (meaning w))) q
       (activations-changed w w' p s c (kept-unset maybe-wide wide-option-laws activations_part (omega arith) refl w s i x h g (unfold rules_of in s.parts.activations)))
 
-  pub activation-past : (o : Option ℕ) → rules_of w ≤ i → Means w (base w) (with_rest (with_last_activation (set (meaning w).rest.last_activation i o) (meaning w).rest) (meaning w))
+  activation-past : (o : Option ℕ) → rules_of w ≤ i → Means w (base w) (with_rest (with_last_activation (set (meaning w).rest.last_activation i o) (meaning w).rest) (meaning w))
   activation-past o h =
       let q : (meaning w).rest.last_activation ≡ set (meaning w).rest.last_activation i o =
       activations-are ∙ set_past (rows_at maybe-wide 64 (part activations_part w)) (rules_of w) i o h ∙ ap (λ (l : List (Option ℕ)). set l i o) (sym activations-are) in
@@ -212,17 +214,17 @@ module _ (w : List ℕ) (s : Sound w) (i : ℕ) where
   unfolding meaning rules_of
   positions-are = refl
 
-  pub position_at : (x : Option ℕ) → i < rules_of w → x ≡ row_at maybe-any w (place_of positions_part + i * 2) → x ≡ cycle_pos_at (meaning w).rest i
+  position_at : (x : Option ℕ) → i < rules_of w → x ≡ row_at maybe-any w (place_of positions_part + i * 2) → x ≡ cycle_pos_at (meaning w).rest i
   unfolding cycle_pos_at
   position_at x h e =
       e ∙ kept_at maybe-any any-option-laws positions_part (omega arith) refl w s i None h ∙ ap (λ (l : List (Option ℕ)). get_or l i None) (sym positions-are)
 
-  pub position-none : rules_of w ≤ i → None ≡ cycle_pos_at (meaning w).rest i
+  position-none : rules_of w ≤ i → None ≡ cycle_pos_at (meaning w).rest i
   unfolding cycle_pos_at
   position-none h =
       at-past (rows_at maybe-any 64 (part positions_part w)) (rules_of w) i None h ∙ ap (λ (l : List (Option ℕ)). get_or l i None) (sym positions-are)
 
-  pub position-put : (w' : List ℕ) (x : Option ℕ) → i < rules_of w → ((j : ℕ) → get_or w' j 0 < 4294967296) → w' ≡ laid w (place_of positions_part + i * 2) (maybe-any.put x)
+  position-put : (w' : List ℕ) (x : Option ℕ) → i < rules_of w → ((j : ℕ) → get_or w' j 0 < 4294967296) → w' ≡ laid w (place_of positions_part + i * 2) (maybe-any.put x)
       → Means w' (base w) (with_rest (with_cycle_pos (set (meaning w).rest.cycle_pos i x) (meaning w).rest) (meaning w))
   position-put w' x h words e =
       let g = good-32 w w' (place_of positions_part + i * 2) words x e in
@@ -233,8 +235,46 @@ module _ (w : List ℕ) (s : Sound w) (i : ℕ) where
       subst (λ (l : List (Option ℕ)). Means w' (base w) (with_rest (with_cycle_pos l (meaning w).rest) (meaning w))) q
       (positions-changed w w' p s c (kept-unset maybe-any any-option-laws positions_part (omega arith) refl w s i x h g (unfold rules_of in s.parts.positions)))
 
-  pub position_past : (o : Option ℕ) → rules_of w ≤ i → Means w (base w) (with_rest (with_cycle_pos (set (meaning w).rest.cycle_pos i o) (meaning w).rest) (meaning w))
+  position_past : (o : Option ℕ) → rules_of w ≤ i → Means w (base w) (with_rest (with_cycle_pos (set (meaning w).rest.cycle_pos i o) (meaning w).rest) (meaning w))
   position_past o h =
       let q : (meaning w).rest.cycle_pos ≡ set (meaning w).rest.cycle_pos i o =
       positions-are ∙ set_past (rows_at maybe-any 64 (part positions_part w)) (rules_of w) i o h ∙ ap (λ (l : List (Option ℕ)). set l i o) (sym positions-are) in
       record { says = ap (λ (l : List (Option ℕ)). with_rest (with_cycle_pos l (meaning w).rest) (meaning w)) q; sound = s; based = refl }
+
+  pub activation-kept : (x : Option ℕ) → x ≡ kept_for wide 2 w (place_of activations_part) i → x ≡ last_activation_at (meaning w).rest i
+  unfolding kept_for
+  activation-kept x e = by (ltb i (rules_of w)) refl e
+    where
+      by : (b : Bool) → ltb i (rules_of w) ≡ b → x ≡ cond b (row_at (maybe wide) w (place_of activations_part + i * 3)) None → x ≡ last_activation_at (meaning w).rest i
+      by true f e = activation-at x (ltb-true i (rules_of w) f) e
+      by false f e = e ∙ activation-none (ltb-false i (rules_of w) f)
+
+  pub activation-laid : (w' : List ℕ) (x : Option ℕ) → ((j : ℕ) → get_or w' j 0 < 4294967296) → w' ≡ kept_laid wide 2 w (place_of activations_part) i x
+      → Means w' (base w) (with_rest (with_last_activation (set (meaning w).rest.last_activation i x) (meaning w).rest) (meaning w))
+  unfolding kept_laid
+  activation-laid w' x words e = by (ltb i (rules_of w)) refl e
+    where
+      by : (b : Bool) → ltb i (rules_of w) ≡ b → w' ≡ cond b (laid w (place_of activations_part + i * 3) ((maybe wide).put x)) w → Means w' (base w) (with_rest (with_last_activation (set (meaning w).rest.last_activation i x) (meaning w).rest) (meaning w))
+      by true f e = activation-put w' x (ltb-true i (rules_of w) f) words e
+      by false f e = subst (λ (u : List ℕ). Means u (base w) (with_rest (with_last_activation (set (meaning w).rest.last_activation i x) (meaning w).rest) (meaning w))) (sym e) (activation-past x (ltb-false i (rules_of w) f))
+
+  pub position-kept : (x : Option ℕ) → x ≡ kept_for any 1 w (place_of positions_part) i → x ≡ cycle_pos_at (meaning w).rest i
+  unfolding kept_for
+  position-kept x e = by (ltb i (rules_of w)) refl e
+    where
+      by : (b : Bool) → ltb i (rules_of w) ≡ b → x ≡ cond b (row_at (maybe any) w (place_of positions_part + i * 2)) None → x ≡ cycle_pos_at (meaning w).rest i
+      by true f e = position_at x (ltb-true i (rules_of w) f) e
+      by false f e = e ∙ position-none (ltb-false i (rules_of w) f)
+
+  pub position-laid : (w' : List ℕ) (x : Option ℕ) → ((j : ℕ) → get_or w' j 0 < 4294967296) → w' ≡ kept_laid any 1 w (place_of positions_part) i x
+      → Means w' (base w) (with_rest (with_cycle_pos (set (meaning w).rest.cycle_pos i x) (meaning w).rest) (meaning w))
+  unfolding kept_laid
+  position-laid w' x words e = by (ltb i (rules_of w)) refl e
+    where
+      by : (b : Bool) → ltb i (rules_of w) ≡ b → w' ≡ cond b (laid w (place_of positions_part + i * 2) ((maybe any).put x)) w → Means w' (base w) (with_rest (with_cycle_pos (set (meaning w).rest.cycle_pos i x) (meaning w).rest) (meaning w))
+      by true f e = position-put w' x (ltb-true i (rules_of w) f) words e
+      by false f e = subst (λ (u : List ℕ). Means u (base w) (with_rest (with_cycle_pos (set (meaning w).rest.cycle_pos i x) (meaning w).rest) (meaning w))) (sym e) (position_past x (ltb-false i (rules_of w) f))
+
+-- where the words of a rule stand
+pub kept-within : (i n : ℕ) → i < 64 → i * (1 + n) + (1 + n) ≤ 64 * (1 + n)
+kept-within i n h = row-end i 64 (1 + n) h

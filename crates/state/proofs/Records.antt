@@ -14,7 +14,7 @@ use Rattle.words.specs.Pairs.{low_of, high_of}
 use Rattle.words.specs.Saturating.{saturating_add, max64}
 use Rattle.words.proofs.Laws.{joined_words}
 use Rattle.model.specs.Layout.{row_fits, rows_fit, zeros, up_to}
-use Rattle.model.specs.Codec.{wide, most, rows_at, words_of, all_good}
+use Rattle.model.specs.Codec.{Row, wide, most, rows_at, words_of, all_good}
 use Rattle.model.specs.Parts.{any, pending_is}
 use Rattle.model.specs.Parts as parts
 use Rattle.model.specs.State as model
@@ -29,13 +29,12 @@ use Rattle.model.proofs.Bools.{join}
 use Rattle.model.proofs.PartsLaws.{any_laws, jump-laws}
 use Rattle.rows.specs.Places.{laid, row_at, table_at}
 use Rattle.rows.proofs.Writing.{one_set}
-use Rattle.state.specs.Cuts.{cut, rows_in, table_of, passes, Fits, Table}
+use Rattle.state.specs.Cuts.{cut, rows_in, table_of, passes, is_other, is_later, Fits, Table}
 use Rattle.state.specs.Meaning.{pending_row, part_sizes, pending_part, next_part, stored_part, accepted_part, place_of, words_in, meaning_of, base_in, stored_in, accepted_in, records_in, numbered, offset_from, Below, meaning, base, accepted, stored_count, pending_count, Sound, Means, Holds, Counted}
 use Rattle.state.specs.Selection.{records_at}
-use Rattle.state.specs.Pending.{later_than, with_next, with_record, kept_by, past_number, closed_up, ClosesUp, emptied, Schedules}
-use Rattle.state.specs.declared.table.Test.{Test}
-use Rattle.state.specs.declared.table.Test.TheVariants.{Other, Later}
+use Rattle.state.specs.Pending.{later_than, with_next, with_record, kept_by, closed_up, ClosesUp, emptied, Schedules}
 use Rattle.state.proofs.Closing.{keep_append}
+use Rattle.state.proofs.Tables.{to-come}
 use Rattle.state.proofs.Numbers.{numbered-length, numbered-all, numbered-joins, keep-numbered, below-append, below_more, below-keep}
 use Rattle.state.proofs.Typed.{keep-rows, few-keep, holds_rows, holds-keep, holds-get, holds-count, holds-few, holds_fits, holds-table}
 use Rattle.state.proofs.Held.{table-read}
@@ -209,50 +208,50 @@ take-map zero l = refl
 take-map (suc k) [] = refl
 take-map (suc k) (x ∷ l) = ap (λ (z : List (List ℕ)). pending_row.put x ∷ z) (take-map k l)
 
--- a test that looks behind the number is the same for an offset
-past_two : (a b c d : ℕ) (l : List ℕ) (at : ℕ) → 2 ≤ at → get_or (a ∷ b ∷ l) at 0 ≡ get_or (c ∷ d ∷ l) at 0
-past_two a b c d l zero h = absurd (omega arith)
-past_two a b c d l (suc zero) h = absurd (omega arith)
-past_two a b c d l (suc (suc at)) h = refl
+-- a test of words behind the number is the same of an offset
+abbrev pub PastNumber : (List ℕ → Bool) → Type 0
+PastNumber test = (n : ℕ) (c : Pending) → kept_by test (offset_from n c) ≡ kept_by test c
 
-same_word : (n : ℕ) (c : Pending) (at : ℕ) → 2 ≤ at → get_or (pending_row.put (offset_from n c)) at 0 ≡ get_or (pending_row.put c) at 0
-same_word n c at h = past_two (low_of (n + c.seq)) (high_of (n + c.seq)) (low_of c.seq) (high_of c.seq) (drop 2 (pending_row.put c)) at h
+behind_two : (a b c d : ℕ) (l : List ℕ) (at : ℕ) → 2 ≤ at → drop at (a ∷ b ∷ l) ≡ drop at (c ∷ d ∷ l)
+behind_two a b c d l zero h = absurd (omega arith)
+behind_two a b c d l (suc zero) h = absurd (omega arith)
+behind_two a b c d l (suc (suc at)) h = refl
 
-ignores : (test : Test) → past_number test → (n : ℕ) (c : Pending) → kept_by test (offset_from n c) ≡ kept_by test c
-ignores (Other at x) h n c = ap (λ (y : ℕ). not (eqb y x)) (same_word n c at h)
-ignores (Later at time) h n c = rw (same_word n c at h, same_word n c (at + 1) (omega arith))
+pub past_number : {A : Type 0} (r : Row A) (at : ℕ) (test : A → Bool) → 2 ≤ at → PastNumber (passes r at test)
+unfolding row_at
+past_number r at test h n c = ap (λ (l : List ℕ). test (r.get l)) (behind_two (low_of (n + c.seq)) (high_of (n + c.seq)) (low_of c.seq) (high_of c.seq) (drop 2 (pending_row.put c)) at h)
 
-module _ (w : List ℕ) (s : Sound w) (test : Test) where
+module _ (w : List ℕ) (s : Sound w) (test : List ℕ → Bool) where
   abbrev mine : List ℕ
   mine = take (words_in pending_part) (drop (place_of pending_part) w)
 
   abbrev st : ℕ
   st = stored_in (cut part_sizes w)
 
-  front-is : length (keep (passes test) (take (get_or w (place_of stored_part) 0) (rows_in 15 mine))) ≡ length (keep (kept_by test) (take st (records w)))
+  front-is : length (keep test (take (get_or w (place_of stored_part) 0) (rows_in 15 mine))) ≡ length (keep (kept_by test) (take st (records w)))
   front-is =
       let h = holds_rows pending_row pending-laws 32 _ _ (records-hold w s) in
-      ap (λ (x : List (List ℕ)). length (keep (passes test) (take (get_or w (place_of stored_part) 0) x))) h
-      ∙ ap (λ (k : ℕ). length (keep (passes test) (take k (map pending_row.put (records w))))) (stored_at w s)
-      ∙ ap (λ (x : List (List ℕ)). length (keep (passes test) x)) (take-map st (records w))
-      ∙ ap length (keep-rows pending_row pending-laws 32 (passes test) (kept_by test) (λ a. refl) (take st (records w)))
+      ap (λ (x : List (List ℕ)). length (keep test (take (get_or w (place_of stored_part) 0) x))) h
+      ∙ ap (λ (k : ℕ). length (keep test (take k (map pending_row.put (records w))))) (stored_at w s)
+      ∙ ap (λ (x : List (List ℕ)). length (keep test x)) (take-map st (records w))
+      ∙ ap length (keep-rows pending_row pending-laws 32 test (kept_by test) (λ a. refl) (take st (records w)))
       ∙ simp length-map
 
-  pub front-small : (front : ℕ) → front ≡ length (keep (passes test) (take (get_or w (place_of stored_part) 0) (rows_in 15 mine))) → front ≤ 32
+  pub front-small : (front : ℕ) → front ≡ length (keep test (take (get_or w (place_of stored_part) 0) (rows_in 15 mine))) → front ≤ 32
   front-small front e =
-      let k = few-keep pending_row pending-laws 32 (passes test) (kept_by test) (λ a. refl) (take st (records w)) in
+      let k = few-keep pending_row pending-laws 32 test (kept_by test) (λ a. refl) (take st (records w)) in
       let t : length (take st (records w)) ≤ length (records w) = simp length-take (omega arith) in
       omega (arith, e ∙ front-is, k, holds-few pending_row pending-laws 32 _ _ (records-hold w s))
 
-  module _ (past : past_number test) where
-    closes : (p w₁ w₂ : List ℕ) (front : ℕ) → p ≡ table_of (length mine - 1) (keep (passes test) (rows_in 15 mine))
-        → front ≡ length (keep (passes test) (take (get_or w (place_of stored_part) 0) (rows_in 15 mine))) → w₁ ≡ put_mid (place_of pending_part) (words_in pending_part) w p → w₂ ≡ set w₁ (place_of stored_part) front
+  module _ (past : PastNumber test) where
+    closes : (p w₁ w₂ : List ℕ) (front : ℕ) → p ≡ table_of (length mine - 1) (keep test (rows_in 15 mine))
+        → front ≡ length (keep test (take (get_or w (place_of stored_part) 0) (rows_in 15 mine))) → w₁ ≡ put_mid (place_of pending_part) (words_in pending_part) w p → w₂ ≡ set w₁ (place_of stored_part) front
         → Means w₂ (base w) (closed_up test (meaning w))
     unfolding cut meaning base records
     closes p w₁ w₂ front e f e₁ e₂ =
         let l : List Pending = records_in (cut part_sizes w) in
         let q : Pending → Bool = kept_by test in
-        let h : Holds 32 pending_row p (keep q l) = holds-keep pending_row pending-laws 32 (passes test) q (λ a. refl) mine p l (records-hold w s) e in
+        let h : Holds 32 pending_row p (keep q l) = holds-keep pending_row pending-laws 32 test q (λ a. refl) mine p l (records-hold w s) e in
         let k : front ≡ length (keep q (take st l)) = f ∙ front-is in
         let g = holds-get pending_row pending-laws 32 p (keep q l) h in
         let n = holds-count pending_row pending-laws 32 p (keep q l) h in
@@ -263,7 +262,7 @@ module _ (w : List ℕ) (s : Sound w) (test : Test) where
         let z : w₂ ≡ laid w₁ (place_of stored_part) (front ∷ []) = e₂ ∙ one_set w₁ (place_of stored_part) front (omega (arith, c₁.shape.long)) in
         let c₂ : Changed w₁ w₂ stored_part (front ∷ []) = rw z (changed-laid stored_part (omega arith) w₁ (front ∷ []) c₁.shape refl (word_fits 32 front (omega arith))) in
         let cuts : cut part_sizes w₂ ≡ set (set (cut part_sizes w) pending_part p) stored_part (front ∷ []) = c₂.cuts ∙ ap (λ (ps : List (List ℕ)). set ps stored_part (front ∷ [])) c₁.cuts in
-        let num : numbered (base w) front ((most 32 pending_row).get p) ≡ keep q (numbered (base w) st l) = rw (g, k) (sym (keep-numbered (base w) q (ignores test past (base w)) st l)) in
+        let num : numbered (base w) front ((most 32 pending_row).get p) ≡ keep q (numbered (base w) st l) = rw (g, k) (sym (keep-numbered (base w) q (past (base w)) st l)) in
         let seam : drop front (keep q l) ≡ keep q (drop st l) = rw (k, split) (drop-append_seam (keep q (take st l)) (keep q (drop st l))) in
         let below : Below (accepted_in (cut part_sizes w)) (drop front ((most 32 pending_row).get p)) = rw (g, seam) (below-keep _ q (drop st l) s.parts.offsets) in
         let a = across w s in
@@ -274,41 +273,41 @@ module _ (w : List ℕ) (s : Sound w) (test : Test) where
         }
 
     -- how many are left
-    left-count : (left : ℕ) → left ≡ length (keep (passes test) (rows_in 15 mine)) → left ≡ length (keep (kept_by test) (meaning w).pending)
+    left-count : (left : ℕ) → left ≡ length (keep test (rows_in 15 mine)) → left ≡ length (keep (kept_by test) (meaning w).pending)
     unfolding meaning base records
     left-count left e =
         let l : List Pending = records_in (cut part_sizes w) in
-        e ∙ ap (λ (x : List (List ℕ)). length (keep (passes test) x)) (holds_rows pending_row pending-laws 32 _ _ (records-hold w s))
-        ∙ ap length (keep-rows pending_row pending-laws 32 (passes test) (kept_by test) (λ a. refl) l)
+        e ∙ ap (λ (x : List (List ℕ)). length (keep test x)) (holds_rows pending_row pending-laws 32 _ _ (records-hold w s))
+        ∙ ap length (keep-rows pending_row pending-laws 32 test (kept_by test) (λ a. refl) l)
         ∙ (let m : length (map pending_row.put (keep (kept_by test) l)) ≡ length (keep (kept_by test) l) = simp length-map in m)
-        ∙ sym (ap length (keep-numbered (base w) (kept_by test) (ignores test past (base w)) st l) ∙ numbered-length (base w) _ (keep (kept_by test) l))
+        ∙ sym (ap length (keep-numbered (base w) (kept_by test) (past (base w)) st l) ∙ numbered-length (base w) _ (keep (kept_by test) l))
 
-    pub left-few : (left : ℕ) → left ≡ length (keep (passes test) (rows_in 15 mine)) → left ≤ get_or w (place_of pending_part) 0
-    left-few left e = omega (arith, left-count left e, few-keep pending_row pending-laws 32 (passes test) (kept_by test) (λ a. refl) (meaning w).pending, pending-length w s)
+    pub left-few : (left : ℕ) → left ≡ length (keep test (rows_in 15 mine)) → left ≤ get_or w (place_of pending_part) 0
+    left-few left e = omega (arith, left-count left e, few-keep pending_row pending-laws 32 test (kept_by test) (λ a. refl) (meaning w).pending, pending-length w s)
 
-    pub closes-up : (p w₁ w₂ : List ℕ) (front left : ℕ) → p ≡ table_of (length mine - 1) (keep (passes test) (rows_in 15 mine))
-        → front ≡ length (keep (passes test) (take (get_or w (place_of stored_part) 0) (rows_in 15 mine))) → left ≡ length (keep (passes test) (rows_in 15 mine))
+    pub closes-up : (p w₁ w₂ : List ℕ) (front left : ℕ) → p ≡ table_of (length mine - 1) (keep test (rows_in 15 mine))
+        → front ≡ length (keep test (take (get_or w (place_of stored_part) 0) (rows_in 15 mine))) → left ≡ length (keep test (rows_in 15 mine))
         → w₁ ≡ put_mid (place_of pending_part) (words_in pending_part) w p → w₂ ≡ set w₁ (place_of stored_part) front → ClosesUp test w w₂ (get_or w (place_of pending_part) 0 - left)
     closes-up p w₁ w₂ front left e f g e₁ e₂ = (closes p w₁ w₂ front e f e₁ e₂, omega (arith, left-count left g, left-few left g, pending-length w s))
 
-pub strikes : (w w₁ w₂ : List ℕ) (rule gone : ℕ) → ClosesUp (Other 4 rule) w w₁ gone
+pub strikes : (w w₁ w₂ : List ℕ) (rule gone : ℕ) → ClosesUp (passes any 4 (is_other rule)) w w₁ gone
     → Means w₂ (base w₁) (with_rest (bump_by continuations_dropped gone (meaning w₁).rest) (meaning w₁)) → Means w₂ (base w) (strike rule (meaning w))
-unfolding strike
+unfolding strike row_at
 strikes w w₁ w₂ rule gone c m =
-    let left : List Pending = keep (kept_by (Other 4 rule)) (meaning w).pending in
+    let left : List Pending = keep (kept_by (passes any 4 (is_other rule))) (meaning w).pending in
     let e : gone ≡ length (meaning w).pending - length left = omega (arith, c.1) in
-    subst (λ (x : ℕ). Means w₂ (base w) (with_rest (bump_by continuations_dropped x (meaning w).rest) (closed_up (Other 4 rule) (meaning w)))) e
+    subst (λ (x : ℕ). Means w₂ (base w) (with_rest (bump_by continuations_dropped x (meaning w).rest) (closed_up (passes any 4 (is_other rule)) (meaning w)))) e
     (follows (λ v. with_rest (bump_by continuations_dropped gone v.rest) v) w₁ w₂ (base w) _ c.0 m)
 
-keep_same : (p q : Pending → Bool) → ((c : Pending) → p c ≡ q c) → (l : List Pending) → keep p l ≡ keep q l
+pub keep_same : {A : Type 0} (p q : A → Bool) → ((c : A) → p c ≡ q c) → (l : List A) → keep p l ≡ keep q l
 keep_same p q e [] = refl
 keep_same p q e (c ∷ l) = rw (e c, keep_same p q e l)
 
-pub due-leaves : (w w₁ : List ℕ) (time gone : ℕ) → ClosesUp (Later 2 time) w w₁ gone → Means w₁ (base w) (not_due time (meaning w))
-unfolding not_due
+pub due-leaves : (w w₁ : List ℕ) (time gone : ℕ) → ClosesUp (passes wide 2 (is_later time)) w w₁ gone → Means w₁ (base w) (not_due time (meaning w))
+unfolding not_due row_at
 due-leaves w w₁ time gone c =
     subst (λ (l : List Pending). Means w₁ (base w) (record { rest = (meaning w).rest; pending = l; next = (meaning w).next; last_number = (meaning w).last_number }))
-    (keep_same (kept_by (Later 2 time)) (later_than time) (λ p. ap (λ (x : ℕ). not (leb x time)) (joined_words p.due)) (meaning w).pending) c.0
+    (keep_same (kept_by (passes wide 2 (is_later time))) (later_than time) (λ p. ap (is_later time) (joined_words p.due) ∙ to-come time p.due) (meaning w).pending) c.0
 
 -- ALL LEAVE -------------------------------------------------------------------------------------------------------------------------------------
 pub none-stored : (w : List ℕ) → Sound w → (meaning w).pending ≡ [] → stored_count w ≡ pending_count w

@@ -3,26 +3,26 @@ use mathlib.Core.Path.{◌≡◌, refl, sym, ap, subst, ◌∙◌}
 use mathlib.Core.Bool.{Bool, true, false, not}
 use mathlib.Core.List.{List, [], ◌∷◌, ◌++◌, append_assoc, append-nil}
 use Rattle.std.specs.Prelude.{None}
+use Rattle.std.specs.List.{copy_within}
 use Prim.Native.Nat.{ℕ, suc, ◌+◌, ◌-◌, ◌*◌, ◌≤◌, ◌<◌}
-use native.Mathlib.Nat.{zero-mul, suc-mul, mul-le-mul_right}
+use native.Mathlib.Nat.{add-zero, zero-mul, suc-mul, mul-le-mul_right}
 use native.Mathlib.Numerals.{add-one}
 use native.Mathlib.Omega.{arith}
-use lib.Dec.{eqb, leb, ltb}
+use lib.Dec.{leb, ltb}
 use lib.ListN.{length, get_or, take, drop, set, replicate, length-append, length-drop, length-replicate, replicate-append-replicate}
-use lib.Seq.{drop_at, drop-drop, take-take, take-suc, length-take-le, set_split, get_or-take, get_or-drop, take_all}
+use lib.Seq.{drop_at, drop-drop, take-suc, length-take-le, set_split, get_or-take, get_or-drop, take_all}
 use borrow.Author.Tests.{eq-eqb, ne_eqb, leb-true, leb-false, lt-ltb, le-ltb}
-use Rattle.words.specs.Pairs.{joined}
+use Rattle.model.specs.Codec.{wide}
 use Rattle.model.specs.Lists.{flatten, keep, find}
 use Rattle.model.proofs.CodecLaws.{rest_of}
 use Rattle.rows.specs.Places.{laid}
-use Rattle.rows.proofs.Writing.{laid-long, lays, one_set}
+use Rattle.rows.specs.Places as rows
+use Rattle.rows.proofs.Writing.{laid-long}
 use Rattle.state.specs.Tables.{First}
-use Rattle.state.specs.Cuts.{cut, sum, rows_in, table_of, Fits, Table, RowSet, word_in, wide_of, wide_in, has_word, passes, test_fits}
-use Rattle.state.specs.declared.table.Test.{Test}
-use Rattle.state.specs.declared.table.Test.TheVariants.{Other, Later}
+use Rattle.state.specs.Cuts.{cut, sum, rows_in, table_of, Fits, Table, RowSet, word_in, wide_of, has_word}
 use Rattle.state.proofs.Found.{goes_on, stops, ends}
 use Rattle.state.proofs.Closing.{Keeps, Closing, keep_append, starts, keeps, skips, done}
-use Rattle.state.proofs.Cutting.{laid-drop, laid-behind, word-behind, word-before, cut-long, cut_at, cut-laid, cut-first, sum_same, sum_first, size_same, row-end}
+use Rattle.state.proofs.Cutting.{laid-drop, laid-behind, word-before, cut-long, cut_at, cut-laid, cut-first, sum_same, sum_first, size_same, row-end}
 
 module _ (f : ℕ) (p : List ℕ) (h : Fits f p) where
   abbrev n : ℕ
@@ -78,56 +78,30 @@ module _ (f : ℕ) (p : List ℕ) (h : Fits f p) where
       }
 
 -- WHICH ROWS ARE KEPT ----------------------------------------------------------------------------------------------------------------------
-pub wide-joined : (f : ℕ) (p : List ℕ) (i at x a b : ℕ) → x ≡ joined a b → a ≡ word_in f p i at → b ≡ word_in f p i (at + 1) → x ≡ wide_in f p i at
-wide-joined f p i at x a b e k l = e ∙ rw (k, l)
+pub to-come : (time due : ℕ) → ltb time due ≡ not (leb due time)
+to-come time due = by (leb due time) refl
+  where
+    by : (late : Bool) → leb due time ≡ late → ltb time due ≡ not late
+    by true e = le-ltb time due (leb-true due time e)
+    by false e = lt-ltb time due (leb-false due time e)
 
-to-come : (time due : ℕ) (late : Bool) → leb due time ≡ late → ltb time due ≡ not late
-to-come time due true e = le-ltb time due (leb-true due time e)
-to-come time due false e = lt-ltb time due (leb-false due time e)
+-- a time of a row that was read
+pub wide-at : (row x : List ℕ) (at : ℕ) → row ≡ x → rows.row_at wide row at ≡ wide_of at x
+unfolding rows.row_at
+wide-at row x at e =
+    let a : get_or (drop at row) 0 0 ≡ get_or row at 0 = get_or-drop at row 0 0 ∙ ap (λ (n : ℕ). get_or row n 0) (add-zero at) in
+    let b : get_or (drop at row) 1 0 ≡ get_or row (at + 1) 0 = get_or-drop at row 1 0 in
+    rw (a, b, e)
 
-module _ (test : Test) (at : ℕ) where
-  module _ (x : ℕ) (is : test ≡ Other at x) where
-    pub other_fits : (f : ℕ) → test_fits f test → at < f
-    other_fits f h = subst (test_fits f) is h
-
-    pub other-kept : (row : List ℕ) (y : ℕ) → y ≡ get_or row at 0 → not (eqb y x) ≡ passes test row
-    other-kept row y e = rw (is, e)
-
-  module _ (time : ℕ) (is : test ≡ Later at time) where
-    pub later-fits : (f : ℕ) → test_fits f test → at < f - 1
-    later-fits f h = subst (test_fits f) is h
-
-    pub later-kept : (row : List ℕ) (due : ℕ) → due ≡ wide_of at row → ltb time due ≡ passes test row
-    later-kept row due e = rw (is, e) (to-come time (wide_of at row) (leb (wide_of at row) time) refl)
-
--- WORDS COPIED ----------------------------------------------------------------------------------------------------------------------------
-pub copies : (w w₁ v : List ℕ) (k i : ℕ) → k + length v ≤ length w → i < length v → length w₁ ≡ length w → w₁ ≡ laid w k (take i v)
-    → set w₁ (k + i) (get_or v i 0) ≡ laid w k (take (i + 1) v)
-copies w w₁ v k i h l e e₁ =
-    let n = length-take-le i v (omega arith) in
-    rw add-one
-    (lays w w₁ (set w₁ (k + i) (get_or v i 0)) k (k + i) (take i v) (get_or v i 0 ∷ []) (omega arith) (ap (λ (m : ℕ). k + m) (sym n)) e₁ (one_set w₁ (k + i) (get_or v i 0) (omega arith))
-    ∙ ap (laid w k) (sym (take-suc v i 0 l)))
-
--- within the same words, from behind
-pub copy-word : (w w₁ : List ℕ) (a b f i : ℕ) → b ≤ a → a + f ≤ length w → i < f → length w₁ ≡ length w → w₁ ≡ laid w b (take i (take f (drop a w)))
-    → set w₁ (b + i) (get_or w₁ (a + i) 0) ≡ laid w b (take (i + 1) (take f (drop a w)))
-copy-word w w₁ a b f i h k l m e =
-    let v : List ℕ = take f (drop a w) in
-    let n : length v ≡ f = length-take-le f (drop a w) (rw (length-drop a w) (omega arith)) in
-    let t : length (take i v) ≡ i = length-take-le i v (omega arith) in
-    let q : b + length (take i v) ≤ a + i = rw t (omega arith) in
-    let g : get_or w₁ (a + i) 0 ≡ get_or v i 0 = ap (λ (z : List ℕ). get_or z (a + i) 0) e ∙ word-behind w b (take i v) (a + i) q (omega arith) ∙ sym (get_or-take f (drop a w) i 0 l ∙ get_or-drop a w i 0) in
-    ap (λ (x : ℕ). set w₁ (b + i) x) g ∙ copies w w₁ v b i (omega arith) (omega arith) m e
-
-pub row_moved : (f : ℕ) (p p' : List ℕ) (i from to : ℕ) → Fits f p → from < get_or p 0 0 → to ≤ from → i ≤ f → f ≤ i → p' ≡ laid p (1 + to * f) (take i (take f (drop (1 + from * f) p)))
-    → RowSet f p to (get_or (rows_in f p) from []) p'
-row_moved f p p' i from to h l t a b e =
-    let q : i ≡ f = omega arith in
-    let r = row_at f p h from l in
+-- A ROW MOVED -----------------------------------------------------------------------------------------------------------------------------
+pub row_moved : (f : ℕ) (p : List ℕ) (from to : ℕ) → Fits f p → from < get_or p 0 0 → to ≤ from → RowSet f p to (get_or (rows_in f p) from []) (copy_within p (1 + from * f) (1 + from * f + f) (1 + to * f))
+unfolding laid
+row_moved f p from to h l t =
     let m : length (get_or (rows_in f p) from []) ≡ f = row-long f p h from l in
-    let z : p' ≡ laid p (1 + to * f) (get_or (rows_in f p) from []) = e ∙ ap (λ (x : ℕ). laid p (1 + to * f) (take x (take f (drop (1 + from * f) p)))) q ∙ ap (laid p (1 + to * f)) (take-take f f (drop (1 + from * f) p) (omega arith) ∙ sym r) in
-    rw z (row_put f p h to (get_or (rows_in f p) from []) (omega arith) m)
+    let n : 1 + from * f + f - (1 + from * f) ≡ f = omega arith in
+    let same : copy_within p (1 + from * f) (1 + from * f + f) (1 + to * f) ≡ laid p (1 + to * f) (get_or (rows_in f p) from []) =
+    (let r = row_at f p h from l in rw (n, m, r)) in
+    rw same (row_put f p h to (get_or (rows_in f p) from []) (omega arith) m)
 
 -- CLOSING UP ------------------------------------------------------------------------------------------------------------------------------
 -- i rows of p were looked at, and t has the j of them that are kept in front
@@ -267,10 +241,10 @@ module _ (f at x : ℕ) (p : List ℕ) (h : Fits f p) (i : ℕ) where
         let s = stops (has_word at x) (rows_in f p) (get_or p 0 0) i [] none_yet l (rw (rows_long f p h) (omega arith)) (rw (sym e) (eq-eqb y x d)) in
         subst (λ (rows : List (List ℕ)). First (has_word at x) rows i) all-rows s
 
-  pub find-ends : find (has_word at x) (take i (rows_in f p)) ≡ None → i ≤ get_or p 0 0 → get_or p 0 0 ≤ i → First (has_word at x) (rows_in f p) (get_or p 0 0)
+  pub find-ends : find (has_word at x) (take i (rows_in f p)) ≡ None → i ≤ get_or p 0 0 → get_or p 0 0 ≤ i → First (has_word at x) (rows_in f p) (length (rows_in f p))
   find-ends none_yet a b =
       let s = ends (has_word at x) (rows_in f p) (get_or p 0 0) i none_yet a b (rw (rows_long f p h) (omega arith)) in
-      subst (λ (rows : List (List ℕ)). First (has_word at x) rows (get_or p 0 0)) all-rows s
+      rw (rows_long f p h) (subst (λ (rows : List (List ℕ)). First (has_word at x) rows (get_or p 0 0)) all-rows s)
 
 -- COUNTING --------------------------------------------------------------------------------------------------------------------------------
 module _ (f : ℕ) (test : List ℕ → Bool) (p : List ℕ) (h : Fits f p) (i k : ℕ) (kept : Bool) (l : i < get_or p 0 0) (e : kept ≡ test (get_or (rows_in f p) i [])) (c : k ≡ length (keep test (take i (rows_in f p)))) where

@@ -21,9 +21,9 @@ use Rattle.model.proofs.CodecLaws.{most-laws, rest_of}
 use Rattle.state.specs.Tables.{First}
 use Rattle.rows.specs.Places.{laid}
 use Rattle.rows.proofs.Writing.{words_append, laid-long}
-use Rattle.state.specs.Cuts.{cut, rows_in, table_of, Fits, Table}
+use Rattle.state.specs.Cuts.{cut, rows_in, table_of, with_row, HasRoom, Fits, Table}
 use Rattle.state.specs.Meaning.{Holds, Counted, joined}
-use Rattle.state.proofs.Cutting.{laid-drop, laid-mid}
+use Rattle.state.proofs.Cutting.{laid-drop, laid-mid, row-end}
 
 module _ {A : Type 0} (r : Row A) (laws : RowLaws r) where
   abbrev f : ℕ
@@ -244,6 +244,17 @@ module _ {A : Type 0} (r : Row A) (laws : RowLaws r) where
           good = join (le-leb (length (l ++ (x ∷ []))) n (omega arith)) (good-append l (x ∷ []) (both (leb (length l) n) (all_good r l) h.good).1 (join g refl));
         }
 
+    pub has-room : (p : List ℕ) (l : List A) → Holds n r p l → n ≤ 64 → 1 + n * f ≤ 16384 → length l < n → HasRoom f p
+    has-room p l h a b k =
+        let c = holds-count p l h in
+        let e = holds-long p l h in
+        record { short = omega arith; few = omega arith; room = rw (c, e) (omega (arith, row-end (length l) n f k)) }
+
+    pub holds-push : (p p₁ : List ℕ) (l : List A) (x : A) → Holds n r p l → length l < n → r.good x ≡ true → p₁ ≡ with_row f (r.put x) p → Holds n r p₁ (l ++ (x ∷ []))
+    holds-push p p₁ l x h k g e =
+        let c = holds-count p l h in
+        subst (λ (q : List ℕ). Holds n r q (l ++ (x ∷ []))) (sym e) (holds-join p (laid p (1 + get_or p 0 0 * f) (r.put x)) l x (get_or p 0 0) h c (omega arith) g refl)
+
     -- A ROW ANEW
     pub holds-set : (p p₁ : List ℕ) (l : List A) (x : A) (i : ℕ) → Holds n r p l → i < length l → r.good x ≡ true → p₁ ≡ laid p (1 + i * f) (r.put x) → Holds n r p₁ (set l i x)
     holds-set p p₁ l x i h k g b =
@@ -257,12 +268,8 @@ module _ {A : Type 0} (r : Row A) (laws : RowLaws r) where
         }
 
     -- behind the others, where there is room
-    pub joined-room : (p p₁ : List ℕ) (l : List A) (x : A) (m : ℕ) → Holds n r p l → m ≡ length l → m < n → r.good x ≡ true → p₁ ≡ laid p (1 + m * f) (r.put x) → Holds n r (set p₁ 0 (m + 1)) (joined n x l)
-    joined-room p p₁ l x m h e k g b = rw (lt-leb n (length l) (omega arith)) (holds-join p p₁ l x m h e k g b)
+    pub joined-room : (p p₁ : List ℕ) (l : List A) (x : A) → Holds n r p l → length l < n → r.good x ≡ true → p₁ ≡ with_row f (r.put x) p → Holds n r p₁ (joined n x l)
+    joined-room p p₁ l x h k g e = rw (lt-leb n (length l) k) (holds-push p p₁ l x h k g e)
 
     pub joined-full : (p : List ℕ) (l : List A) (x : A) → Holds n r p l → n ≤ length l → Holds n r p (joined n x l)
     joined-full p l x h k = rw (le-leb n (length l) k) h
-
-    pub row-put-long : (p p₁ : List ℕ) (l : List A) (x : A) (m : ℕ) → Holds n r p l → m < n → p₁ ≡ laid p (1 + m * f) (r.put x) → length p₁ ≡ 1 + n * f
-    row-put-long p p₁ l x m h k b =
-        ap length b ∙ laid-long p (1 + m * f) (r.put x) (rw (laws.long x, holds-long p l h) (omega (arith, rest_of (suc m) n f (omega arith), suc-mul m f))) ∙ holds-long p l h

@@ -3,9 +3,10 @@ use mathlib.Core.Path.{◌≡◌, refl, sym, ap, subst, ◌∙◌}
 use mathlib.Core.Bool.{Bool, true, false, cond, not, ◌&&◌}
 use mathlib.Core.List.{List, [], ◌∷◌, ◌++◌, map}
 use Rattle.std.specs.Prelude.{Option, None, Some}
+use Rattle.std.specs.Option.{is_some}
 use Prim.Native.Nat.{ℕ, zero, suc, ◌+◌, ◌*◌, ◌≤◌, ◌<◌}
 use native.Mathlib.Omega.{arith}
-use lib.Dec.{leb, ltb}
+use lib.Dec.{leb}
 use lib.ListN.{length, get_or, take, drop, set, length-map, drop_of_length-le, get_or-map}
 use lib.Seq.{drop-cons, take_all, set_split}
 use borrow.Author.Tests.{le-leb, lt-leb, lt-ltb}
@@ -28,12 +29,12 @@ use Rattle.model.specs.contracts.VarValue.{the_type}
 use Rattle.rows.specs.Places.{laid, row_at}
 use Rattle.rows.specs.Rows.{variable_code_row}
 use Rattle.rows.proofs.Reading.{short-is}
-use Rattle.state.specs.Cuts.{rows_in, has_word}
+use Rattle.state.specs.Cuts.{rows_in, has_word, with_row}
 use Rattle.state.specs.Meaning.{Holds, Counted, Sound, Means, meaning, base, variables_part, place_of, words_in, part}
 use Rattle.state.specs.Named.{variable_has_name, lacks_room, assigned, has_name, put_row, assign_row}
-use Rattle.state.specs.Tables.{First}
-use Rattle.state.proofs.Found.{found, not_found, present-below, passed_over}
-use Rattle.state.proofs.Typed.{holds_rows, first_rows, holds-set, holds-join}
+use Rattle.state.specs.Tables.{First, Finds}
+use Rattle.state.proofs.Found.{found, not_found, passed_over}
+use Rattle.state.proofs.Typed.{holds_rows, first_rows, holds-set, holds-push}
 use Rattle.state.proofs.Frame.{part-is, table-part, table-lent, table-back, table-count, table-few, table-row, variables-changed}
 
 abbrev R : Type 0
@@ -65,18 +66,27 @@ module _ (name : ℕ) (x : R) where
     unfolding assign_row
     full h k = rw (not_found (has_name name) l i first h, le-leb 16 (length l) k)
 
-  module _ (p : List ℕ) (l : List R) (h : Holds 16 variable_row p l) (i : ℕ) (first : First (has_word 0 name) (rows_in 4 p) i) where
-    first-row : First (has_name name) l i
-    first-row = first_rows variable_row variable-laws 16 (has_word 0 name) (has_name name) (λ r. refl) l i (subst (λ (y : List (List ℕ)). First (has_word 0 name) y i) (holds_rows variable_row variable-laws 16 p l h) first)
+  module _ (p : List ℕ) (l : List R) (h : Holds 16 variable_row p l) where
+    rows-count : length (rows_in 4 p) ≡ length l
+    rows-count = rw (holds_rows variable_row variable-laws 16 p l h, length-map) refl
 
-    pub assigned-again : variable_row.good x ≡ true → (p₁ : List ℕ) → i < length l → p₁ ≡ laid p (1 + i * 4) (variable_row.put x) → Holds 16 variable_row p₁ (assign_row name x l)
-    assigned-again good p₁ k b = rw (again l i first-row k) (holds-set variable_row variable-laws 16 p p₁ l x i h k good b)
+    first-row : (i : ℕ) → First (has_word 0 name) (rows_in 4 p) i → First (has_name name) l i
+    first-row i first = first_rows variable_row variable-laws 16 (has_word 0 name) (has_name name) (λ r. refl) l i (subst (λ (y : List (List ℕ)). First (has_word 0 name) y i) (holds_rows variable_row variable-laws 16 p l h) first)
 
-    pub assigned-new : variable_row.good x ≡ true → (p₁ : List ℕ) (n : ℕ) → n ≡ length l → n ≤ i → n < 16 → p₁ ≡ laid p (1 + n * 4) (variable_row.put x) → Holds 16 variable_row (set p₁ 0 (n + 1)) (assign_row name x l)
-    assigned-new good p₁ n e k m b = rw (anew l i first-row (omega arith) (omega arith)) (holds-join variable_row variable-laws 16 p p₁ l x n h e m good b)
+    pub place-few : (i : ℕ) → Finds (has_word 0 name) (rows_in 4 p) (Some i) → i < length l
+    place-few i found = omega (arith, rows-count, found.1)
 
-    pub assigned-not : length l ≤ i → 16 ≤ length l → Holds 16 variable_row p (assign_row name x l)
-    assigned-not k m = rw (full l i first-row k m) h
+    pub assigned-again : (i : ℕ) → Finds (has_word 0 name) (rows_in 4 p) (Some i) → variable_row.good x ≡ true → (p₁ : List ℕ) → p₁ ≡ laid p (1 + i * 4) (variable_row.put x) → Holds 16 variable_row p₁ (assign_row name x l)
+    assigned-again i found good p₁ b =
+        let k = place-few i found in
+        rw (again l i (first-row i found.0) k) (holds-set variable_row variable-laws 16 p p₁ l x i h k good b)
+
+    pub assigned-new : Finds (has_word 0 name) (rows_in 4 p) None → variable_row.good x ≡ true → (p₁ : List ℕ) → length l < 16 → p₁ ≡ with_row 4 (variable_row.put x) p → Holds 16 variable_row p₁ (assign_row name x l)
+    assigned-new none good p₁ m b =
+        rw (anew l _ (first-row _ none) (omega (arith, rows-count)) m) (holds-push variable_row variable-laws 16 p p₁ l x h m good b)
+
+    pub assigned-not : Finds (has_word 0 name) (rows_in 4 p) None → 16 ≤ length l → Holds 16 variable_row p (assign_row name x l)
+    assigned-not none m = rw (full l _ (first-row _ none) (omega (arith, rows-count)) m) h
 
   -- texts stay numbers of one word
   short-cond : (b : Bool) (y : R) (l m : List R) → text_short x ≡ true → text_short y ≡ true → all text_short l ≡ true → all text_short m ≡ true → all text_short (cond b (x ∷ l) (y ∷ m)) ≡ true
@@ -150,57 +160,61 @@ module _ (name : ℕ) where
     variables-few = rw (table-count variable_row variable-laws variables_part 16 (omega arith) refl w s) (table-few variable_row variable-laws variables_part 16 (omega arith) refl w s)
 
     -- the place where the search stopped
-    pub variable-place : (i : ℕ) → First (has_word 0 name) (rows_in 4 (take (words_in variables_part) (drop (place_of variables_part) w))) i → First (variable_has_name name) (meaning w).rest.vars i
-    variable-place i first =
+    place-first : (i : ℕ) → First (has_word 0 name) (rows_in 4 (part variables_part w)) i → First (variable_has_name name) (meaning w).rest.vars i
+    place-first i first =
         let h = table-part variable_row variable-laws variables_part 16 (omega arith) refl w s in
-        let f : First (has_word 0 name) (rows_in 4 (part variables_part w)) i = subst (λ (p : List ℕ). First (has_word 0 name) (rows_in 4 p) i) (sym (part-is variables_part (omega arith) w)) first in
-        subst (λ (l : List Variable). First (variable_has_name name) l i) (sym variables-are) (first_says rows i (first-row name (0, (0, 0)) (part variables_part w) rows h i f))
+        subst (λ (l : List Variable). First (variable_has_name name) l i) (sym variables-are) (first_says rows i (first-row name (0, (0, 0)) (part variables_part w) rows h i first))
 
-    module _ (i : ℕ) (first : First (variable_has_name name) (meaning w).rest.vars i) where
-      module _ (h : i < get_or w (place_of variables_part) 0) where
-        in_rows : i < length rows
-        in_rows = rw (table-count variable_row variable-laws variables_part 16 (omega arith) refl w s) at h
+    place-count : length (rows_in 4 (part variables_part w)) ≡ length (meaning w).rest.vars
+    place-count =
+        let h = table-part variable_row variable-laws variables_part 16 (omega arith) refl w s in
+        let m : length (map variable_of rows) ≡ length rows = simp length-map in
+        rows-count name (0, (0, 0)) (part variables_part w) rows h ∙ sym m ∙ ap length (sym variables-are)
 
-        row_is : row_at variable_row w (place_of variables_part + 1 + i * 4) ≡ get_or rows i (0, (0, 0))
-        row_is = table-row variable_row variable-laws variables_part 16 (omega arith) refl w i (0, (0, 0)) s in_rows
+    place-in : (i : Option ℕ) → Finds (has_word 0 name) (rows_in 4 (part variables_part w)) i → Finds (variable_has_name name) (meaning w).rest.vars i
+    place-in None f = rw place-count at (place-first _ f)
+    place-in (Some i) f = (place-first i f.0, omega (arith, place-count, f.1))
 
-        each : (l : List R) (i : ℕ) → all text_short l ≡ true → i < length l → text_short (get_or l i (0, (0, 0))) ≡ true
-        each [] i e b = absurd (omega arith)
-        each (y ∷ l) zero e b = (both (text_short y) (all text_short l) e).0
-        each (y ∷ l) (suc i) e b = each l i (both (text_short y) (all text_short l) e).1 (omega arith)
+    pub variable-place : (i : Option ℕ) → Finds (has_word 0 name) (rows_in 4 (take (words_in variables_part) (drop (place_of variables_part) w))) i → Finds (variable_has_name name) (meaning w).rest.vars i
+    variable-place i f = place-in i (subst (λ (p : List ℕ). Finds (has_word 0 name) (rows_in 4 p) i) (sym (part-is variables_part (omega arith) w)) f)
 
-        pub variable-short : text_short (row_at variable_row w (place_of variables_part + 1 + i * 4)) ≡ true
-        variable-short = ap text_short row_is ∙ each rows i s.parts.texts in_rows
+    module _ (i : ℕ) (finds : Finds (variable_has_name name) (meaning w).rest.vars (Some i)) where
+      pub place-within : i < get_or w (place_of variables_part) 0
+      place-within = omega (arith, variables-count, finds.1)
 
-        pub variable-found : (x : Variable) → x ≡ row_at variable_code_row w (place_of variables_part + 1 + i * 4) → Some x.value ≡ var_named (meaning w).rest name
-        unfolding var_named row_at
-        variable-found x e =
-            let q : x ≡ variable_of (get_or rows i (0, (0, 0))) = e ∙ short-is (row_at variable_row w (place_of variables_part + 1 + i * 4)) variable-short ∙ ap variable_of row_is in
-            let d : Variable = variable_of (0, (0, 0)) in
-            let g : get_or (meaning w).rest.vars i d ≡ variable_of (get_or rows i (0, (0, 0))) = ap (λ (l : List Variable). get_or l i d) variables-are ∙ get_or-map variable_of rows i (0, (0, 0)) in
-            sym (ap value_in (found (variable_has_name name) (meaning w).rest.vars i first d (omega (arith, variables-count, h)) ∙ ap (λ (y : Variable). Some y) (g ∙ sym q)))
+      in_rows : i < length rows
+      in_rows = rw (table-count variable_row variable-laws variables_part 16 (omega arith) refl w s) at place-within
 
-      pub variable-absent : get_or w (place_of variables_part) 0 ≤ i → None ≡ var_named (meaning w).rest name
-      unfolding var_named
-      variable-absent h = sym (ap value_in (not_found (variable_has_name name) (meaning w).rest.vars i first (omega (arith, variables-count, h))))
+      row_is : row_at variable_row w (place_of variables_part + 1 + i * 4) ≡ get_or rows i (0, (0, 0))
+      row_is = table-row variable_row variable-laws variables_part 16 (omega arith) refl w i (0, (0, 0)) s in_rows
 
-      here : present (var_named (meaning w).rest name) ≡ ltb i (length (meaning w).rest.vars)
-      unfolding var_named
-      here = value_in_lem (find (variable_has_name name) (meaning w).rest.vars) ∙ present-below (variable_has_name name) (meaning w).rest.vars i first (variable_of (0, (0, 0)))
-        where
-          value_in_lem : (o : Option Variable) → present (value_in o) ≡ present o
-          value_in_lem None = refl
-          value_in_lem (Some y) = refl
+      each : (l : List R) (i : ℕ) → all text_short l ≡ true → i < length l → text_short (get_or l i (0, (0, 0))) ≡ true
+      each [] i e b = absurd (omega arith)
+      each (y ∷ l) zero e b = (both (text_short y) (all text_short l) e).0
+      each (y ∷ l) (suc i) e b = each l i (both (text_short y) (all text_short l) e).1 (omega arith)
 
-      pub has_room : i < get_or w (place_of variables_part) 0 → leb (get_or w (place_of variables_part) 0) i ≡ lacks_room name (meaning w)
-      unfolding lacks_room
-      has_room h =
-          let b : ltb i (length (meaning w).rest.vars) ≡ true = lt-ltb i (length (meaning w).rest.vars) (omega (arith, variables-count, h)) in
-          lt-leb (get_or w (place_of variables_part) 0) i h ∙ rw (here, b)
+      pub variable-short : text_short (row_at variable_row w (place_of variables_part + 1 + i * 4)) ≡ true
+      variable-short = ap text_short row_is ∙ each rows i s.parts.texts in_rows
 
-      pub room-by-count : get_or w (place_of variables_part) 0 ≤ i → leb 16 (get_or w (place_of variables_part) 0) ≡ lacks_room name (meaning w)
-      unfolding lacks_room
-      room-by-count h = rw (← variable-absent h, variables-count)
+      pub variable-found : (x : Variable) → x ≡ row_at variable_code_row w (place_of variables_part + 1 + i * 4) → Some x.value ≡ var_named (meaning w).rest name
+      unfolding var_named row_at
+      variable-found x e =
+          let q : x ≡ variable_of (get_or rows i (0, (0, 0))) = e ∙ short-is (row_at variable_row w (place_of variables_part + 1 + i * 4)) variable-short ∙ ap variable_of row_is in
+          let d : Variable = variable_of (0, (0, 0)) in
+          let g : get_or (meaning w).rest.vars i d ≡ variable_of (get_or rows i (0, (0, 0))) = ap (λ (l : List Variable). get_or l i d) variables-are ∙ get_or-map variable_of rows i (0, (0, 0)) in
+          sym (ap value_in (found (variable_has_name name) (meaning w).rest.vars i finds.0 d finds.1 ∙ ap (λ (y : Variable). Some y) (g ∙ sym q)))
+
+    pub variable-absent : Finds (variable_has_name name) (meaning w).rest.vars None → None ≡ var_named (meaning w).rest name
+    unfolding var_named
+    variable-absent f = sym (ap value_in (not_found (variable_has_name name) (meaning w).rest.vars _ f (omega arith)))
+
+    -- whether there is one, and no room for another
+    pub lacks : (i : Option ℕ) (none : Bool) → is_some i ≡ not none → Finds (variable_has_name name) (meaning w).rest.vars i → none && leb 16 (get_or w (place_of variables_part) 0) ≡ lacks_room name (meaning w)
+    unfolding lacks_room var_named
+    lacks None true e f = rw (← variable-absent f, variables-count) refl
+    lacks None false e f = let z : ◌≡◌ {A = ℕ} 0 1 = cc in absurd (omega arith)
+    lacks (Some i) false e f = rw (found (variable_has_name name) (meaning w).rest.vars i f.0 (variable_of (0, (0, 0))) f.1) refl
+    lacks (Some i) true e f = let z : ◌≡◌ {A = ℕ} 0 1 = cc in absurd (omega arith)
 
 -- A VARIABLE IS SET ---------------------------------------------------------------------------------------------------------------------------
 module _ (name : ℕ) (value : VarValue) where

@@ -1,9 +1,9 @@
 -- Words cut into pieces of given sizes, one behind the other: the parts of a state, and the rows of a table.
-use Rattle.std.specs.Prelude.{◌≡◌, Bool, not, List, [], ◌∷◌, ◌++◌, ℕ, ◌+◌, ◌-◌, ◌*◌, ◌≤◌, ◌<◌, eqb, leb, length, get_or, take, drop, set, replicate}
+use Rattle.std.specs.Prelude.{◌≡◌, Bool, not, List, [], ◌∷◌, ◌++◌, ℕ, ◌+◌, ◌-◌, ◌*◌, ◌≤◌, ◌<◌, eqb, ltb, length, get_or, take, drop, set, replicate}
 use Rattle.words.specs.Pairs.{joined}
+use Rattle.model.specs.Codec.{Row}
 use Rattle.model.specs.Lists.{flatten}
-use Rattle.state.specs.declared.table.Test.{Test}
-use Rattle.state.specs.declared.table.Test.TheVariants.{Other, Later}
+use Rattle.rows.specs.Places.{row_at, laid}
 
 unfoldable pub cut : List ℕ → List ℕ → List (List ℕ)
 cut [] w = []
@@ -34,6 +34,21 @@ pub record Table (f : ℕ) (p : List ℕ) : Type 0 where
   pub fits : Fits f p
   pub whole : p ≡ table_of (length p - 1) (rows_in f p)
 
+-- words that have room for a row more
+pub record HasRoom (f : ℕ) (p : List ℕ) : Type 0 where
+  pub short : length p ≤ 16384
+  pub few : get_or p 0 0 ≤ 64
+  pub room : 1 + get_or p 0 0 * f + f ≤ length p
+
+-- and with that row behind the others
+abbrev pub with_row : ℕ → List ℕ → List ℕ → List ℕ
+with_row f row p = set (laid p (1 + get_or p 0 0 * f) row) 0 (get_or p 0 0 + 1)
+
+-- numbers of 32 bits
+abbrev pub Words : List ℕ → Type 0
+Words [] = Unit
+Words (x ∷ w) = (x < 4294967296) × Words w
+
 -- p' has another row at place i, and is p otherwise
 pub record RowSet (f : ℕ) (p : List ℕ) (i : ℕ) (row p' : List ℕ) : Type 0 where
   pub rows : rows_in f p' ≡ set (rows_in f p) i row
@@ -54,12 +69,13 @@ wide_in f p i at = wide_of at (get_or (rows_in f p) i [])
 abbrev pub has_word : ℕ → ℕ → List ℕ → Bool
 has_word at x row = eqb (get_or row at 0) x
 
--- which rows are kept
-abbrev pub passes : Test → List ℕ → Bool
-passes (Other at x) row = not (eqb (get_or row at 0) x)
-passes (Later at time) row = not (leb (wide_of at row) time)
+-- what the row says at word `at` passes
+abbrev pub passes : {A : Type 0} → Row A → ℕ → (A → Bool) → List ℕ → Bool
+passes r at test row = test (row_at r row at)
 
--- the words that a test looks at are words of the row
-abbrev pub test_fits : ℕ → Test → Type 0
-test_fits f (Other at x) = at < f
-test_fits f (Later at time) = at < f - 1
+-- another word; a time that is still to come
+abbrev pub is_other : ℕ → ℕ → Bool
+is_other x y = not (eqb y x)
+
+abbrev pub is_later : ℕ → ℕ → Bool
+is_later time due = ltb time due

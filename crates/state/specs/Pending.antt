@@ -1,15 +1,12 @@
 -- The continuations: what the contracts on them cite.
-use Rattle.std.specs.Prelude.{ℕ, suc, ◌+◌, ◌≤◌, ◌≡◌, Bool, not, List, [], ◌∷◌, ◌++◌, leb, eqb, length}
+use Rattle.std.specs.Prelude.{ℕ, suc, ◌+◌, ◌≡◌, Bool, not, List, [], ◌∷◌, ◌++◌, leb, eqb, length}
 use Rattle.model.specs.Actions.{Job}
 use Rattle.model.specs.Exec as model
 use Rattle.model.specs.Lists.{keep}
 use Rattle.model.specs.State.{Env, Volatile, bump_by, continuations_dropped}
 use Rattle.model.specs.declared.Pending.{Pending}
 use Rattle.model.specs.declared.Point.{Point}
-use Rattle.state.specs.Cuts.{passes}
 use Rattle.state.specs.Meaning.{Means, meaning, base, offset_from, pending_row}
-use Rattle.state.specs.declared.table.Test.{Test}
-use Rattle.state.specs.declared.table.Test.TheVariants.{Other, Later}
 
 abbrev pub of_other_rule : ℕ → Pending → Bool
 of_other_rule rule c = not (eqb c.rule rule)
@@ -25,19 +22,14 @@ abbrev pub with_record : ℕ → Pending → Volatile → Volatile
 with_record b p v = record { rest = v.rest; pending = v.pending ++ (offset_from b p ∷ []); next = v.next; last_number = v.last_number }
 
 -- the records that pass are kept, by the words of their rows
-abbrev pub kept_by : Test → Pending → Bool
-kept_by test c = passes test (pending_row.put c)
+abbrev pub kept_by : (List ℕ → Bool) → Pending → Bool
+kept_by test c = test (pending_row.put c)
 
--- by words behind its number: inside a call an offset may stand for the number
-abbrev pub past_number : Test → Type 0
-past_number (Other at x) = 2 ≤ at
-past_number (Later at time) = 2 ≤ at
-
-abbrev pub closed_up : Test → Volatile → Volatile
+abbrev pub closed_up : (List ℕ → Bool) → Volatile → Volatile
 closed_up test v = record { rest = v.rest; pending = keep (kept_by test) v.pending; next = v.next; last_number = v.last_number }
 
 -- and so many left
-abbrev pub ClosesUp : Test → List ℕ → List ℕ → ℕ → Type 0
+abbrev pub ClosesUp : (List ℕ → Bool) → List ℕ → List ℕ → ℕ → Type 0
 ClosesUp test w w' gone =
     Means w' (base w) (closed_up test (meaning w)) × (gone + length (keep (kept_by test) (meaning w).pending) ≡ length (meaning w).pending)
 

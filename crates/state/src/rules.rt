@@ -1,16 +1,15 @@
 // What is kept for each rule of the set, by its place in the image: its bit, its last activation, its cycle position. A place past
 // the last has none, and nothing is kept for it.
-ghost use Rattle.std.specs.Prelude.{◌≡◌, ◌≤◌, set};
+ghost use Rattle.std.specs.Prelude.{◌≡◌, ◌+◌, ◌*◌, ◌≤◌, set, length};
 ghost use Rattle.std.specs.Prelude.{Some};
 ghost use Rattle.model.specs.Calls.{flipped};
 ghost use Rattle.model.specs.State.{is_enabled, last_activation_at, cycle_pos_at, with_rest, with_enabled, with_last_activation, with_cycle_pos};
 ghost use Rattle.state.specs.Meaning.{Sound, Means, meaning, base, rules_of};
-ghost use Rattle.state.specs.Named.{unset_rules};
+ghost use Rattle.state.specs.Named.{kept_for, kept_laid, unset_rules};
 
 use crate::{pending, place};
 use rows::put::clear;
 use rows::row::{Row, option_at, put_option};
-use rows::{ACTIVATION_WORDS, POSITION_WORDS};
 
 // How many rules there are.
 fn rule_count(v: &[u32]) -> usize
@@ -51,14 +50,31 @@ pub fn set_enabled(v: &mut [u32], rule: u32, i: usize, on: bool)
     }
 }
 
+// What the part at `part`, which has an option for each rule, says of rule i.
+fn kept<T: Row>(v: &[u32], part: usize, i: usize) -> Option<T>
+    requires { Sound v.now × (part ≤ 16384) }
+    ensures { result ≡ kept_for T.codec T.WORDS v.now part i }
+{
+    if i < rule_count(v) {
+        return option_at(v, part + i * (1 + T::WORDS));
+    }
+    None
+}
+
+fn put_kept<T: Row>(v: &mut [u32], part: usize, i: usize, x: Option<T>)
+    requires { Sound v.old × (part + 64 * (1 + T.WORDS) ≤ length v.old) }
+    ensures { v.new ≡ kept_laid T.codec T.WORDS v.old part i x }
+{
+    if i < rule_count(v) {
+        put_option(v, part + i * (1 + T::WORDS), x);
+    }
+}
+
 pub fn last_activation(v: &[u32], i: usize) -> Option<u64>
     requires { Sound v.now }
     ensures { result ≡ last_activation_at (meaning v.now).rest i }
 {
-    if i < rule_count(v) {
-        return option_at(v, place::ACTIVATIONS + i * ACTIVATION_WORDS);
-    }
-    None
+    kept(v, place::ACTIVATIONS, i)
 }
 
 // What is kept of rule i's last activation.
@@ -66,9 +82,7 @@ pub fn put_last_activation(v: &mut [u32], i: usize, x: Option<u64>)
     requires { Sound v.old }
     ensures { Means v.new (base v.old) (with_rest (with_last_activation (set (meaning v.old).rest.last_activation i x) (meaning v.old).rest) (meaning v.old)) }
 {
-    if i < rule_count(v) {
-        put_option(v, place::ACTIVATIONS + i * ACTIVATION_WORDS, x);
-    }
+    put_kept(v, place::ACTIVATIONS, i, x);
 }
 
 pub fn set_last_activation(v: &mut [u32], i: usize, time: u64)
@@ -82,10 +96,7 @@ pub fn cycle_pos(v: &[u32], i: usize) -> Option<u32>
     requires { Sound v.now }
     ensures { result ≡ cycle_pos_at (meaning v.now).rest i }
 {
-    if i < rule_count(v) {
-        return option_at(v, place::POSITIONS + i * POSITION_WORDS);
-    }
-    None
+    kept(v, place::POSITIONS, i)
 }
 
 // What is kept of rule i's cycle position.
@@ -93,9 +104,7 @@ pub fn put_cycle_pos(v: &mut [u32], i: usize, x: Option<u32>)
     requires { Sound v.old }
     ensures { Means v.new (base v.old) (with_rest (with_cycle_pos (set (meaning v.old).rest.cycle_pos i x) (meaning v.old).rest) (meaning v.old)) }
 {
-    if i < rule_count(v) {
-        put_option(v, place::POSITIONS + i * POSITION_WORDS, x);
-    }
+    put_kept(v, place::POSITIONS, i, x);
 }
 
 pub fn set_cycle_pos(v: &mut [u32], i: usize, at: u32)

@@ -25,12 +25,10 @@ fn number_all(t: &mut [u32], stored: usize, next: u64, accepted: u64)
     ensures { Holds 32 pending_row t.new (numbered next stored ((most 32 pending_row).get t.old)) }
 {
     let n = t[0] as usize;
-    let mut i = stored;
-    while i < n {
+    for i in stored..n {
         let k = 1 + i * PENDING_WORDS;
         let offset = u64::at(t, k);
         (next + offset).put(t, k);
-        i += 1;
     }
 }
 

@@ -8,7 +8,7 @@ ghost use Rattle.model.specs.Wheel.{moved};
 ghost use Rattle.state.specs.Meaning.{Sound, Means, Holds, Counted, meaning, base};
 ghost use Rattle.state.specs.Named.{slot_due};
 
-use crate::place;
+use crate::{place, table};
 use arrayvec::ArrayVec;
 use model::EverySlot;
 use rows::SLOT_WORDS;
@@ -67,9 +67,7 @@ pub fn join(t: &mut [u32], x: EverySlot)
     requires { Counted 64 slot_row t.old × (get_or t.old 0 0 < 64) }
     ensures { Holds 64 slot_row t.new ((most 64 slot_row).get t.old ++ (x ∷ [])) }
 {
-    let n = t[0] as usize;
-    x.put(t, 1 + n * SLOT_WORDS);
-    t[0] = n as u32 + 1;
+    table::push(t, x);
 }
 
 // No slot is left.

@@ -6,7 +6,7 @@ ghost use Rattle.model.specs.State.{var_named};
 ghost use Rattle.model.specs.Store.{variable_row_of};
 ghost use Rattle.state.specs.Meaning.{Sound, Means, Holds, Counted, meaning, base};
 ghost use Rattle.state.specs.Named.{variable_has_name, lacks_room, assigned, assign_row};
-ghost use Rattle.state.specs.Tables.{First};
+ghost use Rattle.state.specs.Tables.{Finds};
 
 use crate::place::MAX_VARIABLES;
 use crate::{place, table};
@@ -17,10 +17,10 @@ use rows::row::Row;
 // The word of a row that is its name.
 const NAME: usize = 0;
 
-// The place of the variable of a name, and their number where there is none.
-fn place_of(v: &[u32], name: u32) -> usize
+// The place of the variable of a name.
+fn place_of(v: &[u32], name: u32) -> Option<usize>
     requires { Sound v.now }
-    ensures { First (variable_has_name name) (meaning v.now).rest.vars result }
+    ensures { Finds (variable_has_name name) (meaning v.now).rest.vars result }
 {
     table::first_with(
         &v[place::VARIABLES..place::TIMERS],
@@ -35,12 +35,9 @@ pub fn variable(v: &[u32], name: u32) -> Option<VarValue>
     requires { Sound v.now }
     ensures { result ≡ var_named (meaning v.now).rest name }
 {
-    let i = place_of(v, name);
-    if i < v[place::VARIABLES] as usize {
-        let x = Variable::at(v, place::VARIABLES + 1 + i * VARIABLE_WORDS);
-        return Some(x.value);
-    }
-    None
+    let i = place_of(v, name)?;
+    let x = Variable::at(v, place::VARIABLES + 1 + i * VARIABLE_WORDS);
+    Some(x.value)
 }
 
 // Whether the name is new and 16 variables stand.
@@ -48,8 +45,7 @@ pub fn lacks_room(v: &[u32], name: u32) -> bool
     requires { Sound v.now }
     ensures { result ≡ lacks_room name (meaning v.now) }
 {
-    let n = v[place::VARIABLES] as usize;
-    n <= place_of(v, name) && MAX_VARIABLES <= n
+    place_of(v, name).is_none() && MAX_VARIABLES <= v[place::VARIABLES] as usize
 }
 
 // The variable of the name holds the value; a new one goes behind the others, where there is room.
@@ -57,15 +53,12 @@ fn assign(t: &mut [u32], x: Variable)
     requires { Counted 16 variable_row t.old }
     ensures { Holds 16 variable_row t.new (assign_row x.name (variable_row_of x) ((most 16 variable_row).get t.old)) }
 {
-    let i = table::first_with(t, VARIABLE_WORDS, NAME, x.name);
-    let n = t[0] as usize;
-    if i < n {
+    if let Some(i) = table::first_with(t, VARIABLE_WORDS, NAME, x.name) {
         x.put(t, 1 + i * VARIABLE_WORDS);
         return;
     }
-    if n < MAX_VARIABLES {
-        x.put(t, 1 + n * VARIABLE_WORDS);
-        t[0] = n as u32 + 1;
+    if (t[0] as usize) < MAX_VARIABLES {
+        table::push(t, x);
     }
 }
 

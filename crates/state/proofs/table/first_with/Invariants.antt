@@ -1,5 +1,4 @@
 -- `state::table::first_with` meets its contract: none of the rows passed has the word. Assumes nothing.
-use Prim.Native.Nat.{◌≤◌, ◌-◌}
 use mathlib.Core.Path.{◌≡◌}
 use Rattle.std.specs.Prelude.{None}
 use lib.ListN.{take}
@@ -8,7 +7,4 @@ use Rattle.state.specs.Cuts.{has_word, rows_in}
 use Rattle.state.proofs.table.first_with.Given as goal
 
 abbrev pub invariant-loop-i : goal.invariant-loop-i
-invariant-loop-i l = (l.i ≤ l.n) × (find (has_word l.at l.x) (take l.i (rows_in l.width l.t)) ≡ None)
-
-abbrev pub decreases-loop-i : goal.decreases-loop-i
-decreases-loop-i l = l.n - l.i
+invariant-loop-i l = find (has_word l.at l.x) (take l.i (rows_in l.width l.t)) ≡ None

@@ -1,6 +1,7 @@
 -- `state::table::wide_of` meets its contract: the two words of the number, joined. Assumes nothing.
-use Rattle.state.proofs.Tables.{wide-joined}
+use mathlib.Core.Path.{◌∙◌}
+use Rattle.state.proofs.Tables.{wide-at}
 use Rattle.state.proofs.table.wide_of.Goals as goal
 
 pub returns : goal.returns
-returns c = wide-joined _ _ _ _ _ _ _ c.join_words.ensures c.word_of.ensures c.word_of-2.ensures
+returns c = c.at.ensures ∙ wide-at _ _ _ c.row_of.ensures.is

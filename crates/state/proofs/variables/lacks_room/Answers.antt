@@ -1,13 +1,14 @@
 -- `state::variables::lacks_room` meets its contract. Assumes nothing.
-use native.Mathlib.Omega.{arith}
-use Rattle.state.proofs.VariableRows.{variables-few, has_room, room-by-count}
+use mathlib.Core.Path.{sym, ap, ◌∙◌}
+use mathlib.Core.Bool.{◌&&◌}
+use lib.Dec.{leb}
+use lib.ListN.{get_or}
+use Rattle.state.proofs.VariableRows.{lacks}
 use Rattle.state.proofs.variables.lacks_room.Goals as goal
 
-pub overflow_cast-n : goal.overflow_cast-n
-overflow_cast-n c = omega (arith, variables-few c.args.name _ c.requires)
+pub returns-then-is_none : goal.returns-then-is_none
+returns-then-is_none c = ap (λ b. b && leb 16 (get_or c.args.v.now 384 0)) (sym c.if-is_none.true) ∙ lacks _ _ c.requires _ _ c.is_none.ensures c.place_of.ensures
 
-pub returns-then-n-place_of : goal.returns-then-n-place_of
-returns-then-n-place_of c = room-by-count _ _ c.requires _ c.place_of.ensures c.if-n-place_of.true
-
-pub returns-else-n-place_of : goal.returns-else-n-place_of
-returns-else-n-place_of c = has_room _ _ c.requires _ c.place_of.ensures c.if-n-place_of.false
+pub returns-else-is_none : goal.returns-else-is_none
+returns-else-is_none c =
+    c.if-is_none.false ∙ ap (λ b. b && leb 16 (get_or c.args.v.now 384 0)) (sym c.if-is_none.false) ∙ lacks _ _ c.requires _ _ c.is_none.ensures c.place_of.ensures

@@ -1,0 +1,43 @@
+-- `state::table::push` meets its contract. Assumes nothing.
+use native.Mathlib.Omega.{arith}
+use mathlib.Core.Path.{ap, ◌∙◌}
+use mathlib.Core.List.{List}
+use Prim.Native.Nat.{ℕ, ◌+◌, ◌*◌}
+use lib.ListN.{get_or, set, length}
+use Rattle.rows.specs.Places.{laid}
+use Rattle.rows.proofs.Writing.{laid-long}
+use Rattle.state.proofs.Good.{words-laid, are_words}
+use Rattle.state.proofs.table.push.Goals as goal
+
+pub bounds-t-0 : goal.bounds-t-0
+bounds-t-0 g c = omega (arith, c.requires.room)
+
+pub overflow_mul-n : goal.overflow_mul-n
+overflow_mul-n g c =
+    let e = ap (λ (m : ℕ). get_or c.args.t.now 0 0 * m) c.WORDS.ensures in
+    omega (arith, e, c.requires.room, c.requires.short)
+
+pub overflow_add-n : goal.overflow_add-n
+overflow_add-n g c =
+    let e = ap (λ (m : ℕ). get_or c.args.t.now 0 0 * m) c.WORDS.ensures in
+    omega (arith, e, c.requires.room, c.requires.short)
+
+pub put-requires : goal.put-requires
+put-requires g c =
+    let e = ap (λ (m : ℕ). get_or c.args.t.now 0 0 * m) c.WORDS.ensures in
+    omega (arith, e, c.requires.room)
+
+pub bounds-t-0-2 : goal.bounds-t-0-2
+bounds-t-0-2 g c =
+    let e = ap (λ (m : ℕ). get_or c.args.t.now 0 0 * m) c.WORDS.ensures in
+    let long = g.met.R.Row.takes.long c.args.x in
+    omega (arith, c.requires.room, ap length c.put.ensures ∙ laid-long _ _ _ (rw long (omega (arith, e, c.requires.room))))
+
+pub returns : goal.returns
+returns g c =
+    let t = c.args.t.now in
+    let here = c.put.ensures ∙ ap (λ (m : ℕ). laid t (1 + get_or t 0 0 * m) (g.R.Row.codec.put c.args.x)) c.WORDS.ensures in
+    record {
+      rows = ap (λ (q : List ℕ). set q 0 (get_or t 0 0 + 1)) here;
+      words = words-laid _ _ _ c.put.new.s c.put.ensures (are_words c.put.new.s (λ i. omega (arith, c.slice_known-3-1.given i)));
+    }
