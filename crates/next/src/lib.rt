@@ -18,6 +18,7 @@ use image::layout::{Table, size_of};
 use image::rule::{name_of, trigger_at, trigger_count};
 use model::Trigger;
 
+// kept: three answers, where an Option has two.
 #[derive(Clone, Copy)]
 pub enum NextStart {
     NoStart,
@@ -36,6 +37,7 @@ struct Best {
 const WEEK: u32 = 10080;
 
 // A minute more than the last that is asked for.
+// kept: the specification's `first_from` answers it where no minute passes, so that the least of two needs no case.
 const NEVER: u32 = 10081;
 
 fn least(a: u32, b: u32) -> u32
@@ -74,9 +76,7 @@ fn days_minutes(t: u32, days: u32, minute: u64) -> u32
     ensures { result ≡ first_from (λ m. on_days ((t + m) % 10080) days minute) 1 10080 }
 {
     let mut best = NEVER;
-    let mut day = 7;
-    while 0 < day {
-        day -= 1;
+    for day in (0..7).rev() {
         best = least(day_minutes(t, days, minute, day), best);
     }
     best
@@ -118,9 +118,7 @@ fn rule_minutes(image: &[u32], bits: &[u32], sun: Option<model::SunTimes>, t: u3
         return NEVER;
     }
     let mut best = NEVER;
-    let mut k = trigger_count(image, i);
-    while 0 < k {
-        k -= 1;
+    for k in (0..trigger_count(image, i)).rev() {
         best = least(trigger_minutes(sun, t, trigger_at(image, i, k)), best);
     }
     best
@@ -151,9 +149,7 @@ fn earliest(image: &[u32], bits: &[u32], sun: Option<model::SunTimes>, t: u32) -
         minutes: NEVER,
         name: 0,
     };
-    let mut i = size_of(image, Table::Rules);
-    while 0 < i {
-        i -= 1;
+    for i in (0..size_of(image, Table::Rules)).rev() {
         let minutes = rule_minutes(image, bits, sun, t, i);
         best = earlier(minutes, name_of(image, i), best);
     }

@@ -1,5 +1,5 @@
 -- `next::days_minutes` meets its contract. Assumes nothing.
-use Prim.Native.Nat.{◌≤◌, min}
+use Prim.Native.Nat.{min}
 use Rattle.model.specs.Wheel.{weekdays}
 use Rattle.next.specs.NextStart.{first_from}
 use Rattle.next.specs.Distance.{day_ahead}
@@ -7,7 +7,4 @@ use Rattle.next.proofs.Down.{Behind}
 use Rattle.next.proofs.days_minutes.Given as goal
 
 abbrev pub invariant-loop-day : goal.invariant-loop-day
-invariant-loop-day l = (l.day ≤ 7) × Behind (λ d y. min (first_from (day_ahead l.t l.days l.minute d) 1 10080) y) 10081 weekdays l.day l.best
-
-abbrev pub decreases-loop-day : goal.decreases-loop-day
-decreases-loop-day l = l.day
+invariant-loop-day l = Behind (λ d y. min (first_from (day_ahead l.t l.days l.minute d) 1 10080) y) 10081 weekdays l.day l.best

@@ -8,24 +8,18 @@ pub size_of-i-requires : goal.size_of-i-requires
 size_of-i-requires c = (c.requires.0.least, c.requires.0.most)
 
 pub loop-i-init : goal.loop-i-init
-loop-i-init c = (omega (arith, c.size_of-i.ensures), starts-number _ _ _ _ c.size_of-i.ensures)
+loop-i-init c = starts-number _ _ _ _ c.size_of-i.ensures
 
 pub rule_minutes-minutes-requires : goal.rule_minutes-minutes-requires
-rule_minutes-minutes-requires c =
-    (c.requires.0, omega (arith, c.loop-i-test.true, c.loop-i.invariant.0), c.requires.1)
+rule_minutes-minutes-requires c = (c.requires.0, omega (arith, c.size_of-i.ensures), c.requires.1)
 
 pub name_of-requires : goal.name_of-requires
 name_of-requires c = (c.requires.0.least, c.requires.0.most)
 
-pub loop-i-smaller : goal.loop-i-smaller
-loop-i-smaller c = omega arith
-
 pub loop-i-preserved : goal.loop-i-preserved
-loop-i-preserved c = (
-  omega (arith, c.loop-i-test.true, c.loop-i.invariant.0),
-  goes_number _ _ _ _ c.loop-i-test.true c.loop-i.invariant.0 c.loop-i.invariant.1 (rw (c.rule_minutes-minutes.ensures, c.name_of.ensures) at c.earlier-best.ensures),
-)
+loop-i-preserved c =
+    goes_number _ _ _ _ (omega arith) (omega (arith, c.size_of-i.ensures)) c.loop-i.invariant (rw (c.rule_minutes-minutes.ensures, c.name_of.ensures) at c.earlier-best.ensures)
 
 pub returns : goal.returns
 unfolding best_of best_from
-returns c = ends _ _ _ _ c.loop-i-test.false c.loop-i.invariant.1
+returns c = ends _ _ _ _ (omega arith) c.loop-i.invariant

@@ -1,8 +1,5 @@
 -- `next::earliest` meets its contract. Assumes nothing.
-use Prim.Native.Nat.{◌≤◌}
 use mathlib.Core.List.{map}
-use Rattle.model.specs.Image.{size_of}
-use Rattle.model.specs.Rows.{rules}
 use Rattle.model.specs.Rules.{name_of, rule_indices}
 use Rattle.model.specs.World.{is_one}
 use Rattle.next.specs.NextStart.{first_from, starts_in}
@@ -12,8 +9,4 @@ use Rattle.next.proofs.earliest.Given as goal
 
 abbrev pub invariant-loop-i : goal.invariant-loop-i
 invariant-loop-i l =
-    (l.i ≤ size_of l.image rules)
-    × Behind (λ j b. better (first_from (starts_in l.image (map is_one l.bits) l.sun l.t j) 1 10080) (name_of l.image j) b) (record { minutes = 10081; name = 0 }) (rule_indices l.image) l.i l.best
-
-abbrev pub decreases-loop-i : goal.decreases-loop-i
-decreases-loop-i l = l.i
+    Behind (λ j b. better (first_from (starts_in l.image (map is_one l.bits) l.sun l.t j) 1 10080) (name_of l.image j) b) (record { minutes = 10081; name = 0 }) (rule_indices l.image) l.i l.best

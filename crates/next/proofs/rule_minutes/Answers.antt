@@ -14,27 +14,19 @@ pub trigger_count-k-requires : goal.trigger_count-k-requires
 trigger_count-k-requires c = (c.requires.0.least, c.requires.0.most)
 
 pub loop-k-init : goal.loop-k-init
-loop-k-init c = (omega (arith, c.trigger_count-k.ensures), starts _ _ _ _ c.trigger_count-k.ensures)
+loop-k-init c = starts _ _ _ _ c.trigger_count-k.ensures
 
 pub trigger_at-requires : goal.trigger_at-requires
-trigger_at-requires c =
-    record {
-      accepted = c.requires.0;
-      i_bound = c.requires.1;
-      k_in_bounds = omega (arith, c.loop-k-test.true, c.loop-k.invariant.0);
-    }
+trigger_at-requires c = record { accepted = c.requires.0; i_bound = c.requires.1; k_in_bounds = omega (arith, c.trigger_count-k.ensures) }
 
 pub trigger_minutes-requires : goal.trigger_minutes-requires
 trigger_minutes-requires c = c.requires.2
 
-pub loop-k-smaller : goal.loop-k-smaller
-loop-k-smaller c = omega arith
-
 pub loop-k-preserved : goal.loop-k-preserved
 loop-k-preserved c =
-    (omega (arith, c.loop-k-test.true, c.loop-k.invariant.0), goes _ _ _ _ _ refl c.loop-k-test.true c.loop-k.invariant.0 c.loop-k.invariant.1 c.trigger_at.ensures (rw c.trigger_minutes.ensures at c.least-best.ensures))
+    goes _ _ _ _ _ refl (omega arith) (omega (arith, c.trigger_count-k.ensures)) c.loop-k.invariant c.trigger_at.ensures (rw c.trigger_minutes.ensures at c.least-best.ensures)
 
 pub returns : goal.returns
 returns c =
     let s = c.args in
-    on _ _ _ s.bits.now _ (sym c.word.ensures ∙ c.if-word-ne1.false) (ends _ _ _ _ c.loop-k-test.false c.loop-k.invariant.1)
+    on _ _ _ s.bits.now _ (sym c.word.ensures ∙ c.if-word-ne1.false) (ends _ _ _ _ (omega arith) c.loop-k.invariant)

@@ -1,15 +1,9 @@
 -- `next::rule_minutes` meets its contract. Assumes nothing.
-use Prim.Native.Nat.{◌≤◌, min}
-use lib.ListN.{length}
+use Prim.Native.Nat.{min}
 use Rattle.model.specs.Rules.{triggers_of}
 use Rattle.next.specs.NextStart.{first_from, due_in}
 use Rattle.next.proofs.Down.{Behind}
 use Rattle.next.proofs.rule_minutes.Given as goal
 
 abbrev pub invariant-loop-k : goal.invariant-loop-k
-invariant-loop-k l =
-    (l.k ≤ length (triggers_of l.image l.i))
-    × Behind (λ x y. min (first_from (λ m. due_in l.sun l.t x m) 1 10080) y) 10081 (triggers_of l.image l.i) l.k l.best
-
-abbrev pub decreases-loop-k : goal.decreases-loop-k
-decreases-loop-k l = l.k
+invariant-loop-k l = Behind (λ x y. min (first_from (λ m. due_in l.sun l.t x m) 1 10080) y) 10081 (triggers_of l.image l.i) l.k l.best
