@@ -6,7 +6,7 @@ use Prim.Native.Nat.{ℕ, zero, suc, ◌+◌, ◌*◌, ◌-◌, ◌/◌, ◌%◌
 use native.Mathlib.Omega.{arith}
 use native.Mathlib.Numerals.{add-one}
 use lib.Dec.{leb, eqb}
-use lib.ListN.{length, replicate, get_or, length-replicate, length-append}
+use lib.ListN.{length, replicate, length-replicate, length-append}
 use borrow.Author.Tests.{le-leb, lt-leb, eq-eqb, ne_eqb}
 use Rattle.model.specs.Lists.{every}
 use Rattle.model.specs.Answers.{words_of_effects, lent}
@@ -111,7 +111,7 @@ module _ (ws w₀ w : List ℕ) (k n : ℕ) where
 -- THE TEST OF REFUSAL 60
 
 module _ (ws : List ℕ) where
-  pub not-whole : (length ws % 5 ≡ 0 → ⊥) → false ≡ are_effects ws
+  pub not-whole : (length ws % 5 ≡ 0 → ⊥) → eqb (length ws % 5) 0 ≡ are_effects ws
   unfolding are_effects
   not-whole h = rw (ne_eqb (length ws % 5) 0 h)
 
@@ -120,25 +120,16 @@ module _ (ws : List ℕ) where
     unfolding are_effects
     as-every r q = rw (eq-eqb (length ws % 5) 0 h, ← e) q
 
--- ONE RECORD
+-- AGAIN
 
-module _ (ws : List ℕ) (t k : ℕ) where
-  pub sets-level : get_or ws (k * 5) 0 ≡ 12 → eqb (get_or ws (k * 5 + 1) 0) t ≡ sets t (effect_at ws k)
-  unfolding sets is_level effect_at
-  sets-level h = rw (eq-eqb (get_or ws (k * 5) 0) 12 h)
+module _ (ws : List ℕ) (k : ℕ) (x : Effect) (h : x ≡ effect_at ws k) (r : Bool) (e : r ≡ is_level x) where
+  pub never-again : r ≡ false → r ≡ set_again (effect_at ws k) (effects_from (suc k) ws)
+  unfolding set_again
+  never-again q = rw (← h, ← e, q)
 
-  pub sets-none : (get_or ws (k * 5) 0 ≡ 12 → ⊥) → eqb (get_or ws (k * 5) 0) 12 ≡ sets t (effect_at ws k)
-  unfolding sets is_level effect_at
-  sets-none h = rw (ne_eqb (get_or ws (k * 5) 0) 12 h)
-
-module _ (ws : List ℕ) (k : ℕ) where
-  pub never-again : (get_or ws (k * 5) 0 ≡ 12 → ⊥) → false ≡ set_again (effect_at ws k) (effects_from (suc k) ws)
-  unfolding set_again is_level effect_at
-  never-again h = rw (ne_eqb (get_or ws (k * 5) 0) 12 h)
-
-  pub level-again : get_or ws (k * 5) 0 ≡ 12 → (r : Bool) → r ≡ is_set zero (get_or ws (k * 5 + 1) 0) (effects_from (k + 1) ws) → r ≡ set_again (effect_at ws k) (effects_from (suc k) ws)
-  unfolding set_again is_level effect_at
-  level-again h r e = rw (eq-eqb (get_or ws (k * 5) 0) 12 h) (e ∙ rw (add-one k))
+  pub level-again : r ≡ true → (s : Bool) → s ≡ is_set zero x.a (effects_from (k + 1) ws) → s ≡ set_again (effect_at ws k) (effects_from (suc k) ws)
+  unfolding set_again
+  level-again q s p = rw (← h, ← e, q) (p ∙ rw (add-one k))
 
 -- THE ANSWER
 

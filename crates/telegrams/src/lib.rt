@@ -1,46 +1,59 @@
 // Fewer telegrams on the bus: the shortest list of a tick's effects that leaves every lamp the same.
 #![tactic(auto)]
 
-ghost use Rattle.std.specs.Prelude.{◌≡◌, Bool, zero, suc, ◌+◌, ◌*◌, ◌/◌, ◌<◌, ◌≤◌, leb, length, replicate};
-ghost use Rattle.model.specs.Telegrams.{cuts, sets, effect_at, are_effects, answer, kept_store};
+ghost use Rattle.std.specs.Prelude.{◌≡◌, Bool, zero, suc, ◌+◌, ◌*◌, ◌/◌, ◌<◌, ◌≤◌, length, replicate};
+ghost use Rattle.model.specs.Telegrams.{cuts, is_level, sets, effect_at, are_effects, answer, kept_store};
 ghost use Rattle.telegrams.specs.Recursion.{is_set, set_again, kept_head, keep_last, effects_from};
 ghost use Rattle.lent_words.specs.PutEffects.{put_effects};
 
 use lent_words::EFFECT_WORDS;
 use model::{Effect, Refusal};
 
-// Whether record k has a kind of effect.
-fn has_kind(effects: &[u32], k: usize) -> bool
+// Record k.
+#[tactic(auto, unfolding(model::specs::Telegrams::effect_at))]
+fn effect_at(effects: &[u32], k: usize) -> Effect
     requires { k < length effects.now / 5 }
-    ensures { result ≡ leb (effect_at effects.now k).kind 12 }
+    ensures { result ≡ effect_at effects.now k }
 {
-    effects[k * EFFECT_WORDS] <= 12
+    let at = k * EFFECT_WORDS;
+    let words = &effects[at..at + EFFECT_WORDS];
+    Effect {
+        kind: words[0],
+        a: words[1],
+        b: words[2],
+        c: words[3],
+        d: words[4],
+    }
 }
 
 // Whether the words are effects: refusal 60.
 fn are_effects(effects: &[u32]) -> bool
     ensures { result ≡ are_effects effects.now }
 {
-    if effects.len() % EFFECT_WORDS != 0 {
-        return false;
-    }
-    (0..effects.len() / EFFECT_WORDS).all(|k| has_kind(effects, k))
+    effects.len() % EFFECT_WORDS == 0
+        && (0..effects.len() / EFFECT_WORDS).all(|k| effect_at(effects, k).kind <= 12)
 }
 
-// Whether record k cuts.
-fn cuts_at(effects: &[u32], k: usize) -> bool
-    requires { k < length effects.now / 5 }
-    ensures { result ≡ cuts (effect_at effects.now k) }
+#[tactic(auto, unfolding(model::specs::Telegrams::cuts))]
+fn cuts(x: Effect) -> bool
+    ensures { result ≡ cuts x }
 {
-    effects[k * EFFECT_WORDS] < 11
+    x.kind < 11
 }
 
-// Whether record k sets the lamp.
-fn sets_at(effects: &[u32], lamp: u32, k: usize) -> bool
-    requires { k < length effects.now / 5 }
-    ensures { result ≡ sets lamp (effect_at effects.now k) }
+#[tactic(auto, unfolding(model::specs::Telegrams::is_level))]
+fn is_level(x: Effect) -> bool
+    ensures { result ≡ is_level x }
 {
-    effects[k * EFFECT_WORDS] == 12 && effects[k * EFFECT_WORDS + 1] == lamp
+    x.kind == 12
+}
+
+// Whether an effect sets the lamp.
+#[tactic(auto, unfolding(model::specs::Telegrams::sets))]
+fn sets(x: Effect, lamp: u32) -> bool
+    ensures { result ≡ sets lamp x }
+{
+    is_level(x) && x.a == lamp
 }
 
 // Whether the lamp is set from record k on, before a record that cuts.
@@ -50,10 +63,11 @@ fn is_set_from(effects: &[u32], lamp: u32, k: usize) -> bool
 {
     let n = effects.len() / EFFECT_WORDS;
     for j in k..n {
-        if cuts_at(effects, j) {
+        let x = effect_at(effects, j);
+        if cuts(x) {
             return false;
         }
-        if sets_at(effects, lamp, j) {
+        if sets(x, lamp) {
             return true;
         }
     }
@@ -65,24 +79,8 @@ fn is_superseded(effects: &[u32], k: usize) -> bool
     requires { k < length effects.now / 5 }
     ensures { result ≡ set_again (effect_at effects.now k) (effects_from (suc k) effects.now) }
 {
-    if effects[k * EFFECT_WORDS] != 12 {
-        return false;
-    }
-    is_set_from(effects, effects[k * EFFECT_WORDS + 1], k + 1)
-}
-
-fn effect_at(effects: &[u32], k: usize) -> Effect
-    requires { k < length effects.now / 5 }
-    ensures { result ≡ effect_at effects.now k }
-{
-    let at = k * EFFECT_WORDS;
-    Effect {
-        kind: effects[at],
-        a: effects[at + 1],
-        b: effects[at + 2],
-        c: effects[at + 3],
-        d: effects[at + 4],
-    }
+    let x = effect_at(effects, k);
+    is_level(x) && is_set_from(effects, x.a, k + 1)
 }
 
 // Record k goes to place n of the list, unless it is superseded. The next place.
@@ -93,8 +91,7 @@ fn put_if_kept(list: &mut [u32], n: usize, effects: &[u32], k: usize) -> usize
     if is_superseded(effects, k) {
         return n;
     }
-    let x = effect_at(effects, k);
-    lent_words::write_effect(list, n, x);
+    lent_words::write_effect(list, n, effect_at(effects, k));
     n + 1
 }
 

@@ -7,4 +7,4 @@ returns-then-is_superseded c = left_out _ _ _ _ _ c.is_superseded.ensures c.if-i
 
 pub returns : goal.returns
 returns c =
-    put_in _ _ _ _ _ c.is_superseded.ensures c.if-is_superseded.false _ _ c.effect_at-x.ensures c.write_effect.ensures
+    put_in _ _ _ _ _ c.is_superseded.ensures c.if-is_superseded.false _ _ c.effect_at.ensures c.write_effect.ensures
