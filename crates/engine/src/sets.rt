@@ -16,7 +16,7 @@ ghost use Rattle.engine.specs.Sets.{cleared, rule_of, rules_of};
 
 use crate::stored;
 use image::layout::{Table, size_of};
-use rows::read;
+use rows::row::Row;
 use state::place::{MAX_RULES, WORDS};
 use store::table;
 
@@ -74,7 +74,7 @@ fn with_set(store: &[u32], image: &[u32], time: u64, v: &mut [u32])
     requires { (present (read store.now) ≡ true) × (image_refusal image.now ≡ 0) × AllNumbered v.old (meaning v.old) }
     ensures { (s : Store) → read store.now ≡ Some s → s.vol ≡ meaning v.old → AllNumbered v.new (cleared (rest_with image.now time s) s.vol) }
 {
-    let n = read::word_at(store, table::SLOTS) as usize;
+    let n = u32::at(store, table::SLOTS) as usize;
     every::rebuild_every(image, store, table::SLOTS + 1, n, time, v);
     state::pending::drop_all(v);
     put_rules(store, image, v);

@@ -14,7 +14,7 @@ ghost use Rattle.engine.specs.Answers.{shown, enabled_values};
 
 use image::layout::{Table, size_of};
 use model::Refusal;
-use rows::read;
+use rows::row::Row;
 use state::place::WORDS;
 use store::set::{image_in, is_loaded};
 use store::table;
@@ -82,10 +82,10 @@ pub fn counters(store: &[u32]) -> [u32; 16]
     ensures { (s : Store) → read store.now ≡ Some s → result ≡ counters_of s }
 {
     let gauges = [
-        read::word_at(store, table::PENDING),
-        read::word_at(store, table::TIMERS),
+        u32::at(store, table::PENDING),
+        u32::at(store, table::TIMERS),
         rule_count(store) as u32,
-        read::word_at(store, table::VARIABLES),
+        u32::at(store, table::VARIABLES),
     ];
     let mut values = [0; 16];
     let (first, last) = values.split_at_mut(12);

@@ -1,10 +1,11 @@
 // Every slots where words keep them: n rows of five words from place k on, seen as the list of slots that they say.
 use model::EverySlot;
 use rows::SLOT_WORDS;
+use rows::row::Row;
 use std::marker::Model;
 
 // What a slot is known by, whatever its due time.
-#[derive(Clone, Copy)]
+#[derive(Clone, Copy, PartialEq, Eq)]
 pub struct Key {
     pub rule: u32,
     pub place: u32,
@@ -49,7 +50,7 @@ impl Key {
     pub fn is_of(self, x: EverySlot) -> bool
         ensures { result ≡ same_slot self.rule self.place self.period x }
     {
-        x.rule == self.rule && x.place == self.place && x.period == self.period
+        Key::of(x) == self
     }
 }
 
@@ -79,7 +80,7 @@ impl<'a> Slots<'a> {
         requires { i < length self.now }
         ensures { result ≡ get_or self.now i no_slot }
     {
-        rows::read::slot_at(self.words, self.k + i * SLOT_WORDS)
+        EverySlot::at(self.words, self.k + i * SLOT_WORDS)
     }
 
     // When the slot of a key is due: as one of these, even overdue, else at `fresh`.
@@ -96,6 +97,7 @@ impl<'a> Slots<'a> {
     }
 
     // Whether these are the others, whatever their due times.
+    // kept: no `==`, since two lists that differ in a due time are not equal.
     pub fn same(&self, others: &Slots) -> bool
         ensures { result ≡ same_slots self.now others.now }
     {

@@ -2,7 +2,6 @@
 #![tactic(auto)]
 
 pub mod put;
-pub mod read;
 pub mod records;
 pub mod row;
 pub mod tables;

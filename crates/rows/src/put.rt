@@ -1,10 +1,6 @@
 // Words written at a place: all others stand.
-ghost use Rattle.std.specs.Prelude.{◌≡◌, ◌+◌, ◌≤◌, ◌<◌, length, replicate};
-ghost use Rattle.model.specs.Codec.{wide};
-ghost use Rattle.model.specs.Parts.{any};
+ghost use Rattle.std.specs.Prelude.{◌≡◌, ◌+◌, ◌≤◌, length, replicate};
 ghost use Rattle.rows.specs.Places.{laid};
-
-use crate::row::Row;
 
 // Words from k on.
 #[tactic(auto, unfolding(crate::specs::Places::laid))]
@@ -22,18 +18,4 @@ pub fn clear(s: &mut [u32], k: usize, n: usize)
     ensures { s.new ≡ laid s.old k (replicate n 0) }
 {
     s[k..k + n].fill(0);
-}
-
-pub fn put_word(s: &mut [u32], k: usize, x: u32)
-    requires { k < length s.old }
-    ensures { s.new ≡ laid s.old k (any.put x) }
-{
-    x.put(s, k);
-}
-
-pub fn put_wide(s: &mut [u32], k: usize, x: u64)
-    requires { k + 2 ≤ length s.old }
-    ensures { s.new ≡ laid s.old k (wide.put x) }
-{
-    x.put(s, k);
 }

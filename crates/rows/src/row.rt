@@ -29,6 +29,7 @@ pub trait Row: Copy {
     ghost takes: { Takes codec WORDS };
 }
 
+// kept: `at` and `put` of these three are the rows that all others are made of, each by what its words say.
 impl Row for u32 {
     const WORDS: usize = 1;
 
@@ -81,8 +82,7 @@ impl Row for bool {
     }
 
     fn put(self, s: &mut [u32], k: usize) {
-        let word: u32 = if self { 1 } else { 0 };
-        word.put(s, k);
+        u32::from(self).put(s, k);
     }
 }
 

@@ -13,7 +13,7 @@ rebuild_every-requires c =
     let k = said _ c.requires.0 in
     record {
       accepted = (l.accepted, l.few_enough);
-      k_bound = (omega arith, omega (arith, c.word_at-n.ensures, (counted _ k.reads.readable).slots), c.requires.2.sound);
+      k_bound = (omega arith, omega (arith, c.at-n.ensures, (counted _ k.reads.readable).slots), c.requires.2.sound);
     }
 
 pub put_rules-requires : goal.put_rules-requires
@@ -22,5 +22,5 @@ put_rules-requires c =
 
 pub returns : goal.returns
 returns c t e v =
-    set-taken c.args.image.now c.args.time t c.args.v.now _ _ _ _ c.requires.2 v (old-slots _ t _ e c.word_at-n.ensures ∙ ap (λ (m : Volatile). m.rest.every) v)
+    set-taken c.args.image.now c.args.time t c.args.v.now _ _ _ _ c.requires.2 v (old-slots _ t _ e c.at-n.ensures ∙ ap (λ (m : Volatile). m.rest.every) v)
     c.rebuild_every.ensures c.drop_all.ensures.0 (c.put_rules.ensures t e)

@@ -10,4 +10,4 @@ slice_bounds-copy_from_slice-end c = omega (arith, (said _ c.requires).long)
 pub returns : goal.returns
 returns c s e =
     rw (c.copy_from_slice.ensures.after, c.copy_from_slice-2.ensures.after)
-    (counters-are _ s _ _ _ _ e c.word_at.ensures c.word_at-2.ensures (c.rule_count.ensures.1 s e) c.word_at-3.ensures)
+    (counters-are _ s _ _ _ _ e c.at.ensures c.at-2.ensures (c.rule_count.ensures.1 s e) c.at-3.ensures)

@@ -1,11 +1,10 @@
 -- `rows::tables::table_at` meets its contract. Assumes nothing.
 use mathlib.Core.Path.{ap, sym, ◌∙◌}
-use mathlib.Core.List.{List, [], ◌∷◌, ◌++◌}
 use Prim.Native.Nat.{ℕ, ◌+◌, ◌*◌}
 use native.Mathlib.Numerals.{add-one}
 use native.Mathlib.Omega.{arith}
 use lib.ListN.{length}
-use Rattle.rows.specs.Places.{row_at, table_at}
+use Rattle.rows.specs.Places.{row_at}
 use Rattle.rows.proofs.Reading.{table_none, table_more}
 use Rattle.rows.proofs.tables.table_at.Goals as goal
 

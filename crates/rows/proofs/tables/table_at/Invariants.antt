@@ -1,6 +1,5 @@
 -- `rows::tables::table_at` meets its contract. The invariant: the first i rows are read. Assumes nothing.
 use mathlib.Core.Path.{◌≡◌}
-use Prim.Native.Nat.{◌≤◌}
 use Rattle.arrayvec.specs.ArrayVec.{array_vec_len}
 use Rattle.rows.specs.Places.{table_at}
 use Rattle.rows.proofs.tables.table_at.Given as goal

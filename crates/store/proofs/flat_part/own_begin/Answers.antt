@@ -4,4 +4,4 @@ use borrow.Author.Rules.{rules}
 use Rattle.store.proofs.flat_part.own_begin.Goals as goal
 
 pub returns : goal.returns
-returns c = (begin-at _ c.args.i _ c.word_at.ensures, search rules)
+returns c = (begin-at _ c.args.i _ c.at.ensures, search rules)

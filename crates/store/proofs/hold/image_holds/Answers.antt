@@ -27,20 +27,20 @@ returns-then-not-few_enough-clause-holds c =
 pub slice_bounds-same_flat-end-2 : goal.slice_bounds-same_flat-end-2
 slice_bounds-same_flat-end-2 c =
     let r = c.requires.0 in
-    omega (arith, (counted-set c.args.store.now r).steps, c.word_at.ensures, r.long)
+    omega (arith, (counted-set c.args.store.now r).steps, c.at.ensures, r.long)
 
 pub same_flat-requires : goal.same_flat-requires
 same_flat-requires c =
     let img = c.args.image.now in record {
       checked = checked img (sym c.refusal.ensures ∙ zero-of c.refusal.result (sym c.is_err.ensures.value ∙ c.if-is_err.false));
       rules_bound = rules-few img (sym c.few_enough.ensures ∙ not-false c.few_enough.result c.if-not-few_enough.false-raw);
-      steps_len_bound = steps-few c.args.store.now c.requires.0 _ _ c.word_at.ensures refl;
+      steps_len_bound = steps-few c.args.store.now c.requires.0 _ _ c.at.ensures refl;
     }
 
 pub returns-clause-holds : goal.returns-clause-holds
 returns-clause-holds c =
     laws.image_holds c.args.store.now c.args.image.now (sym c.refusal.ensures ∙ zero-of c.refusal.result (sym c.is_err.ensures.value ∙ c.if-is_err.false)) c.requires.0 c.requires.1
-    (sym c.few_enough.ensures ∙ not-false c.few_enough.result c.if-not-few_enough.false-raw) _ _ _ c.word_at.ensures refl c.same_flat.ensures
+    (sym c.few_enough.ensures ∙ not-false c.few_enough.result c.if-not-few_enough.false-raw) _ _ _ c.at.ensures refl c.same_flat.ensures
 
 pub returns-clause-accepted : goal.returns-clause-accepted
 returns-clause-accepted c = λ t. (laws.loads-and-kept c.args.store.now c.args.image.now _ (returns-clause-holds c) t).0

@@ -4,8 +4,8 @@ use Rattle.std.proofs.lemmas.Grind.{common_steps}
 use Rattle.store.proofs.TableRules.{unloaded-are}
 use Rattle.store.proofs.hold.unloaded_holds.Goals as goal
 
-pub returns-then-word_at-eq0-4 : goal.returns-then-word_at-eq0-4
-returns-then-word_at-eq0-4 c = grind (arith, common_steps, unloaded-are c.args.store.now c.requires.long)
+pub returns-then-at-eq0-4 : goal.returns-then-at-eq0-4
+returns-then-at-eq0-4 c = grind (arith, common_steps, unloaded-are c.args.store.now c.requires.long)
 
-pub returns-else-word_at-eq0-4 : goal.returns-else-word_at-eq0-4
-returns-else-word_at-eq0-4 c = grind (arith, common_steps, unloaded-are c.args.store.now c.requires.long)
+pub returns-else-at-eq0-4 : goal.returns-else-at-eq0-4
+returns-else-at-eq0-4 c = grind (arith, common_steps, unloaded-are c.args.store.now c.requires.long)

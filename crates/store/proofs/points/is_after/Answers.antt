@@ -3,4 +3,4 @@ use Rattle.store.proofs.StepPlaces.{after_is}
 use Rattle.store.proofs.points.is_after.Goals as goal
 
 pub returns : goal.returns
-returns c = after_is _ _ _ c.word_at.ensures
+returns c = after_is _ _ _ c.at.ensures

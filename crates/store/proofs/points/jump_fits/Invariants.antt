@@ -8,6 +8,3 @@ use Rattle.store.proofs.points.jump_fits.Given as goal
 
 abbrev pub invariant-loop-i : goal.invariant-loop-i
 invariant-loop-i l = (l.i ≤ l.place) × (jump_from 0 (steps_in l.steps) l.place ≡ jump_from l.i (drop l.i (steps_in l.steps)) (l.place - l.i))
-
-abbrev pub decreases-loop-i : goal.decreases-loop-i
-decreases-loop-i l = l.place - l.i

@@ -23,4 +23,4 @@ overflow_cast-n c =
 pub returns : goal.returns
 returns c =
     flat-put c.args.image.now c.args.s.now _ _ _ _ _ _ _ (loads c.args.image.now c.requires.1) c.requires.0 (search rules) (search rules)
-    c.flatten_rules.ensures.value c.in-Ok.is c.flatten_rules.ensures.stored refl c.put_word.ensures c.put_words.ensures
+    c.flatten_rules.ensures.value c.in-Ok.is c.flatten_rules.ensures.stored refl c.put.ensures c.put_words.ensures

@@ -7,4 +7,4 @@ pub put_image-requires : goal.put_image-requires
 put_image-requires c = (omega arith, (loads c.args.image.now c.requires.1).short)
 
 pub returns : goal.returns
-returns c = set-put _ _ _ _ c.args.image.now c.requires.0 (loads c.args.image.now c.requires.1) c.put_word.ensures c.put_image.ensures c.put_flat.ensures
+returns c = set-put _ _ _ _ c.args.image.now c.requires.0 (loads c.args.image.now c.requires.1) c.put.ensures c.put_image.ensures c.put_flat.ensures

@@ -5,4 +5,4 @@ use Rattle.store.proofs.Parts.{loaded_at}
 use Rattle.store.proofs.set.is_loaded.Goals as goal
 
 pub returns : goal.returns
-returns c = ap is_one (c.word_at.ensures ∙ sym (loaded_at c.args.store.now))
+returns c = ap is_one (c.at.ensures ∙ sym (loaded_at c.args.store.now))

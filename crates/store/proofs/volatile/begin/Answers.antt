@@ -32,8 +32,8 @@ pub put_words-requires : goal.put_words-requires
 put_words-requires c =
     (lent_fits c.args.store.now _ (c.v-3-1.given ∙ c.v-2-1.given ∙ c.v-1.given ∙ c.requires.2) variables_place (state_place + changing_words) (place_of variables_part) 0 (omega arith) (omega (arith, c.requires.0.long)) (omega arith) (omega arith)).0
 
-pub put_word-requires : goal.put_word-requires
-put_word-requires c = omega (arith, c.requires.2, c.v-4-1.given, c.v-3-1.given, c.v-2-1.given, c.v-1.given)
+pub put-requires : goal.put-requires
+put-requires c = omega (arith, c.requires.2, c.v-4-1.given, c.v-3-1.given, c.v-2-1.given, c.v-1.given)
 
 pub clear-requires : goal.clear-requires
 clear-requires c = omega (arith, c.requires.2, c.v-5-1.given, c.v-4-1.given, c.v-3-1.given, c.v-2-1.given, c.v-1.given)
@@ -41,8 +41,8 @@ clear-requires c = omega (arith, c.requires.2, c.v-5-1.given, c.v-4-1.given, c.v
 pub overflow_cast-rules : goal.overflow_cast-rules
 overflow_cast-rules c = omega (arith, c.requires.1)
 
-pub put_word-requires-2 : goal.put_word-requires-2
-put_word-requires-2 c = omega (arith, c.requires.2, c.v-6-1.given, c.v-5-1.given, c.v-4-1.given, c.v-3-1.given, c.v-2-1.given, c.v-1.given)
+pub put-requires-2 : goal.put-requires-2
+put-requires-2 c = omega (arith, c.requires.2, c.v-6-1.given, c.v-5-1.given, c.v-4-1.given, c.v-3-1.given, c.v-2-1.given, c.v-1.given)
 
 pub returns : goal.returns
 returns c =
@@ -51,7 +51,7 @@ returns c =
     c.put_first-2.ensures
     c.put_first-3.ensures
     c.put_words.ensures
-    c.word_at.ensures
-    c.put_word.ensures
+    c.at.ensures
+    c.put.ensures
     c.clear.ensures
-    c.put_word-2.ensures
+    c.put-2.ensures

@@ -3,7 +3,7 @@ use Rattle.store.proofs.KeptRows.{activation-read, no-activation}
 use Rattle.store.proofs.volatile.last_activation.Goals as goal
 
 pub returns-then-i-lt-MAX_RULES : goal.returns-then-i-lt-MAX_RULES
-returns-then-i-lt-MAX_RULES c = activation-read _ _ c.option64_at.result c.if-i-lt-MAX_RULES.true c.option64_at.ensures
+returns-then-i-lt-MAX_RULES c = activation-read _ _ c.option_at.result c.if-i-lt-MAX_RULES.true c.option_at.ensures
 
-pub returns : goal.returns
-returns c = no-activation _ _ c.if-i-lt-MAX_RULES.false
+pub returns-else-i-lt-MAX_RULES : goal.returns-else-i-lt-MAX_RULES
+returns-else-i-lt-MAX_RULES c = no-activation _ _ c.if-i-lt-MAX_RULES.false

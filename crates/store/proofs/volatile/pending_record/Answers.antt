@@ -3,9 +3,9 @@ use native.Mathlib.Omega.{arith}
 use Rattle.store.specs.Volatile.{record_in}
 use Rattle.store.proofs.volatile.pending_record.Goals as goal
 
-pub pending_at-requires : goal.pending_at-requires
-pending_at-requires c = omega arith
+pub at-requires : goal.at-requires
+at-requires c = omega arith
 
 pub returns : goal.returns
 unfolding record_in
-returns c = c.pending_at.ensures
+returns c = c.at.ensures

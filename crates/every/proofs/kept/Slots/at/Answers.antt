@@ -9,11 +9,11 @@ overflow_mul-i c = let s = c.self.inside in let h = rw (← c.self.view_is) at c
 pub overflow_add-self-inside : goal.overflow_add-self-inside
 overflow_add-self-inside c = let s = c.self.inside in let h = rw (← c.self.view_is) at c.requires in omega (arith, count s.n s.words.now s.k, c.self.invariant.0, c.self.invariant.1, h)
 
-pub slot_at-requires : goal.slot_at-requires
-slot_at-requires c = let s = c.self.inside in let h = rw (← c.self.view_is) at c.requires in omega (arith, count s.n s.words.now s.k, c.self.invariant.0, c.self.invariant.1, h)
+pub at-requires : goal.at-requires
+at-requires c = let s = c.self.inside in let h = rw (← c.self.view_is) at c.requires in omega (arith, count s.n s.words.now s.k, c.self.invariant.0, c.self.invariant.1, h)
 
 pub returns : goal.returns
 returns c =
     let s = c.self.inside in
     let h = rw (← c.self.view_is) at c.requires in
-    rw (← c.self.view_is) (c.slot_at.ensures ∙ slot_here s.n s.words.now s.k c.args.i (omega (arith, count s.n s.words.now s.k, h)))
+    rw (← c.self.view_is) (c.at.ensures ∙ slot_here s.n s.words.now s.k c.args.i (omega (arith, count s.n s.words.now s.k, h)))
