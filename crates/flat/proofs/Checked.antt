@@ -9,7 +9,7 @@ use native.Mathlib.Omega.{arith}
 use native.Mathlib.Decide.{dec_le}
 use borrow.Author.Tests.{lt-ltb, le-ltb, leb-true, ltb-true, ne_eqb}
 use lib.Dec.{leb, ltb, eqb}
-use lib.ListN.{length, take, drop, get_or, length-drop}
+use lib.ListN.{length, drop, get_or, length-drop}
 use lib.Seq.{length-take-le, get_or-take, get_or-drop}
 use Rattle.model.specs.declared.Record.{Record}
 use Rattle.model.specs.declared.Field.TheVariants.{Span, Nested}
@@ -21,7 +21,7 @@ use Rattle.model.specs.Rules.{record_in, flow_of}
 use Rattle.model.specs.Flat.{block_named, flatten_rule, flatten_rules}
 use Rattle.model.proofs.Bools as bools
 use Rattle.model.proofs.ImageLaws.{table-follows, last-first}
-use Rattle.flat.specs.Outcome.{Behind, NestedIn, BlockIn, found_in, action_in}
+use Rattle.flat.specs.Outcome.{Behind, NestedIn, BlockIn, action_in}
 use Rattle.flat.specs.Load.{Checked, CheckedTables, rule_at, rules_up_to, flatten_tables}
 
 -- A LIST OF ACTIONS, AS A RECORD HOLDS IT -------------------------------------------------------------------------------------------
@@ -62,16 +62,16 @@ module _ (r : Record) (n i : ℕ)
         | no h ↦ rw (lt-ltb r.kind 23 (omega arith)) tt
       ]
 
-found_here : (n : ℕ) (b : Bool) (r : Record) (o : Option Record) → r.a + r.b ≤ n → BlockIn n (found_in o) → BlockIn n (found_in (cond b (Some r) o))
+found_here : (n : ℕ) (b : Bool) (r : Record) (o : Option Record) → r.a + r.b ≤ n → BlockIn n o → BlockIn n (cond b (Some r) o)
 found_here n true r o x y = x
 found_here n false r o x y = y
 
 -- what is found is in the table, if each record's list is
-found_in_lem : (n : ℕ) (p : Record → Bool) (g : ℕ → Record) (i k : ℕ) → ((j : ℕ) → j < i + k → (g j).a + (g j).b ≤ n)
-    → BlockIn n (found_in (find p (map g (up_from i k))))
-found_in_lem n p g i zero h = tt
-found_in_lem n p g i (suc k) h =
-    found_here n (p (g i)) (g i) (find p (map g (up_from (suc i) k))) (h i (omega arith)) (found_in_lem n p g (suc i) k (λ j l. h j (omega arith)))
+block-in : (n : ℕ) (p : Record → Bool) (g : ℕ → Record) (i k : ℕ) → ((j : ℕ) → j < i + k → (g j).a + (g j).b ≤ n)
+    → BlockIn n (find p (map g (up_from i k)))
+block-in n p g i zero h = tt
+block-in n p g i (suc k) h =
+    found_here n (p (g i)) (g i) (find p (map g (up_from (suc i) k))) (h i (omega arith)) (block-in n p g (suc i) k (λ j l. h j (omega arith)))
 
 -- WORDS OF A TABLE ------------------------------------------------------------------------------------------------------------------
 module _ (img : List ℕ) (t width : ℕ) (wide : width_of t ≡ width) (ends : first_of img (t + 1) ≤ length img) (orders : first_of img t ≤ first_of img (t + 1)) where
@@ -157,23 +157,18 @@ module _ (img : List ℕ) (h : Checked img) where
   pub depth-limit : call_depth img ≤ 8
   depth-limit = leb-true (trailer img 1) 8 (bools.both (leb 0 (trailer img 1)) (leb (trailer img 1) 8) (limit-at 1 (omega arith))).1
 
-  pub rules-order : first_of img 0 ≤ first_of img 1
-  rules-order = table-follows img h.placed 0 (omega arith)
+  -- the tables follow each other, and end within the image
+  pub table-order : (t : ℕ) → t < 7 → first_of img t ≤ first_of img (t + 1)
+  table-order t l = table-follows img h.placed t (omega arith)
 
-  pub blocks-order : first_of img 1 ≤ first_of img 2
-  blocks-order = table-follows img h.placed 1 (omega arith)
+  ends : (k : ℕ) → k ≤ 8 → first_of img (8 - k) ≤ length img
+  ends zero l = omega (arith, last-first img, long)
+  ends (suc k) l =
+      let e : 8 - suc k + 1 ≡ 8 - k = omega arith in
+      omega (arith, rw e at (table-follows img h.placed (8 - suc k) (omega arith)), ends k (omega arith))
 
-  pub actions-order : first_of img 4 ≤ first_of img 5
-  actions-order = table-follows img h.placed 4 (omega arith)
-
-  pub actions-end : first_of img 5 ≤ length img
-  actions-end = omega (arith, table-follows img h.placed 5 (omega arith), table-follows img h.placed 6 (omega arith), table-follows img h.placed 7 (omega arith), last-first img, long)
-
-  pub blocks_end : first_of img 2 ≤ length img
-  blocks_end = omega (arith, table-follows img h.placed 2 (omega arith), table-follows img h.placed 3 (omega arith), actions-order, actions-end)
-
-  pub rules-end : first_of img 1 ≤ length img
-  rules-end = omega (arith, blocks-order, blocks_end)
+  pub table-end : (t : ℕ) → t < 7 → first_of img (t + 1) ≤ length img
+  table-end t l = let e : 8 - (7 - t) ≡ t + 1 = omega arith in rw e at (ends (7 - t) (omega arith))
 
   -- 14, at word j of record i
   led : (t i j : ℕ) → t < 8 → i < size_of img t → j < width_of t
@@ -195,13 +190,13 @@ module _ (img : List ℕ) (h : Checked img) where
   rows = table_of img rules
 
   acts-length : length acts ≡ first_of img 5 - first_of img 4
-  acts-length = table-length img actions 8 eight actions-end actions-order
+  acts-length = table-length img actions 8 eight (table-end 4 (omega arith)) (table-order 4 (omega arith))
 
   blks-length : length blks ≡ first_of img 2 - first_of img 1
-  blks-length = table-length img blocks 8 eight' blocks_end blocks-order
+  blks-length = table-length img blocks 8 eight' (table-end 1 (omega arith)) (table-order 1 (omega arith))
 
   rows-length : length rows ≡ first_of img 1 - first_of img 0
-  rows-length = table-length img rules 16 sixteen rules-end rules-order
+  rows-length = table-length img rules 16 sixteen (table-end 0 (omega arith)) (table-order 0 (omega arith))
 
   acts-size : size_of img actions ≡ length acts / 8
   unfolding size_of width_of
@@ -217,7 +212,7 @@ module _ (img : List ℕ) (h : Checked img) where
 
   module _ (i : ℕ) (l : i < length acts / 8) where
     action-word : (j : ℕ) → j < 8 → get_or acts (i * 8 + j) 0 ≡ word_at img actions i j
-    action-word j m = table-word img actions 8 eight actions-end actions-order i j (omega (arith, acts-length))
+    action-word j m = table-word img actions 8 eight (table-end 4 (omega arith)) (table-order 4 (omega arith)) i j (omega (arith, acts-length))
 
     -- the list at word j, where the kind has a nested list there
     action-list : (kind j : ℕ) → j < 7 → get_or acts (i * 8) 0 ≡ kind → ((code : ℕ) → field_of actions kind code j ≡ Nested)
@@ -237,15 +232,15 @@ module _ (img : List ℕ) (h : Checked img) where
 
   block-list : (i : ℕ) → i < length blks / 8 → get_or blks (i * 8 + 1) 0 + get_or blks (i * 8 + 2) 0 ≤ length acts / 8
   block-list i l =
-      let a = table-word img blocks 8 eight' blocks_end blocks-order i 1 (omega (arith, blks-length)) in
-      let b = table-word img blocks 8 eight' blocks_end blocks-order i 2 (omega (arith, blks-length)) in
+      let a = table-word img blocks 8 eight' (table-end 1 (omega arith)) (table-order 1 (omega arith)) i 1 (omega (arith, blks-length)) in
+      let b = table-word img blocks 8 eight' (table-end 1 (omega arith)) (table-order 1 (omega arith)) i 2 (omega (arith, blks-length)) in
       let x = led blocks i 1 (omega arith) (rw blks-size l) (rw eight' (omega arith)) in
       let y = rw (block-field (word_at img blocks i 0) (word_at img blocks i 1)) at x in
       rw (a, b, ← acts-size) (spanned img i (word_at img blocks i 1) (word_at img blocks i 2) y)
 
   module _ (i : ℕ) (l : i < length rows / 16) where
     pub rule-word : (j : ℕ) → j < 16 → get_or rows (i * 16 + j) 0 ≡ word_at img rules i j
-    rule-word j m = table-word img rules 16 sixteen rules-end rules-order i j (omega (arith, rows-length))
+    rule-word j m = table-word img rules 16 sixteen (table-end 0 (omega arith)) (table-order 0 (omega arith)) i j (omega (arith, rows-length))
 
     rule-list : get_or rows (i * 16 + 8) 0 + get_or rows (i * 16 + 9) 0 ≤ length acts / 8
     rule-list =
@@ -253,18 +248,18 @@ module _ (img : List ℕ) (h : Checked img) where
         let y = rw (rule-field (word_at img rules i 0) (word_at img rules i 1)) at x in
         rw (rule-word 8 (omega arith), rule-word 9 (omega arith), ← acts-size) (spanned img i (word_at img rules i 8) (word_at img rules i 9) y)
 
-  blocks-found : (b : ℕ) → BlockIn (length acts / 8) (found_in (block_named acts blks b))
+  blocks-found : (b : ℕ) → BlockIn (length acts / 8) (block_named acts blks b)
   unfolding block_named
-  blocks-found b = found_in_lem (length acts / 8) _ (record_in blks) 0 (length blks / 8) (λ j l. block-list j (omega arith))
+  blocks-found b = block-in (length acts / 8) _ (record_in blks) 0 (length blks / 8) (λ j l. block-list j (omega arith))
 
   pub checked-tables : CheckedTables acts blks rows (call_depth img) (repeat_limit img)
   checked-tables =
       record {
-        tables = record { few = omega (arith, acts-length, actions-end, short); nested = action-nested; found = blocks-found };
+        tables = record { few = omega (arith, acts-length, table-end 4 (omega arith), short); nested = action-nested; found = blocks-found };
         depth_le = depth-limit;
         limit-lt = repeat-limit;
-        blocks-few = omega (arith, blks-length, blocks_end, short);
-        rules-few = omega (arith, rows-length, rules-end, short);
+        blocks-few = omega (arith, blks-length, table-end 1 (omega arith), short);
+        rules-few = omega (arith, rows-length, table-end 0 (omega arith), short);
         inside = rule-list;
       }
 
@@ -276,15 +271,3 @@ module _ (img : List ℕ) (h : Checked img) where
   pub same-rules : flatten_rules img ≡ flatten_tables acts blks rows (call_depth img) (repeat_limit img)
   unfolding flatten_rules rules_up_to
   same-rules = rw rows-size (map_same (flatten_rule img) (rule_at acts blks rows (call_depth img) (repeat_limit img)) 0 (length rows / 16) (λ j l. same-rule j (omega arith)))
-
--- the parts of the image that are lent as its tables
-module _ (img : List ℕ) (h : Checked img) (acts values blks triggers rows depth limit : ℕ)
-    (ea : acts ≡ first_of img 4) (ev : values ≡ first_of img 5) (eb : blks ≡ first_of img 1) (et : triggers ≡ first_of img 2) (er : rows ≡ first_of img 0)
-    (ed : depth ≡ call_depth img) (el : limit ≡ repeat_limit img) where
-  pub parts-checked : CheckedTables (take (values - acts) (drop acts img)) (take (triggers - blks) (drop blks img)) (take (blks - rows) (drop rows img)) depth limit
-  unfolding table_of
-  parts-checked = rw (ea, ev, eb, et, er, ed, el) (checked-tables img h)
-
-  pub parts-rules : flatten_tables (take (values - acts) (drop acts img)) (take (triggers - blks) (drop blks img)) (take (blks - rows) (drop rows img)) depth limit ≡ flatten_rules img
-  unfolding table_of
-  parts-rules = rw (ea, ev, eb, et, er, ed, el) (sym (same-rules img h))

@@ -1,15 +1,13 @@
 -- The words that flattening writes are those that model's codec puts into a store: the rows of 64 lists, and the counted steps.
 use mathlib.Core.Path.{◌≡◌, refl, sym, ap, ◌∙◌}
-use mathlib.Core.Bool.{Bool, true, false, not, false≢true}
+use mathlib.Core.Bool.{Bool, true, false, not, ◌&&◌}
 use mathlib.Core.List.{List, [], ◌∷◌, ◌++◌}
-use Prim.Native.Nat.{ℕ, zero, suc, ◌+◌, ◌*◌, ◌-◌, ◌≤◌, ◌<◌}
-use native.Mathlib.Numerals.{add-one}
+use Prim.Native.Nat.{ℕ, zero, suc, ◌*◌, ◌-◌, ◌≤◌}
 use borrow.Author.Tests.{eq-eqb, eqb-true, eqb-false, not-true}
 use lib.Dec.{eqb}
-use lib.Seq.{take-suc, take_all}
-use Rattle.model.proofs.Bools as bools
+use lib.Pointwise.{pointwise}
 use native.Mathlib.Omega.{arith}
-use lib.ListN.{length, take, get_or, replicate, length-map}
+use lib.ListN.{length, replicate, length-map}
 use Rattle.model.specs.Rows.{rules}
 use Rattle.model.specs.Rules.{rule_indices}
 use Rattle.model.specs.Codec.{words_of, most}
@@ -67,27 +65,15 @@ same_self : (a : List ℕ) → same_list eqb a a ≡ true
 same_self [] = refl
 same_self (x ∷ a) = rw (eq-eqb x x refl, same_self a)
 
-same-is : (a b : List ℕ) → same_list eqb a b ≡ true → a ≡ b
-same-is [] [] e = refl
-same-is [] (y ∷ b) e = absurd (false≢true e)
-same-is (x ∷ a) [] e = absurd (false≢true e)
-same-is (x ∷ a) (y ∷ b) e =
-    let p = bools.both (eqb x y) (same_list eqb a b) e in
-    rw (eqb-true x y p.0, same-is a b p.1)
-
 pub same_true : (a b : List ℕ) → a ≡ b → same_list eqb a b ≡ true
 same_true a b e = rw e (same_self b)
 
-pub same_false : (a b : List ℕ) → (a ≡ b → ⊥) → same_list eqb a b ≡ false
-same_false a b h = by (same_list eqb a b) (λ e. absurd (h (same-is a b e))) (λ e. e)
-
--- two lists of one length agree in their first i words
-module _ (a b : List ℕ) (same : length a ≡ length b) where
-  pub agree-more : (i : ℕ) → i < length b → get_or a i 0 ≡ get_or b i 0 → take i a ≡ take i b → take (i + 1) a ≡ take (i + 1) b
-  agree-more i l e f = rw (add-one i, take-suc a i 0 (omega arith), take-suc b i 0 l, e, f)
-
-  pub agree-all : (i : ℕ) → length b ≤ i → take i a ≡ take i b → true ≡ same_list eqb a b
-  agree-all i l e = sym (same_true a b (sym (take_all i a (omega arith)) ∙ e ∙ take_all i b l))
+-- `==` of two lists of words
+pub same-words : (a b : List ℕ) → pointwise eqb a b ≡ same_list eqb a b
+same-words [] [] = refl
+same-words [] (y ∷ b) = refl
+same-words (x ∷ a) [] = refl
+same-words (x ∷ a) (y ∷ b) = ap (λ (r : Bool). eqb x y && r) (same-words a b)
 
 module _ (fs : List Flattened) (lists steps : List ℕ) where
   abbrev form_rows : List ℕ

@@ -1,5 +1,5 @@
 -- The answers of the forms, from those of their lists.
-use mathlib.Core.Path.{◌≡◌, refl, sym, ap, ◌∙◌}
+use mathlib.Core.Path.{◌≡◌, refl, sym, ap, ◌∙◌, subst}
 use mathlib.Core.Bool.{Bool, true, false, ◌&&◌}
 use mathlib.Core.List.{List, [], ◌∷◌, ◌++◌, append-nil}
 use Prim.Native.Nat.{ℕ, suc, ◌+◌, ◌*◌, ◌-◌, ◌/◌, ◌≤◌, ◌<◌}
@@ -11,7 +11,8 @@ use Rattle.model.specs.declared.FlowAction.TheVariants.{After, Repeat, Condition
 use Rattle.model.specs.declared.Step.TheVariants as step
 use Rattle.model.specs.Flat.{Row, row_of, Flattened, one_step, append, within_after, within_repeat, within_conditional, repeat_fails}
 use Rattle.flat.specs.Words.{layout}
-use Rattle.flat.specs.Outcome.{Put, Behinds, holds_at, Copied, Behind, Start, Wrote, list_at, form_at}
+use Rattle.flat.specs.Outcome.{Put, Behinds, holds_at, Copied, Behind, Wrote, list_at, form_at}
+use Rattle.flat.proofs.Starts.{Begun}
 use Rattle.flat.proofs.Definition.{copies-stop, after-no, after-yes, branch_no, branch_yes, repeat-no, repeat-yes, repeats-some}
 use Rattle.flat.proofs.Lengths.{list_length, none_within}
 use Rattle.flat.proofs.Rows.{behinds-from, put-behinds, put-before, whole_length, front_kept, tail-behinds}
@@ -24,7 +25,7 @@ no_more seen m s s1 r rows rs e h k =
     k
     ∙ ap (λ (b : Bool). b && holds_at seen m rs) (h ∙ ap (λ (x : List Row). s && holds_at seen m x) e ∙ sym (agrees-none seen m s))
 
-module _ {acts blocks calls : List ℕ} {scratch d : ℕ} {c : FlattenCtx} {n m a : ℕ} (start : Start acts blocks calls scratch d c n m a) where
+module _ {acts blocks calls : List ℕ} {scratch d : ℕ} {c : FlattenCtx} {n m a : ℕ} (start : Begun acts blocks calls scratch d c n m a) where
   failed : {f : Flattened} {same : Bool} {seen list bodies l : List ℕ} → f ≡ one_step step.Fail → Put list n (4 ∷ 0 ∷ 0 ∷ 0 ∷ []) l
       → Wrote 257 257 f n m a same seen list bodies l bodies (n + 1) m a same
   failed e p = rw e (wrote_one step.Fail (omega arith) p)
@@ -51,7 +52,7 @@ module _ {acts blocks calls : List ℕ} {scratch d : ℕ} {c : FlattenCtx} {n m 
         body-fits = omega (arith, w.counted, list_length acts blocks d first count (within_after c) m, start.depth_le, start.room h)
 
         pub after-wrote : {r : Bool} {list b2 l : List ℕ} → length x ≡ scratch → length b1 ≡ length bodies → Put list n (3 ∷ ms ∷ m ∷ size ∷ []) l
-            → ((rs : List Row) → take (size * 4) x1 ≡ layout rs → Behinds b1 m rs b2 (m + size) × (r ≡ same1 && holds_at seen m rs))
+            → ((rs : List Row) → take (size * 4) x1 ≡ layout rs → Behinds b1 m rs b2 (m + length rs) × (r ≡ same1 && holds_at seen m rs))
             → take (m * 4) b2 ≡ take (m * 4) b1 → Wrote 257 257 after n m a same seen list bodies l b2 (n + 1) (m + size) left r
         after-wrote {r} {list} {b2} {l} ex eb p append kept =
             let q : size ≡ length body.rows = omega (arith, w.counted, w.rows) in
@@ -64,7 +65,7 @@ module _ {acts blocks calls : List ℕ} {scratch d : ℕ} {c : FlattenCtx} {n m 
               stored = omega arith;
               taken = w.taken;
               listed = put-behinds list l n (row_of (step.After ms) m (length body.rows)) (rw (← q) p);
-              bodied = behinds-from bodies b1 b2 m (m + size) body.rows eb w.kept appended.0;
+              bodied = behinds-from bodies b1 b2 m (m + size) body.rows eb w.kept (subst (λ j. Behinds b1 m body.rows b2 (m + j)) (sym q) appended.0);
               kept = kept ∙ w.kept;
               agrees = no_more seen m same same1 r body.bodies body.rows (none_within acts blocks d first count c 0 m) w.agrees appended.1;
               few = omega (arith, w.taken);

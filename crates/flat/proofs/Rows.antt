@@ -10,7 +10,7 @@ use borrow.Rule.Slice.PartMut.{mid_of, put_mid, mid_len, same_len_mid}
 use Rattle.model.specs.Flat.{Row}
 use Rattle.flat.specs.Words.{row_words, layout}
 use Rattle.flat.specs.Outcome.{Put, Behinds}
-use Rattle.flat.proofs.Words.{layout-append}
+use Rattle.flat.proofs.Words.{layout-append, layout-length}
 
 pub behinds-none : (l : List ℕ) (n : ℕ) → Behinds l n [] l n
 behinds-none l n h = sym (append-nil (take (n * 4) l))
@@ -77,6 +77,11 @@ pub paste-behinds : (l l1 s : List ℕ) (n size : ℕ) (rs : List Row) → size 
 paste-behinds l l1 s n size rs h e p g =
     let z : (n + size) * 4 ≡ n * 4 + size * 4 = omega arith in
     rw (p (omega arith), z) (take-paste l (n * 4) s (size * 4) (omega arith) h ∙ ap (λ (w : List ℕ). take (n * 4) l ++ w) e)
+
+pub rows-behind : (l l1 s : List ℕ) (n : ℕ) (rs : List Row) → s ≡ layout rs → (n * 4 + length s ≤ length l → l1 ≡ paste l (n * 4) s (length s)) → Behinds l n rs l1 (n + length rs)
+rows-behind l l1 s n rs e p =
+    let z : length s ≡ length rs * 4 = ap length e ∙ layout-length rs in
+    paste-behinds l l1 s n (length rs) rs (omega arith) (take_all (length rs * 4) s (omega arith) ∙ e) (rw z at p)
 
 -- A TAIL THAT WAS LENT ----------------------------------------------------------------------------------------------------------------
 -- the tail of w from `at` on was lent, and came back as v

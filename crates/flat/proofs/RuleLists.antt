@@ -23,7 +23,7 @@ use Rattle.std.specs.Prelude.{Ok, Err}
 use Rattle.model.specs.declared.Refusal.{Refusal}
 use Rattle.model.specs.declared.Refusal.TheVariants.{FlatSteps}
 use Rattle.flat.specs.Words.{layout, same_at}
-use Rattle.flat.specs.Outcome.{Resolved, Start, Behinds, holds_at, Wrote, list_at}
+use Rattle.flat.specs.Outcome.{Start, Behinds, holds_at, Wrote}
 use Rattle.flat.specs.Load.{stored, step_part, list_part, loaded, RuleWrote, EachWrote, MadeOf, CheckedTables, rule_context, rule_at, rules_up_to, flatten_tables}
 use Rattle.flat.proofs.Words.{layout-append, and_assoc, same_none, same-rows-append, same_drop, tail_of, tail-drop}
 use Rattle.flat.proofs.Rows.{whole_length, tail-behinds}
@@ -109,14 +109,10 @@ two-set w k a b h =
     ∙ append_assoc (take (k * 2) w) (a ∷ []) (b ∷ []))
 
 -- ONE RULE --------------------------------------------------------------------------------------------------------------------------
-module _ (acts blocks rules calls : List ℕ) (d limit k left first count : ℕ) (h : CheckedTables acts blocks rules d limit) where
-  pub rule-start : (scratch : ℕ) → Resolved acts blocks calls (length acts / 8) → length acts / 8 ≤ length calls → 1072 ≤ scratch → left ≤ 65536
-      → Start acts blocks calls scratch d (rule_context limit) 0 0 left
-  rule-start scratch r l s a =
+module _ (acts blocks rules : List ℕ) (d limit k left : ℕ) (h : CheckedTables acts blocks rules d limit) where
+  pub rule-start : (scratch : ℕ) → 1072 ≤ scratch → left ≤ 65536 → Start scratch d (rule_context limit) 0 0 left
+  rule-start scratch s a =
       record {
-        tables = h.tables;
-        resolved = r;
-        calls-long = l;
         depth_le = h.depth_le;
         room = λ e. s;
         limit-lt = h.limit-lt;
@@ -125,16 +121,8 @@ module _ (acts blocks rules calls : List ℕ) (d limit k left first count : ℕ)
         stored-le = omega arith;
       }
 
-  -- words 8 and 9 of rule k
-  module _ (e : first ≡ get_or rules (k * 16 + 8) 0) (g : count ≡ get_or rules (k * 16 + 9) 0) where
-    pub rule-inside : k < length rules / 16 → first + count ≤ length acts / 8
-    rule-inside l = rw (e, g) (h.inside k l)
-
-    pub rule-is : list_at acts blocks d first count (rule_context limit) 0 0 ≡ rule_at acts blocks rules d limit k
-    rule-is = rw (e, g)
-
-  pub rule-short : length (list_at acts blocks d first count (rule_context limit) 0 0).steps ≤ 268
-  rule-short = omega (arith, list_length acts blocks d first count (rule_context limit) 0, h.depth_le)
+  pub rule-short : length (rule_at acts blocks rules d limit k).steps ≤ 268
+  rule-short = omega (arith, list_length acts blocks d (get_or rules (k * 16 + 8) 0) (get_or rules (k * 16 + 9) 0) (rule_context limit) 0, h.depth_le)
 
 -- its bodies were written, and its own list behind them
 module _ (f : Flattened) (allowed : ℕ) (same : Bool) (seen own₀ words₀ own words : List ℕ) (n m left : ℕ) (s : Bool)
@@ -145,7 +133,7 @@ module _ (f : Flattened) (allowed : ℕ) (same : Bool) (seen own₀ words₀ own
       (omega (arith, h.few'), omega arith, omega arith)
 
   pub rule-wrote : (words' : List ℕ) (r : Bool) → 1072 ≤ length own₀ → length words ≡ length words₀ → length words' ≡ length words
-      → ((rs : List Row) → take (n * 4) own ≡ layout rs → Behinds words m rs words' (m + n) × (r ≡ s && holds_at seen m rs))
+      → ((rs : List Row) → take (n * 4) own ≡ layout rs → Behinds words m rs words' (m + length rs) × (r ≡ s && holds_at seen m rs))
       → RuleWrote f allowed same seen words' n m left r
   rule-wrote words' r l e e' g =
       let u : n ≡ length f.rows = omega (arith, h.counted, h.rows) in
@@ -158,7 +146,7 @@ module _ (f : Flattened) (allowed : ℕ) (same : Bool) (seen own₀ words₀ own
         short = v;
         stored = omega (arith, z);
         taken = h.taken;
-        written = λ k. b.0 (omega arith) ∙ ap (λ (x : List ℕ). x ++ layout f.rows) (h.bodied (omega arith)) ∙ sym (layout-append f.bodies f.rows);
+        written = λ k. rw u (b.0 (omega arith)) ∙ ap (λ (x : List ℕ). x ++ layout f.rows) (h.bodied (omega arith)) ∙ sym (layout-append f.bodies f.rows);
         agrees =
             b.1 ∙ ap (λ (x : Bool). x && holds_at seen m f.rows) h.agrees ∙ and_assoc same (holds_at seen 0 f.bodies) (holds_at seen m f.rows)
             ∙ ap (λ (j : ℕ). same && (holds_at seen 0 f.bodies && holds_at seen j f.rows)) z
@@ -167,7 +155,7 @@ module _ (f : Flattened) (allowed : ℕ) (same : Bool) (seen own₀ words₀ own
       }
 
 -- the tail behind `size` steps, empty if there are not so many, is compared
-same-tail : (seen : List ℕ) (k size : ℕ) (w : List ℕ) → Placed size (length seen) k → same_at (tail_of seen k) 0 w ≡ same_at seen (size * 4) w
+pub same-tail : (seen : List ℕ) (k size : ℕ) (w : List ℕ) → Placed size (length seen) k → same_at (tail_of seen k) 0 w ≡ same_at seen (size * 4) w
 same-tail seen k size w p =
     ap (λ (l : List ℕ). same_at l 0 w) (tail-drop seen k ∙ drop-placed seen size k p) ∙ same_drop seen (size * 4) 0 w
     ∙ ap (λ (j : ℕ). same_at seen j w) (add-zero (size * 4))

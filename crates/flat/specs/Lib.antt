@@ -2,3 +2,4 @@ pub mod Words
 pub mod Outcome
 pub mod Load
 pub mod OpenLists
+pub mod Facts

@@ -1,6 +1,8 @@
 -- What the functions of flattening require and ensure.
 use Rattle.std.specs.Prelude.{◌≡◌, Bool, false, ◌&&◌, List, [], ◌++◌, ℕ, zero, suc, ◌+◌, ◌*◌, ◌/◌, ◌≤◌, ◌<◌, length, take, drop, get_or}
-use Rattle.std.specs.Prelude.{Option, None, Some}
+use Rattle.std.specs.Prelude.{Option, None, Some, Result, Ok, Err}
+use Rattle.model.specs.declared.Refusal.{Refusal}
+use Rattle.model.specs.declared.Refusal.TheVariants.{FlatSteps}
 use Rattle.model.specs.declared.Record.{Record}
 use Rattle.model.specs.declared.FlowAction.{FlowAction}
 use Rattle.model.specs.declared.FlowAction.TheVariants.{Wait, After, Call, Repeat, Conditional, Plain}
@@ -8,10 +10,7 @@ use Rattle.model.specs.declared.FlattenCtx.{FlattenCtx}
 use Rattle.model.specs.Rules.{record_in, flow_of}
 use Rattle.model.specs.Flat.{Row, Flattened, Flattening, copies, flatten_list, flatten_action, flatten_call, flattenings, block_named}
 use Rattle.flat.specs.Words.{layout, same_at}
-use Rattle.flat.specs.declared.Found.{Found}
-use Rattle.flat.specs.declared.Found.TheVariants.{Block, Nothing}
-use Rattle.flat.specs.declared.Answer.{Answer}
-use Rattle.flat.specs.declared.Answer.TheVariants.{Refused, Done}
+use Rattle.flat.specs.declared.Progress.{Progress}
 
 -- PARTS OF THE ACTION TABLE ---------------------------------------------------------------------------------------------------------
 -- the action in record i
@@ -28,24 +27,19 @@ form_at acts blocks d i = flatten_action (flatten_call acts blocks d) i (drop (s
 abbrev pub action_at : List ℕ → List ℕ → ℕ → ℕ → Flattening
 action_at acts blocks d i = form_at acts blocks d i (action_in acts i)
 
--- a block's list of actions, as the code says it: first record and count
-abbrev pub found_in : Option Record → Found
-found_in None = Nothing
-found_in (Some r) = Block r.a r.b
-
 -- what the block table gives, where 0 stands for no block and k + 1 for block k
-unfoldable pub block_at : List ℕ → ℕ → Found
-block_at blocks zero = Nothing
-block_at blocks (suc k) = Block (record_in blocks k).a (record_in blocks k).b
+unfoldable pub block_at : List ℕ → ℕ → Option Record
+block_at blocks zero = None
+block_at blocks (suc k) = Some (record_in blocks k)
 
 -- the block that the call in record i names; none where no call stands there
-abbrev pub called_in : List ℕ → FlowAction → Found
-called_in blocks (Wait ms) = Nothing
-called_in blocks (After ms f k) = Nothing
-called_in blocks (Call b) = found_in (block_named [] blocks b)
-called_in blocks (Repeat t f k) = Nothing
-called_in blocks (Conditional q yf yk ef ek) = Nothing
-called_in blocks Plain = Nothing
+abbrev pub called_in : List ℕ → FlowAction → Option Record
+called_in blocks (Wait ms) = None
+called_in blocks (After ms f k) = None
+called_in blocks (Call b) = block_named [] blocks b
+called_in blocks (Repeat t f k) = None
+called_in blocks (Conditional q yf yk ef ek) = None
+called_in blocks Plain = None
 
 -- `calls` says of each of n action records which block it calls: looked up once for an image
 unfoldable pub Resolved : List ℕ → List ℕ → List ℕ → ℕ → Type 0
@@ -60,6 +54,10 @@ Put list n w after = n * 4 + 4 ≤ length list → after ≡ take (n * 4) list +
 -- behind n steps stand these rows
 abbrev pub Behinds : List ℕ → ℕ → List Row → List ℕ → ℕ → Type 0
 Behinds list n rows after n' = n' * 4 ≤ length list → take (n' * 4) after ≡ take (n * 4) list ++ layout rows
+
+-- one step more in the list
+abbrev pub one_more : Progress → Progress
+one_more p = record { n = p.n + 1; m = p.m; left = p.left; same = p.same }
 
 -- these rows stand in `seen` behind m steps
 abbrev pub holds_at : List ℕ → ℕ → List Row → Bool
@@ -79,22 +77,18 @@ NestedIn n i (Repeat t f k) = Behind n i f k
 NestedIn n i (Conditional q yf yk ef ek) = Behind n i yf yk × Behind n i ef ek
 NestedIn n i Plain = Unit {0}
 
-abbrev pub BlockIn : ℕ → Found → Type 0
-BlockIn n (Block f k) = f + k ≤ n
-BlockIn n Nothing = Unit {0}
+abbrev pub BlockIn : ℕ → Option Record → Type 0
+BlockIn n (Some r) = r.a + r.b ≤ n
+BlockIn n None = Unit {0}
 
 -- what load has checked (refusals 10 and 14)
 pub record Tables (acts blocks : List ℕ) : Type 0 where
   pub few : length acts ≤ 4096
   pub nested : (i : ℕ) → i < length acts / 8 → NestedIn (length acts / 8) i (action_in acts i)
-  pub found : (b : ℕ) → BlockIn (length acts / 8) (found_in (block_named acts blocks b))
+  pub found : (b : ℕ) → BlockIn (length acts / 8) (block_named acts blocks b)
 
--- what each function of the cycle requires: the tables are checked, the calls looked up, the numbers small enough, and an after's body
--- has room: no list passes 256 + 8 + 4 steps
-pub record Start (acts blocks calls : List ℕ) (scratch d : ℕ) (ctx : FlattenCtx) (n m allowed : ℕ) : Type 0 where
-  pub tables : Tables acts blocks
-  pub resolved : Resolved acts blocks calls (length acts / 8)
-  pub calls-long : length acts / 8 ≤ length calls
+-- what each function of the cycle requires: the numbers are small enough, and an after's body has room: no list passes 256 + 8 + 4 steps
+pub record Start (scratch d : ℕ) (ctx : FlattenCtx) (n m allowed : ℕ) : Type 0 where
   pub depth_le : d ≤ 8
   pub room : ctx.in_after ≡ false → 1072 ≤ scratch
   pub limit-lt : ctx.limit < 256
@@ -118,15 +112,15 @@ pub record Wrote (e e' : ℕ) (f : Flattened) (n m allowed : ℕ) (same : Bool) 
   pub few : n' + 257 * left ≤ n + 257 * allowed + e
   pub few' : m' + 257 * left ≤ m + 257 * allowed + e'
 
-abbrev pub Outcome : ℕ → ℕ → Flattened → ℕ → ℕ → ℕ → Bool → List ℕ → List ℕ → List ℕ → List ℕ → List ℕ → Answer → Type 0
-Outcome e e' f n m allowed same seen list bodies list' bodies' Refused = allowed < f.taken
-Outcome e e' f n m allowed same seen list bodies list' bodies' (Done n' m' left same') = Wrote e e' f n m allowed same seen list bodies list' bodies' n' m' left same'
+abbrev pub Outcome : ℕ → ℕ → Flattened → ℕ → ℕ → ℕ → Bool → List ℕ → List ℕ → List ℕ → List ℕ → List ℕ → Result Progress Refusal → Type 0
+Outcome e e' f n m allowed same seen list bodies list' bodies' (Err refusal) = (refusal ≡ FlatSteps) × (allowed < f.taken)
+Outcome e e' f n m allowed same seen list bodies list' bodies' (Ok p) = Wrote e e' f n m allowed same seen list bodies list' bodies' p.n p.m p.left p.same
 
 -- of a list, and of an action, which has been counted by the list around it
-abbrev pub ListOut : Flattened → ℕ → ℕ → ℕ → Bool → List ℕ → List ℕ → List ℕ → List ℕ → List ℕ → Answer → Type 0
+abbrev pub ListOut : Flattened → ℕ → ℕ → ℕ → Bool → List ℕ → List ℕ → List ℕ → List ℕ → List ℕ → Result Progress Refusal → Type 0
 ListOut = Outcome 1 0
 
-abbrev pub ActOut : Flattened → ℕ → ℕ → ℕ → Bool → List ℕ → List ℕ → List ℕ → List ℕ → List ℕ → Answer → Type 0
+abbrev pub ActOut : Flattened → ℕ → ℕ → ℕ → Bool → List ℕ → List ℕ → List ℕ → List ℕ → List ℕ → Result Progress Refusal → Type 0
 ActOut = Outcome 257 257
 
 -- the copies of a repeat's body, whose first copy stands behind the n steps that `list` has

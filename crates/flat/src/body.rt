@@ -2,7 +2,6 @@
 ghost use Rattle.std.specs.Prelude.{◌≡◌, ◌+◌, ◌*◌, ◌<◌};
 ghost use Rattle.flat.specs.Words.{body_words, list_words};
 
-use crate::records::wide;
 use crate::steps::place;
 
 // The body of the after in row i of a rule's part of the flat steps: the part of its words that holds it.
@@ -10,14 +9,11 @@ pub fn after_body(part: &[u32], i: usize) -> &[u32]
     ensures { result.now ≡ body_words part.now i }
 {
     let len = part.len();
-    if len / 4 <= i {
+    if len / 4 <= i || part[i * 4] != 3 {
         return &part[len..];
     }
-    if part[i * 4] != 3 {
-        return &part[len..];
-    }
-    let from = place(wide(part[i * 4 + 2]), len);
-    let size = place(wide(part[i * 4 + 3]), len - from);
+    let from = place(part[i * 4 + 2] as usize, len);
+    let size = place(part[i * 4 + 3] as usize, len - from);
     &part[from..from + size]
 }
 

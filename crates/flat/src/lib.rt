@@ -9,31 +9,41 @@ mod records;
 pub mod rules;
 mod steps;
 
+ghost use Rattle.std.specs.Prelude.{◌/◌, ◌≤◌, length};
+ghost use Rattle.flat.specs.Outcome.{Resolved};
+ghost use Rattle.flat.specs.Load.{CheckedTables};
+ghost use Rattle.flat.specs.Facts.{checked-prop, resolved-prop};
+
 use model::FlattenCtx;
 
-// What looking a block up finds: its first record and its count.
+// What flattening reads: the tables of a checked image, which block each action calls, the call depth and the repeat limit.
 #[derive(Clone, Copy)]
-pub enum Found {
-    Block(u32, u32),
-    Nothing,
+pub struct Source<'a> {
+    pub acts: &'a [u32],
+    pub blocks: &'a [u32],
+    pub rules: &'a [u32],
+    pub calls: &'a [u16],
+    pub depth: usize,
+    pub limit: u32,
+
+    ghost checked: { CheckedTables acts.now blocks.now rules.now depth limit } by { checked-prop _ _ _ _ _ },
+    ghost resolved: { Resolved acts.now blocks.now calls.now (length acts.now / 8) } by { resolved-prop _ _ _ _ },
+    ghost calls_len: { length acts.now / 8 ≤ length calls.now },
 }
 
-// What flattening goes by: the calls left, the context, how many steps the list has and how many the bodies, how many more actions may be
-// taken, and whether the bodies so far are those to be compared.
+// Where actions stand: the calls left, and what is around them.
 #[derive(Clone, Copy)]
-pub struct Progress {
+pub struct Around {
     pub depth: usize,
     pub ctx: FlattenCtx,
+}
+
+// How far flattening is: how many steps the list has and how many the bodies, how many more actions may be taken, and whether the bodies so
+// far are those to be compared.
+#[derive(Clone, Copy)]
+pub struct Progress {
     pub n: usize,
     pub m: usize,
     pub left: usize,
     pub same: bool,
-}
-
-// Refused: more actions were taken than the caller allowed. Done: how many steps the list has now, how many the bodies, how many more
-// actions may be taken, and whether the bodies are those to be compared.
-#[derive(Clone, Copy)]
-pub enum Answer {
-    Refused,
-    Done(usize, usize, usize, bool),
 }

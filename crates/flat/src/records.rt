@@ -2,16 +2,9 @@
 ghost use Rattle.std.specs.Prelude.{◌≡◌, [], ◌+◌, ◌*◌, ◌/◌, ◌≤◌, ◌<◌, length, get_or};
 ghost use Rattle.model.specs.Rules.{record_in, flow_of};
 ghost use Rattle.model.specs.Flat.{block_named};
-ghost use Rattle.flat.specs.Outcome.{action_in, found_in, block_at, called_in, Resolved};
+ghost use Rattle.flat.specs.Outcome.{action_in, block_at, called_in, Resolved};
 
-use crate::Found;
 use model::{FlowAction, Record};
-
-pub fn wide(x: u32) -> usize
-    ensures { result ≡ x }
-{
-    x as usize
-}
 
 // The first six words of record i.
 pub fn read_record(t: &[u32], i: usize) -> Record
@@ -33,36 +26,28 @@ pub fn read_record(t: &[u32], i: usize) -> Record
 pub fn flow_action(r: Record) -> FlowAction
     ensures { result ≡ flow_of r }
 {
-    if r.kind == 23 {
-        return FlowAction::Wait { duration_ms: r.a };
-    }
-    if r.kind == 24 {
-        return FlowAction::After {
+    match r.kind {
+        23 => FlowAction::Wait { duration_ms: r.a },
+        24 => FlowAction::After {
             delay_ms: r.a,
             first: r.b,
             count: r.c,
-        };
-    }
-    if r.kind == 25 {
-        return FlowAction::Call { block: r.a };
-    }
-    if r.kind == 26 {
-        return FlowAction::Repeat {
+        },
+        25 => FlowAction::Call { block: r.a },
+        26 => FlowAction::Repeat {
             times: r.a,
             first: r.b,
             count: r.c,
-        };
-    }
-    if r.kind == 27 {
-        return FlowAction::Conditional {
+        },
+        27 => FlowAction::Conditional {
             condition: r.a,
             then_first: r.b,
             then_count: r.c,
             else_first: r.d,
             else_count: r.e,
-        };
+        },
+        _ => FlowAction::Plain,
     }
-    FlowAction::Plain
 }
 
 pub fn read_action(acts: &[u32], i: usize) -> FlowAction
@@ -73,25 +58,22 @@ pub fn read_action(acts: &[u32], i: usize) -> FlowAction
 }
 
 // Which block has this name: 0 for none, k + 1 for block k. "Of two blocks of one name the first counts."
-fn find_block(blocks: &[u32], name: u32) -> u32
+// kept: a number, and no Option, as 512 of them stand on the stack: an Option<u16> takes twice the room.
+fn find_block(blocks: &[u32], name: u32) -> u16
     requires { length blocks.now ≤ 4096 }
-    ensures result_value { block_at blocks.now result ≡ found_in (block_named [] blocks.now name) }
+    ensures result_value { block_at blocks.now result ≡ block_named [] blocks.now name }
     ensures upper_bound { result ≤ length blocks.now / 8 }
 {
-    let n = blocks.len() / 8;
-    let mut i = 0;
-    while i < n {
-        let r = read_record(blocks, i);
-        i += 1;
-        if r.kind == name {
-            return i as u32;
+    for i in 0..blocks.len() / 8 {
+        if read_record(blocks, i).kind == name {
+            return i as u16 + 1;
         }
     }
     0
 }
 
 // Which block the action in record i calls.
-fn find_called(acts: &[u32], blocks: &[u32], i: usize) -> u32
+fn find_called(acts: &[u32], blocks: &[u32], i: usize) -> u16
     requires { (i < length acts.now / 8) × (length blocks.now ≤ 4096) }
     ensures result_value { block_at blocks.now result ≡ called_in blocks.now (action_in acts.now i) }
     ensures upper_bound { result ≤ length blocks.now / 8 }
@@ -107,23 +89,19 @@ pub fn find_calls(acts: &[u32], blocks: &[u32], calls: &mut [u16])
     requires { (length acts.now / 8 ≤ length calls.old) × (length blocks.now ≤ 4096) }
     ensures { Resolved acts.now blocks.now calls.new (length acts.now / 8) }
 {
-    let n = acts.len() / 8;
-    let mut i = 0;
-    while i < n {
-        calls[i] = find_called(acts, blocks, i) as u16;
-        i += 1;
+    for i in 0..acts.len() / 8 {
+        calls[i] = find_called(acts, blocks, i);
     }
 }
 
 // The block that the action in record i calls.
-pub fn called_block(blocks: &[u32], calls: &[u16], i: usize) -> Found
+pub fn called_block(blocks: &[u32], calls: &[u16], i: usize) -> Option<Record>
     requires { (i < length calls.now) × (get_or calls.now i 0 ≤ length blocks.now / 8) }
     ensures { result ≡ block_at blocks.now (get_or calls.now i 0) }
 {
     let k = calls[i] as usize;
     if k == 0 {
-        return Found::Nothing;
+        return None;
     }
-    let r = read_record(blocks, k - 1);
-    Found::Block(r.a, r.b)
+    Some(read_record(blocks, k - 1))
 }

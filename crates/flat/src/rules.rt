@@ -1,16 +1,14 @@
 // Flattening all rules of an image: document 01, refusal 16, and the flat part of a store.
-ghost use Rattle.std.specs.Prelude.{◌≡◌, [], ◌∷◌, ◌++◌, ◌+◌, ◌*◌, ◌/◌, ◌≤◌, ◌<◌, length, take, eqb};
-ghost use Rattle.model.specs.Image.{trailer as trailerIn, first_of, size_of};
+ghost use Rattle.std.specs.Prelude.{◌≡◌, [], ◌∷◌, ◌++◌, ◌+◌, ◌*◌, ◌/◌, ◌≤◌, ◌<◌, length, take};
+ghost use Rattle.model.specs.Image.{trailer as trailerIn, first_of, size_of, table_of};
 ghost use Rattle.model.specs.Flat.{flatten_rules};
 ghost use Rattle.model.specs.Rows.{rules};
-ghost use Rattle.model.specs.Store.{same_list};
-ghost use Rattle.flat.specs.Outcome.{Resolved};
-ghost use Rattle.flat.specs.Load.{RuleOut, EachOut, rule_at, Checked, CheckedTables, Loading, Stored, flatten_tables, loaded, same_flat};
+ghost use Rattle.flat.specs.Load.{RuleOut, EachOut, rule_at, Checked, Loading, Stored, flatten_tables, loaded, same_flat};
 
 use crate::cycle::flatten_list;
-use crate::records::{find_calls, wide};
+use crate::records::find_calls;
 use crate::steps::{append_steps, clear, place};
-use crate::{Answer, Progress};
+use crate::{Around, Progress, Source};
 use model::{FlattenCtx, Refusal};
 
 // The row of list k: where it begins, and how many steps it has; written if there is room.
@@ -35,99 +33,72 @@ fn rows_end(n: usize, len: usize) -> usize
 // The part of rule k, whose list is said by words 8 and 9 of its 16: the bodies of its afters go to the front of the words, its own list
 // behind them; `own` and `body` are for lists under way.
 fn flatten_rule(
-    acts: &[u32],
-    blocks: &[u32],
-    rules: &[u32],
-    calls: &[u16],
+    t: &Source,
     own: &mut [u32],
     body: &mut [u32],
     words: &mut [u32],
     seen: &[u32],
     k: usize,
-    depth: usize,
-    limit: u32,
     left: usize,
     same: bool,
-) -> Answer
-    requires checked_tables { CheckedTables acts.now blocks.now rules.now depth limit }
-    requires resolved { Resolved acts.now blocks.now calls.now (length acts.now / 8) × (length acts.now / 8 ≤ length calls.now) }
-    requires in_bounds { (1072 ≤ length own.old) × (1072 ≤ length body.old) × (k < length rules.now / 16) × (left ≤ 65536) }
-    ensures { RuleOut (rule_at acts.now blocks.now rules.now depth limit k) left same seen.now words.new result }
+) -> Result<Progress, Refusal>
+    requires in_bounds { (1072 ≤ length own.old) × (1072 ≤ length body.old) × (k < length t.now.rules.now / 16) × (left ≤ 65536) }
+    ensures { RuleOut (rule_at t.now.acts.now t.now.blocks.now t.now.rules.now t.now.depth t.now.limit k) left same seen.now words.new result }
 {
-    let first = wide(rules[k * 16 + 8]);
-    let count = wide(rules[k * 16 + 9]);
-    let ctx = FlattenCtx {
-        limit,
-        in_repeat: false,
-        in_conditional: false,
-        in_after: false,
+    let first = t.rules[k * 16 + 8] as usize;
+    let count = t.rules[k * 16 + 9] as usize;
+    let at = Around {
+        depth: t.depth,
+        ctx: FlattenCtx {
+            limit: t.limit,
+            in_repeat: false,
+            in_conditional: false,
+            in_after: false,
+        },
     };
     let p = Progress {
-        depth,
-        ctx,
         n: 0,
         m: 0,
         left,
         same,
     };
-    let Answer::Done(n, m, l, s) = flatten_list(
-        acts, blocks, calls, own, body, words, seen, first, count, p,
-    ) else {
-        return Answer::Refused;
-    };
-    let agrees = append_steps(words, seen, m, own, n, s);
-    Answer::Done(n, m, l, agrees)
+    let q = flatten_list(t, own, body, words, seen, first, count, at, p)?;
+    let agrees = append_steps(words, seen, q.m, &own[..q.n * 4], q.same);
+    Ok(Progress { same: agrees, ..q })
 }
 
 // The parts of all rules, one behind the other in `words`, and their rows in `lists`.
 fn flatten_each(
-    acts: &[u32],
-    blocks: &[u32],
-    rules: &[u32],
-    calls: &[u16],
+    t: &Source,
     own: &mut [u32],
     body: &mut [u32],
     words: &mut [u32],
     lists: &mut [u32],
     seen: &[u32],
-    depth: usize,
-    limit: u32,
 ) -> Result<(usize, bool), Refusal>
-    requires checked_tables { CheckedTables acts.now blocks.now rules.now depth limit }
-    requires resolved { Resolved acts.now blocks.now calls.now (length acts.now / 8) × (length acts.now / 8 ≤ length calls.now) }
     requires in_bounds { (1072 ≤ length own.old) × (1072 ≤ length body.old) × (length words.old ≤ 8192) × (length seen.now ≤ 8192) }
-    ensures { EachOut (flatten_tables acts.now blocks.now rules.now depth limit) seen.now words.new lists.new result }
+    ensures { EachOut (flatten_tables t.now.acts.now t.now.blocks.now t.now.rules.now t.now.depth t.now.limit) seen.now words.new lists.new result }
 {
-    let n = rules.len() / 16;
-    let mut k: usize = 0;
     let mut size: usize = 0;
     let mut left: usize = 65536;
     let mut same = true;
-    while k < n {
+    for k in 0..t.rules.len() / 16 {
         let at = place(size, words.len());
         let behind = place(size, seen.len());
-        let Answer::Done(listed, stored, l, s) = flatten_rule(
-            acts,
-            blocks,
-            rules,
-            calls,
+        let p = flatten_rule(
+            t,
             own,
             body,
             &mut words[at..],
             &seen[behind..],
             k,
-            depth,
-            limit,
             left,
             same,
-        ) else {
-            return Err(Refusal::FlatSteps);
-        };
-        put_list(lists, k, (size + stored) as u32, listed as u32);
-        size += stored + listed;
-        left = l;
-        same = s;
-        k += 1;
+        )?;
+        put_list(lists, k, (size + p.m) as u32, p.n as u32);
+        size += p.m + p.n;
+        left = p.left;
+        same = p.same;
     }
     if 2048 < size {
         return Err(Refusal::FlatSteps);
@@ -137,34 +108,26 @@ fn flatten_each(
 
 // The flat part of the set of these tables: its steps in `words`, the rows of its lists in `lists`, and 0 behind each.
 fn flatten_tables(
-    acts: &[u32],
-    blocks: &[u32],
-    rules: &[u32],
+    t: &Source,
     words: &mut [u32],
     lists: &mut [u32],
     seen: &[u32],
-    depth: usize,
-    limit: u32,
 ) -> Result<(usize, bool), Refusal>
-    requires checked_tables { CheckedTables acts.now blocks.now rules.now depth limit }
     requires words_len_bound { (length words.old ≤ 8192) × (length seen.now ≤ 8192) }
-    ensures { Loading (flatten_tables acts.now blocks.now rules.now depth limit) seen.now words.new lists.new result }
+    ensures { Loading (flatten_tables t.now.acts.now t.now.blocks.now t.now.rules.now t.now.depth t.now.limit) seen.now words.new lists.new result }
 {
-    let mut calls = [0u16; 512];
-    find_calls(acts, blocks, &mut calls);
     let mut own = [0u32; 1072];
     let mut body = [0u32; 1072];
-    let (size, same) = flatten_each(
-        acts, blocks, rules, &calls, &mut own, &mut body, words, lists, seen, depth, limit,
-    )?;
+    let (size, same) = flatten_each(t, &mut own, &mut body, words, lists, seen)?;
     let end = place(size, words.len());
     clear(words, end);
-    let last = rows_end(rules.len() / 16, lists.len());
+    let last = rows_end(t.rules.len() / 16, lists.len());
     clear(lists, last);
     Ok((size, same))
 }
 
 // Word j of the trailer.
+#[tactic(auto, unfolding(model::specs::Image::trailer))]
 fn trailer(image: &[u32], j: usize) -> u32
     requires { (13 ≤ length image.now) × (j < 13) }
     ensures { result ≡ trailerIn image.now j }
@@ -173,11 +136,22 @@ fn trailer(image: &[u32], j: usize) -> u32
 }
 
 // The first word of table t.
+#[tactic(auto, unfolding(model::specs::Image::first_of))]
 fn first_of(image: &[u32], t: usize) -> usize
     requires { (13 ≤ length image.now) × (t < 8) }
     ensures { result ≡ first_of image.now t }
 {
-    wide(trailer(image, 5 + t))
+    trailer(image, 5 + t) as usize
+}
+
+// The words of table t.
+fn table(image: &[u32], t: usize) -> &[u32]
+    requires { Checked image.now × (t < 7) }
+    ensures { result.now ≡ table_of image.now t }
+{
+    let from = first_of(image, t);
+    let to = first_of(image, t + 1);
+    &image[from..to]
 }
 
 // The flat part of the image's set: its steps in `words`, the rows of its lists in `lists`, both if they have room; and the steps are
@@ -192,23 +166,20 @@ fn flatten_image(
     requires words_len_bound { (length words.old ≤ 8192) × (length seen.now ≤ 8192) }
     ensures { Loading (flatten_rules image.now) seen.now words.new lists.new result }
 {
-    let rules = first_of(image, 0);
-    let blocks = first_of(image, 1);
-    let triggers = first_of(image, 2);
-    let acts = first_of(image, 4);
-    let values = first_of(image, 5);
-    let depth = wide(trailer(image, 1));
-    let limit = trailer(image, 2);
-    flatten_tables(
-        &image[acts..values],
-        &image[blocks..triggers],
-        &image[rules..blocks],
-        words,
-        lists,
-        seen,
-        depth,
-        limit,
-    )
+    let acts = table(image, 4);
+    let blocks = table(image, 1);
+    let rules = table(image, 0);
+    let mut calls = [0u16; 512];
+    find_calls(acts, blocks, &mut calls);
+    let source = Source {
+        acts,
+        blocks,
+        rules,
+        calls: &calls,
+        depth: trailer(image, 1) as usize,
+        limit: trailer(image, 2),
+    };
+    flatten_tables(&source, words, lists, seen)
 }
 
 // The flat part of the image's set. Lent no words, it says only whether the set is over the limits of refusal 16.
@@ -221,23 +192,6 @@ pub fn flatten_rules(image: &[u32], words: &mut [u32], lists: &mut [u32]) -> Res
     let end = image.len();
     let (n, _) = flatten_image(image, words, lists, &image[end..])?;
     Ok(n)
-}
-
-// Whether two lists of words are the same.
-fn same_words(a: &[u32], b: &[u32]) -> bool
-    ensures { result ≡ same_list eqb a.now b.now }
-{
-    if a.len() != b.len() {
-        return false;
-    }
-    let mut i = 0;
-    while i < b.len() {
-        if a[i] != b[i] {
-            return false;
-        }
-        i += 1;
-    }
-    true
 }
 
 // Whether the words of a store's flat part, the rows of its lists and its steps, are the flat form of its image. The steps are compared
@@ -253,11 +207,5 @@ pub fn same_flat(image: &[u32], lists: &[u32], steps: &[u32]) -> bool
     let Ok((n, same)) = flatten_image(image, &mut none, &mut rows, steps) else {
         return false;
     };
-    if !same {
-        return false;
-    }
-    if n * 4 != steps.len() {
-        return false;
-    }
-    same_words(lists, &rows)
+    same && n * 4 == steps.len() && lists == rows.as_slice()
 }

@@ -28,42 +28,39 @@ abbrev pub level : ℕ → ℕ → ℕ → ℕ
 level depth left rank = depth * 1048576 + left * 4 + rank
 
 abbrev pub decreases-flatten_action : goal.decreases-flatten_action
-decreases-flatten_action l = level l.p.depth (length l.acts.now / 8 - l.i) 1
+decreases-flatten_action l = level l.at.depth (length l.t.now.acts.now / 8 - l.i) 1
 
 abbrev pub decreases-flatten_after : goal.decreases-flatten_after
-decreases-flatten_after l = level l.p.depth (length l.acts.now / 8 - l.i) 0
+decreases-flatten_after l = level l.at.depth (length l.t.now.acts.now / 8 - l.i) 0
 
 abbrev pub decreases-flatten_branch : goal.decreases-flatten_branch
-decreases-flatten_branch l = level l.p.depth (length l.acts.now / 8 - l.i) 0
+decreases-flatten_branch l = level l.at.depth (length l.t.now.acts.now / 8 - l.i) 0
 
 abbrev pub decreases-flatten_call : goal.decreases-flatten_call
-decreases-flatten_call l = level l.p.depth 0 0
+decreases-flatten_call l = level l.at.depth 0 0
 
 abbrev pub decreases-flatten_list : goal.decreases-flatten_list
-decreases-flatten_list l = level l.p.depth (left-of l.count (length l.acts.now / 8 - l.first)) 2
+decreases-flatten_list l = level l.at.depth (left-of l.count (length l.t.now.acts.now / 8 - l.first)) 2
 
 abbrev pub decreases-flatten_repeat : goal.decreases-flatten_repeat
-decreases-flatten_repeat l = level l.p.depth (length l.acts.now / 8 - l.i) 0
+decreases-flatten_repeat l = level l.at.depth (length l.t.now.acts.now / 8 - l.i) 0
 
 -- after each turn, whatever the records from i on answer, the whole answers
 abbrev pub invariant-flatten_list-loop-i : goal.invariant-flatten_list-loop-i
 invariant-flatten_list-loop-i l =
     Passing
     (record {
-      acts = l.acts;
-      blocks = l.blocks;
-      depth = l.p.depth;
+      acts = l.t.acts.now;
+      blocks = l.t.blocks.now;
+      depth = l.at.depth;
       first = l.first;
       count = l.count;
-      ctx = l.p.ctx;
-      n = l.p.n;
-      m = l.p.m;
-      left = l.p.left;
-      same = l.p.same;
+      ctx = l.at.ctx;
+      n = l.initial.q.n;
+      m = l.initial.q.m;
+      left = l.initial.q.left;
+      same = l.initial.q.same;
       seen = l.seen;
       list = l.initial.list;
       bodies = l.initial.bodies;
-    }) l.i l.n l.m l.left l.same l.list l.bodies × (length l.body ≡ length l.initial.body)
-
-abbrev pub decreases-flatten_list-loop-i : goal.decreases-flatten_list-loop-i
-decreases-flatten_list-loop-i l = l.end - l.i
+    }) l.i l.q.n l.q.m l.q.left l.q.same l.list l.bodies × (length l.body ≡ length l.initial.body)

@@ -5,13 +5,12 @@ use Prim.Native.Nat.{ℕ, suc, ◌+◌, ◌*◌, ◌-◌, ◌/◌, ◌≤◌, �
 use native.Mathlib.Numerals.{add-one}
 use native.Mathlib.Nat.{sub-zero}
 use native.Mathlib.Omega.{arith}
-use borrow.Author.Rules.{rules}
 use borrow.Author.Tests.{eq-eqb, ne_eqb}
 use lib.ListN.{length, get_or}
 use Rattle.model.specs.declared.Record.{Record}
 use Rattle.model.specs.Rules.{record_in}
 use Rattle.model.specs.Flat.{block_named}
-use Rattle.flat.specs.Outcome.{found_in, block_at}
+use Rattle.flat.specs.Outcome.{block_at}
 use Rattle.flat.proofs.records.find_block.Invariants.{searched}
 use Rattle.flat.proofs.records.find_block.Goals as goal
 
@@ -19,60 +18,41 @@ module _ (t : List ℕ) (n i name : ℕ) (h : i < n) (r : Record) (e : r ≡ rec
   more : n - i ≡ suc (n - (i + 1))
   more = omega arith
 
-  here : r.kind ≡ name → block_at t (i + 1) ≡ found_in (searched t name i (n - i))
+  here : r.kind ≡ name → block_at t (i + 1) ≡ searched t name i (n - i)
   unfolding block_at
   here k =
       let g : get_or t (i * 8) 0 ≡ name = rw e at k in
       rw (add-one i, more, eq-eqb (get_or t (i * 8) 0) name g)
 
-  past : (r.kind ≡ name → ⊥) → found_in (searched t name (i + 1) (n - (i + 1))) ≡ found_in (searched t name i (n - i))
+  past : (r.kind ≡ name → ⊥) → searched t name (i + 1) (n - (i + 1)) ≡ searched t name i (n - i)
   past k =
       let g : get_or t (i * 8) 0 ≡ name → ⊥ = rw e at k in
       rw (more, ne_eqb (get_or t (i * 8) 0) name g, add-one i)
 
-none_left : (t : List ℕ) (n i name : ℕ) → n ≤ i → block_at t 0 ≡ found_in (searched t name i (n - i))
+none_left : (t : List ℕ) (n i name : ℕ) → n ≤ i → block_at t 0 ≡ searched t name i (n - i)
 unfolding block_at
 none_left t n i name h = let e : n - i ≡ 0 = omega arith in rw e
 
-whole : (t : List ℕ) (name : ℕ) → found_in (searched t name 0 (length t / 8 - 0)) ≡ found_in (block_named [] t name)
+whole : (t : List ℕ) (name : ℕ) → searched t name 0 (length t / 8 - 0) ≡ block_named [] t name
 unfolding block_named
 whole t name = rw (sub-zero (length t / 8))
 
 pub loop-i-init : goal.loop-i-init
-loop-i-init c = (omega arith, whole c.args.blocks.now c.args.name)
+loop-i-init c = whole c.args.blocks.now c.args.name
 
-pub read_record-r-requires : goal.read_record-r-requires
-read_record-r-requires c = search rules
-
-pub overflow_add-i : goal.overflow_add-i
-overflow_add-i c = search rules
-
-pub overflow_cast-result : goal.overflow_cast-result
-overflow_cast-result c = omega (arith, c.requires)
-
-pub returns-then-r-name : goal.returns-then-r-name
-returns-then-r-name c =
+pub returns-then-read_record-name-clause-result_value : goal.returns-then-read_record-name-clause-result_value
+returns-then-read_record-name-clause-result_value c =
     let a = c.args in
-    let x = c.read_record-r in record {
-      result_value = here a.blocks.now (length a.blocks.now / 8) c.loop-i.i a.name c.loop-i-test.true x.result x.ensures c.if-r-name.true ∙ c.loop-i.invariant.1;
-      upper_bound = omega (arith, c.loop-i-test.true);
-    }
-
-pub loop-i-smaller : goal.loop-i-smaller
-loop-i-smaller c = search rules
+    let x = c.read_record in
+    here a.blocks.now (length a.blocks.now / 8) c.loop-i.i a.name c.loop-i-test.true x.result x.ensures c.if-read_record-name.true ∙ c.loop-i.invariant
 
 pub loop-i-preserved : goal.loop-i-preserved
 loop-i-preserved c =
     let a = c.args in
-    let x = c.read_record-r in (
-      search rules,
-      past a.blocks.now (length a.blocks.now / 8) c.loop-i.i a.name c.loop-i-test.true x.result x.ensures c.if-r-name.false ∙ c.loop-i.invariant.1,
-    )
+    let x = c.read_record in
+    past a.blocks.now (length a.blocks.now / 8) c.loop-i.i a.name c.loop-i-test.true x.result x.ensures c.if-read_record-name.false ∙ c.loop-i.invariant
 
-pub returns : goal.returns
-returns c =
+pub returns-clause-result_value : goal.returns-clause-result_value
+returns-clause-result_value c =
     let a = c.args in
-    record {
-      result_value = none_left a.blocks.now (length a.blocks.now / 8) c.loop-i.i a.name c.loop-i-test.false ∙ c.loop-i.invariant.1;
-      upper_bound = omega arith;
-    }
+    none_left a.blocks.now (length a.blocks.now / 8) c.loop-i.i a.name c.loop-i-test.false ∙ c.loop-i.invariant

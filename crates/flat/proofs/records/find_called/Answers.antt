@@ -6,10 +6,10 @@ use native.Mathlib.Omega.{arith}
 use Rattle.model.specs.declared.FlowAction.{FlowAction}
 use Rattle.model.specs.declared.FlowAction.TheVariants.{Wait, After, Call, Repeat, Conditional, Plain}
 use Rattle.model.specs.Flat.{block_named}
-use Rattle.flat.specs.Outcome.{action_in, found_in, block_at, called_in}
+use Rattle.flat.specs.Outcome.{action_in, block_at, called_in}
 use Rattle.flat.proofs.records.find_called.Goals as goal
 
-calls : (blocks : List ℕ) (x y : FlowAction) (b r : ℕ) → x ≡ y → x ≡ Call b → block_at blocks r ≡ found_in (block_named [] blocks b) → block_at blocks r ≡ called_in blocks y
+calls : (blocks : List ℕ) (x y : FlowAction) (b r : ℕ) → x ≡ y → x ≡ Call b → block_at blocks r ≡ block_named [] blocks b → block_at blocks r ≡ called_in blocks y
 calls blocks x y b r e f h = h ∙ sym (ap (called_in blocks) (sym e ∙ f))
 
 -- no call

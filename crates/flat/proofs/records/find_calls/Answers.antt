@@ -4,7 +4,6 @@ use mathlib.Core.List.{List}
 use Prim.Native.Nat.{ℕ, ◌+◌, ◌/◌, ◌≤◌, ◌<◌}
 use native.Mathlib.Omega.{arith}
 use native.Mathlib.Decide.{dec_le}
-use borrow.Author.Rules.{rules}
 use lib.ListN.{length, set, length-set}
 use lib.Seq.{get_or-set_same, get_or-set_other}
 use Rattle.flat.specs.Outcome.{action_in, block_at, called_in, Resolved}
@@ -30,23 +29,8 @@ module _ (acts blocks calls : List ℕ) where
 pub loop-i-init : goal.loop-i-init
 loop-i-init c = let a = c.args in (refl, none_yet a.acts.now a.blocks.now a.calls.now)
 
-pub find_called-requires : goal.find_called-requires
-find_called-requires c = (c.loop-i-test.true, c.requires.1)
-
-pub overflow_cast-calls : goal.overflow_cast-calls
-overflow_cast-calls c = omega (arith, c.find_called.ensures.upper_bound, c.requires.1)
-
-pub offset_bounds-calls-i : goal.offset_bounds-calls-i
-offset_bounds-calls-i c = search rules
-
 pub bounds-calls-i : goal.bounds-calls-i
 bounds-calls-i c = omega (arith, c.loop-i.invariant.0, c.requires, c.loop-i-test.true)
-
-pub overflow_add-i : goal.overflow_add-i
-overflow_add-i c = search rules
-
-pub loop-i-smaller : goal.loop-i-smaller
-loop-i-smaller c = omega (arith, c.loop-i-test.true)
 
 pub loop-i-preserved : goal.loop-i-preserved
 loop-i-preserved c =

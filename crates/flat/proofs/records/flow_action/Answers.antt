@@ -7,6 +7,7 @@ use borrow.Author.Tests.{lt-ltb, le-ltb}
 use Rattle.model.specs.declared.Record.{Record}
 use Rattle.model.specs.declared.FlowAction.TheVariants.{Wait, After, Call, Repeat, Conditional, Plain}
 use Rattle.model.specs.Rules.{flow_of}
+use Rattle.std.proofs.Common.{rules}
 use Rattle.flat.proofs.records.flow_action.Goals as goal
 
 -- what each kind is read as
@@ -48,21 +49,20 @@ module _ (r : Record) where
         | no h ↦ low (omega arith)
       ]
 
-pub returns-then-r-eq23 : goal.returns-then-r-eq23
-returns-then-r-eq23 c = wait c.args.r c.if-r-eq23.true
+pub returns-in-23 : goal.returns-in-23
+returns-in-23 c = wait c.args.r c.in-23.is
 
-pub returns-then-r-eq24 : goal.returns-then-r-eq24
-returns-then-r-eq24 c = after c.args.r c.if-r-eq24.true
+pub returns-in-24 : goal.returns-in-24
+returns-in-24 c = after c.args.r c.in-24.is
 
-pub returns-then-r-eq25 : goal.returns-then-r-eq25
-returns-then-r-eq25 c = call c.args.r c.if-r-eq25.true
+pub returns-in-25 : goal.returns-in-25
+returns-in-25 c = call c.args.r c.in-25.is
 
-pub returns-then-r-eq26 : goal.returns-then-r-eq26
-returns-then-r-eq26 c = repeat c.args.r c.if-r-eq26.true
+pub returns-in-26 : goal.returns-in-26
+returns-in-26 c = repeat c.args.r c.in-26.is
 
-pub returns-then-r-eq27 : goal.returns-then-r-eq27
-returns-then-r-eq27 c = conditional c.args.r c.if-r-eq27.true
+pub returns-in-27 : goal.returns-in-27
+returns-in-27 c = conditional c.args.r c.in-27.is
 
-pub returns : goal.returns
-returns c =
-    plain c.args.r c.if-r-eq23.false c.if-r-eq24.false c.if-r-eq25.false c.if-r-eq26.false c.if-r-eq27.false
+pub returns-in_default : goal.returns-in_default
+returns-in_default c = plain c.args.r (search rules) (search rules) (search rules) (search rules) (search rules)
