@@ -81,7 +81,7 @@ def read_instruction(line):
     name, _, rest = parts[1].partition(" ")
     while name in PREFIXES and rest.strip():
         name, _, rest = rest.strip().partition(" ")
-    named = re.search(r"<([^>]+)>\s*$", rest) if symbol is None and name.startswith(("call", "j")) else None
+    named = re.search(r"\s<(.+)>\s*$", rest) if symbol is None and name.startswith(("call", "j")) else None
     return Instruction(int(parts[0].strip().rstrip(":"), 16), name, split_operands(rest), symbol, split_symbol(named.group(1)) if named else None)
 
 

@@ -30,8 +30,8 @@ module _ (p : Trigger → Bool) (ts : List Trigger) where
   pub begins : Counted p ts 0 0
   begins = record { few = omega arith; whole = omega arith }
 
-  pub goes : (k x d : ℕ) (t : Trigger) → k < length ts → t ≡ get_or ts k Other → d ≡ cond (p t) 1 0 → Counted p ts k x → Counted p ts (k + 1) (x + d)
-  goes k x d t lt e q h =
+  pub goes : (k x y : ℕ) (t : Trigger) → k < length ts → t ≡ get_or ts k Other → y ≡ x + cond (p t) 1 0 → Counted p ts k x → Counted p ts (k + 1) y
+  goes k x y t lt e q h =
       let a : count p (drop k ts) ≡ cond (p (get_or ts k Other)) 1 0 + count p (drop (suc k) ts) = rw (drop-cons ts k Other) in
       let b = ap {B = ℕ} (λ u. cond (p u) 1 0) e in
       let c = one_at_most (p t) in
@@ -48,10 +48,13 @@ module _ (p : Trigger → Bool) (ts : List Trigger) where
   pub ends : (k x : ℕ) → length ts ≤ k → Counted p ts k x → x ≡ count p ts
   ends k x le h = let a = drop_all k ts le in let b = h.whole in omega arith
 
-pub starts-sum : (ts : List Trigger) (a b x y z : ℕ) → x ≡ count is_timer_trigger ts → y ≡ count is_every_trigger ts → z ≡ count is_wall_trigger ts → a ≡ min 16 x → b ≡ min 1 z
+swapped : (x y : ℕ) → min x y ≡ min y x
+swapped x y = omega arith
+
+pub starts-sum : (ts : List Trigger) (a b x y z : ℕ) → x ≡ count is_timer_trigger ts → y ≡ count is_every_trigger ts → z ≡ count is_wall_trigger ts → a ≡ min x 16 → b ≡ min z 1
     → a + y + b ≡ starts_by ts
 unfolding starts_by
-starts-sum ts a b x y z ex ey ez ea eb = rw (ea, eb, ex, ey, ez)
+starts-sum ts a b x y z ex ey ez ea eb = rw (ea, eb, ex, ey, ez, swapped (count is_timer_trigger ts) 16, swapped (count is_wall_trigger ts) 1)
 
 pub product-fits : (a b : ℕ) → a ≤ 4294967312 → b ≤ 256 → a * b ≤ 1099511631872
 product-fits a b h k = let x = mul-le-mul_right b h in omega arith

@@ -21,7 +21,7 @@ use Rattle.model.specs.declared.Refusal.{Refusal}
 use Rattle.model.specs.declared.Refusal.TheVariants.{TooMany}
 use Rattle.model.specs.Refusals.{refusal_code}
 use Rattle.model.proofs.RefusalLaws.{refusal-some}
-use Rattle.model.specs.Asked.{declined, shown_asked}
+use Rattle.model.specs.Asked.{declined, shown_result}
 use Rattle.image.specs.Accepted.{Accepted}
 use Rattle.image.proofs.Accepted.{budget-fits, rules-few}
 use Rattle.flat.specs.Load.{Parts, loaded, list_part}
@@ -31,7 +31,7 @@ use Rattle.load.proofs.Laws.{over, steps, few, many, tables-pass}
 use Rattle.room.specs.declared.Needed.{Needed}
 use Rattle.room.specs.declared.Sums.{Sums}
 use Rattle.room.specs.Room.{starts_of, own_steps, body_steps, effects_of_start, longest, outcomes_needed, effects_needed}
-use Rattle.room.specs.Needed.{room_for, shown, Needs, begin_in, size_in, steps_before, Summed, Listed}
+use Rattle.room.specs.Needed.{room_for, numbers, Needs, begin_in, size_in, steps_before, Summed, Listed}
 use Rattle.room.proofs.SumLaws.{total-same}
 use Rattle.room.proofs.Most.{most-outcomes, most-effects}
 
@@ -148,25 +148,24 @@ pub room-made : (img : List ℕ) (b : ℕ) (r : Needed) (s : Sums) → Known img
 room-made img b r s k ex ey = record { outcomes = ex ∙ k.outcomes; effects = ey ∙ k.effects }
 
 -- THE ANSWERS -----------------------------------------------------------------------------------------------------------------------
-pub refused-is : (img : List ℕ) (refusal : Refusal) → refusal_code refusal ≡ image_refusal img → shown (Err refusal) ≡ room_for img
-unfolding shown room_for shown_asked declined
+pub refused-is : (img : List ℕ) (refusal : Refusal) → refusal_code refusal ≡ image_refusal img → shown_result numbers (Err refusal) [] ≡ room_for img
+unfolding shown_result room_for declined
 refused-is img refusal e =
-    let a : eqb (refusal_code refusal) 0 ≡ false = ne_eqb (refusal_code refusal) 0 (refusal-some refusal) in
     let b : eqb (image_refusal img) 0 ≡ false = ne_eqb (image_refusal img) 0 (λ z. refusal-some refusal (e ∙ z)) in
-    rw (a, b) (ap (λ k. record { number = k; values = []; lent = [] }) e)
+    rw b (ap (λ k. record { number = k; values = []; lent = [] }) e)
 
-pub room-is : (img : List ℕ) (r : Needed) → Needs img r → 0 ≡ image_refusal img → shown (Ok r) ≡ room_for img
-unfolding shown room_for shown_asked
+pub room-is : (img : List ℕ) (r : Needed) → Needs img r → 0 ≡ image_refusal img → shown_result numbers (Ok r) [] ≡ room_for img
+unfolding shown_result room_for
 room-is img r h e =
     let b : eqb (image_refusal img) 0 ≡ true = eq-eqb (image_refusal img) 0 (sym e) in
     rw (b, h.outcomes, h.effects)
 
 module _ (img : List ℕ) (ok : Accepted img) where
-  pub over-is : (refusal : Refusal) → Err refusal ≡ loaded (flatten_rules img) → shown (Err refusal) ≡ room_for img
+  pub over-is : (refusal : Refusal) → Err refusal ≡ loaded (flatten_rules img) → shown_result numbers (Err refusal) [] ≡ room_for img
   over-is refusal h = refused-is img refusal (tables-pass img (refusal_code refusal) ok.passes (over (flatten_rules img) _ refusal h))
 
-  pub many_is : (n : ℕ) (b : Bool) → Ok n ≡ loaded (flatten_rules img) → b ≡ few_enough img → b ≡ false → shown (Err TooMany) ≡ room_for img
+  pub many_is : (n : ℕ) (b : Bool) → Ok n ≡ loaded (flatten_rules img) → b ≡ few_enough img → b ≡ false → shown_result numbers (Err TooMany) [] ≡ room_for img
   many_is n b h e f = refused-is img TooMany (tables-pass img 17 ok.passes (many b (few_enough img) e f ∙ steps (flatten_rules img) _ n h))
 
-  pub few-is : (n : ℕ) (b : Bool) (r : Needed) → Ok n ≡ loaded (flatten_rules img) → b ≡ few_enough img → b ≡ true → Needs img r → shown (Ok r) ≡ room_for img
+  pub few-is : (n : ℕ) (b : Bool) (r : Needed) → Ok n ≡ loaded (flatten_rules img) → b ≡ few_enough img → b ≡ true → Needs img r → shown_result numbers (Ok r) [] ≡ room_for img
   few-is n b r h e f k = room-is img r k (tables-pass img 0 ok.passes (few b (few_enough img) e f ∙ steps (flatten_rules img) _ n h))

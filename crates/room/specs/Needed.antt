@@ -1,13 +1,11 @@
 -- What the code answers of an image: load's refusal, or what its set needs.
-use Rattle.std.specs.Prelude.{◌≡◌, ℕ, ◌+◌, ◌*◌, ◌≤◌, ◌<◌, List, [], ◌∷◌, true, cond, eqb, get_or, Result, Ok, Err}
+use Rattle.std.specs.Prelude.{◌≡◌, ℕ, ◌+◌, ◌*◌, ◌≤◌, ◌<◌, List, [], ◌∷◌, true, cond, eqb, get_or}
 use Rattle.model.specs.Lists.{total}
 use Rattle.model.specs.Image.{size_of, few_enough}
 use Rattle.model.specs.Rows.{rules}
 use Rattle.model.specs.Flat.{flatten_rules, steps_in}
 use Rattle.model.specs.Load.{image_refusal}
-use Rattle.model.specs.declared.Refusal.{Refusal}
-use Rattle.model.specs.Refusals.{refusal_code}
-use Rattle.model.specs.Asked.{Asked, declined, shown_asked}
+use Rattle.model.specs.Asked.{Asked, declined}
 use Rattle.image.specs.Accepted.{Accepted}
 use Rattle.room.specs.declared.Needed.{Needed}
 use Rattle.room.specs.declared.Sums.{Sums}
@@ -20,10 +18,9 @@ room_for img =
     (record { number = 0; values = outcomes_needed img ∷ effects_needed img ∷ []; lent = [] })
     (declined 0 (image_refusal img))
 
--- what the code's answer shows
-unfoldable pub shown : Result Needed Refusal → Asked
-shown (Ok r) = shown_asked 0 (r.outcomes ∷ r.effects ∷ []) []
-shown (Err refusal) = shown_asked (refusal_code refusal) [] []
+-- the numbers of an answer
+abbrev pub numbers : Needed → List ℕ
+numbers r = r.outcomes ∷ r.effects ∷ []
 
 -- so much room
 pub record Needs (img : List ℕ) (r : Needed) : Type 0 where

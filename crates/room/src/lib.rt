@@ -2,14 +2,15 @@
 // does not load a set that needs more than the unit has.
 #![tactic(auto)]
 
-ghost use Rattle.std.specs.Prelude.{◌≡◌, cond, true, ◌+◌, ◌-◌, ◌*◌, ◌≤◌, ◌<◌, min, max};
+ghost use Rattle.std.specs.Prelude.{◌≡◌, [], cond, true, ◌^◌, ◌+◌, ◌-◌, ◌*◌, ◌≤◌, ◌<◌, min, max};
 ghost use Rattle.model.specs.Image as image_specs;
 ghost use Rattle.model.specs.Image.{size_of};
 ghost use Rattle.model.specs.Rows.{rules};
 ghost use Rattle.model.specs.Wheel.{is_wall_trigger};
+ghost use Rattle.model.specs.Asked.{shown_result};
 ghost use Rattle.image.specs.Accepted.{Accepted};
 ghost use Rattle.room.specs.Room.{is_timer_trigger, is_every_trigger, starts_of};
-ghost use Rattle.room.specs.Needed.{room_for, shown, Needs, begin_in, size_in, Summed, Listed};
+ghost use Rattle.room.specs.Needed.{room_for, numbers, Needs, begin_in, size_in, Summed, Listed};
 
 use image::layout::{Table, budget, size_of};
 use image::rule::{trigger_at, trigger_count};
@@ -30,73 +31,35 @@ pub struct Sums {
     pub longest: u64,
 }
 
-fn smaller(a: u64, b: u64) -> u64
-    ensures { result ≡ min a b }
-{
-    if a <= b { a } else { b }
+// The triggers of a rule, counted: those of timers, the Every triggers, and those of the wall clock.
+#[derive(Clone, Copy)]
+pub struct Tally {
+    pub timers: u64,
+    pub everys: u64,
+    pub walls: u64,
 }
 
-fn larger(a: u64, b: u64) -> u64
-    ensures { result ≡ max a b }
-{
-    if a <= b { b } else { a }
-}
-
-// 1 for a trigger of the kind, else 0.
-fn one_timer(t: Trigger) -> u64
-    ensures { (result ≡ cond (is_timer_trigger t) 1 0) × (result ≤ 1) }
-{
-    match t {
-        Trigger::TimerFires { timer: _ } => 1,
-        Trigger::Every { period_ms: _ } => 0,
-        Trigger::AtTime {
-            hour: _,
-            minute: _,
-            days: _,
-        } => 0,
-        Trigger::AtSolar {
-            event: _,
-            offset_ms: _,
-        } => 0,
-        Trigger::Other => 0,
-    }
-}
-
-fn one_every(t: Trigger) -> u64
-    ensures { (result ≡ cond (is_every_trigger t) 1 0) × (result ≤ 1) }
-{
-    match t {
-        Trigger::TimerFires { timer: _ } => 0,
-        Trigger::Every { period_ms: _ } => 1,
-        Trigger::AtTime {
-            hour: _,
-            minute: _,
-            days: _,
-        } => 0,
-        Trigger::AtSolar {
-            event: _,
-            offset_ms: _,
-        } => 0,
-        Trigger::Other => 0,
-    }
-}
-
-fn one_wall(t: Trigger) -> u64
-    ensures { (result ≡ cond (is_wall_trigger t) 1 0) × (result ≤ 1) }
-{
-    match t {
-        Trigger::TimerFires { timer: _ } => 0,
-        Trigger::Every { period_ms: _ } => 0,
-        Trigger::AtTime {
-            hour: _,
-            minute: _,
-            days: _,
-        } => 1,
-        Trigger::AtSolar {
-            event: _,
-            offset_ms: _,
-        } => 1,
-        Trigger::Other => 0,
+impl Tally {
+    // One trigger more.
+    fn counted(self, t: Trigger) -> Tally
+        requires { (self.timers < 2 ^ 32) × (self.everys < 2 ^ 32) × (self.walls < 2 ^ 32) }
+        ensures { (result.timers ≡ self.timers + cond (is_timer_trigger t) 1 0) × (result.everys ≡ self.everys + cond (is_every_trigger t) 1 0) × (result.walls ≡ self.walls + cond (is_wall_trigger t) 1 0) }
+    {
+        match t {
+            Trigger::TimerFires { .. } => Tally {
+                timers: self.timers + 1,
+                ..self
+            },
+            Trigger::Every { .. } => Tally {
+                everys: self.everys + 1,
+                ..self
+            },
+            Trigger::AtTime { .. } | Trigger::AtSolar { .. } => Tally {
+                walls: self.walls + 1,
+                ..self
+            },
+            Trigger::Other => self,
+        }
     }
 }
 
@@ -107,26 +70,15 @@ fn starts(image: &[u32], i: u32) -> u64
     ensures { (result ≡ starts_of image.now i) × (result ≤ 4294967312) }
 {
     let n = trigger_count(image, i);
-    let mut timers: u64 = 0;
-    let mut everys: u64 = 0;
-    let mut walls: u64 = 0;
-    let mut k = 0;
-    while k < n {
-        let t = trigger_at(image, i, k);
-        timers += one_timer(t);
-        everys += one_every(t);
-        walls += one_wall(t);
-        k += 1;
+    let mut tally = Tally {
+        timers: 0,
+        everys: 0,
+        walls: 0,
+    };
+    for k in 0..n {
+        tally = tally.counted(trigger_at(image, i, k));
     }
-    smaller(16, timers) + everys + smaller(1, walls)
-}
-
-// So many starts of so many effects.
-fn times(starts: u64, effects: u64) -> u64
-    requires { (starts ≤ 4294967312) × (effects ≤ 256) }
-    ensures { (result ≡ starts * effects) × (result ≤ 1099511631872) }
-{
-    starts * effects
+    tally.timers.min(16) + tally.everys + tally.walls.min(1)
 }
 
 // In the rows of the lists: behind how many steps the own list of rule i begins, and how many it has.
@@ -149,26 +101,22 @@ fn sum_rules(image: &[u32], lists: &[u32], b: u64) -> Sums
     ensures { Summed image.now result }
 {
     let n = size_of(image, Table::Rules);
-    let mut all: u64 = 0;
-    let mut effects: u64 = 0;
-    let mut longest: u64 = 0;
+    let mut sums = Sums {
+        starts: 0,
+        effects: 0,
+        longest: 0,
+    };
     let mut end: u64 = 0;
-    let mut i = 0;
-    while i < n {
+    for i in 0..n {
         let s = starts(image, i);
         let own = size_in(lists, i);
         let begin = begin_in(lists, i);
-        all += s;
-        effects += times(s, smaller(b, own));
-        longest = larger(longest, larger(own, begin - end));
+        sums.starts += s;
+        sums.effects += s * b.min(own);
+        sums.longest = sums.longest.max(own.max(begin - end));
         end = begin + own;
-        i += 1;
     }
-    Sums {
-        starts: all,
-        effects,
-        longest,
-    }
+    sums
 }
 
 // A tick's continuations and starts; or a run, where that gives more.
@@ -176,7 +124,7 @@ fn most_effects(b: u64, longest: u64, starts: u64) -> u64
     requires { (1 ≤ b) × (b ≤ 256) × (starts ≤ 70368744177664) }
     ensures { result ≡ max (min b longest) (32 * min (b - 1) longest + starts) }
 {
-    larger(smaller(b, longest), 32 * smaller(b - 1, longest) + starts)
+    b.min(longest).max(32 * (b - 1).min(longest) + starts)
 }
 
 // The room that the set needs, from the rows of its lists.
@@ -186,10 +134,9 @@ fn room(image: &[u32], lists: &[u32]) -> Needed
 {
     let b = budget(image) as u64;
     let s = sum_rules(image, lists, b);
-    let outcomes = 32 + s.starts;
     let effects = most_effects(b, s.longest, s.effects);
     Needed {
-        outcomes: outcomes as u32,
+        outcomes: (32 + s.starts) as u32,
         effects: effects as u32,
     }
 }
@@ -197,7 +144,7 @@ fn room(image: &[u32], lists: &[u32]) -> Needed
 // Of an image that passes 10 to 15: 16 is decided first. Flattening is lent no words for the steps, and the rows of 64 lists.
 fn flat_needed(image: &[u32]) -> Result<Needed, Refusal>
     requires { Accepted image.now }
-    ensures { shown result ≡ room_for image.now }
+    ensures { shown_result numbers result [] ≡ room_for image.now }
 {
     let mut words = [0u32; 1];
     let mut lists = [0u32; 128];
@@ -210,7 +157,7 @@ fn flat_needed(image: &[u32]) -> Result<Needed, Refusal>
 
 // What an image needs, or why load refuses it: for every slice.
 pub fn room_for(image: &[u32]) -> Result<Needed, Refusal>
-    ensures { shown result ≡ room_for image.now }
+    ensures { shown_result numbers result [] ≡ room_for image.now }
 {
     image::refusal(image)?;
     flat_needed(image)

@@ -14,8 +14,8 @@ sum_rules-s-requires c =
       b_value = c.budget-b.ensures;
     }
 
-pub overflow_add-outcomes : goal.overflow_add-outcomes
-overflow_add-outcomes c =
+pub overflow_add-result : goal.overflow_add-result
+overflow_add-result c =
     omega (arith, (known _ _ _ _ c.requires c.budget-b.ensures c.sum_rules-s.ensures).few-outcomes)
 
 pub most_effects-effects-requires : goal.most_effects-effects-requires

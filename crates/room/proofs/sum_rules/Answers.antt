@@ -1,9 +1,10 @@
 -- `room::sum_rules` meets its contract. Assumes nothing.
-use mathlib.Core.Path.{◌∙◌}
+use mathlib.Core.Path.{refl, ◌∙◌}
+use Prim.Native.Nat.{◌≤◌}
 use native.Mathlib.Omega.{arith}
 use Rattle.fields.proofs.Total.{empty, adds}
 use Rattle.room.proofs.Rows.{budget-of, few-of}
-use Rattle.room.proofs.Counting.{no-greatest, grows, effects-of, bodies_of, part-ends, all-summed}
+use Rattle.room.proofs.Counting.{no-greatest, grows, effects-of, bodies_of, part-ends, all-summed, product-fits}
 use Rattle.room.proofs.sum_rules.Goals as goal
 
 pub size_of-n-requires : goal.size_of-n-requires
@@ -11,60 +12,57 @@ size_of-n-requires c = (c.requires.listed.image.least, c.requires.listed.image.m
 
 pub loop-i-init : goal.loop-i-init
 loop-i-init c =
-    (omega arith, omega (arith, c.size_of-n.ensures, few-of _ _ c.requires.listed), c.size_of-n.ensures, empty _, empty _, no-greatest _, empty _, omega arith, omega arith)
+    (omega (arith, c.size_of-n.ensures, few-of _ _ c.requires.listed), c.size_of-n.ensures, empty _, empty _, no-greatest _, empty _, omega arith, omega arith)
 
 pub starts-s-requires : goal.starts-s-requires
 starts-s-requires c =
     record {
       accepted = c.requires.listed.image;
-      i_bound = omega (arith, c.loop-i-test.true, c.loop-i.invariant.2);
+      i_bound = omega (arith, c.loop-i-test.true, c.loop-i.invariant.1);
     }
 
-pub overflow_add-all : goal.overflow_add-all
-overflow_add-all c = let v = c.loop-i.invariant in omega (arith, v.0, v.1, v.7, c.starts-s.ensures.1)
+pub overflow_add-sums : goal.overflow_add-sums
+overflow_add-sums c = let v = c.loop-i.invariant in omega (arith, c.loop-i.auto.i-end, v.0, v.6, c.starts-s.ensures.1)
 
-pub times-effects-requires : goal.times-effects-requires
-times-effects-requires c =
-    (c.starts-s.ensures.1, omega (arith, c.smaller.ensures, c.requires.b_value, (budget-of _ _ c.requires.listed).1))
+pub overflow_mul-sums : goal.overflow_mul-sums
+overflow_mul-sums c =
+    let m : c.min.result ≤ 256 = omega (arith, c.min.ensures, c.requires.b_value, (budget-of _ _ c.requires.listed).1) in
+    omega (arith, product-fits _ _ c.starts-s.ensures.1 m)
 
-pub overflow_add-effects : goal.overflow_add-effects
-overflow_add-effects c = let v = c.loop-i.invariant in omega (arith, v.0, v.1, v.8, c.times-effects.ensures.1)
+pub overflow_add-sums-in-loop-i : goal.overflow_add-sums-in-loop-i
+overflow_add-sums-in-loop-i c =
+    let v = c.loop-i.invariant in
+    let m : c.min.result ≤ 256 = omega (arith, c.min.ensures, c.requires.b_value, (budget-of _ _ c.requires.listed).1) in
+    omega (arith, c.loop-i.auto.i-end, v.0, v.7, product-fits _ _ c.starts-s.ensures.1 m)
 
 -- the row of rule i, which stands behind the steps so far
 pub overflow_sub-begin : goal.overflow_sub-begin
 overflow_sub-begin c =
     let v = c.loop-i.invariant in
-    omega (arith, v.6, c.begin_in-begin.ensures.0, c.requires.listed.begins c.loop-i.i (omega (arith, c.loop-i-test.true, v.2)))
+    omega (arith, v.5, c.begin_in-begin.ensures.0, c.requires.listed.begins c.loop-i.i (omega (arith, c.loop-i-test.true, v.1)))
 
 pub overflow_add-end : goal.overflow_add-end
 overflow_add-end c = omega (arith, c.begin_in-begin.ensures.1, c.size_in-own.ensures.1)
-
-pub overflow_add-i : goal.overflow_add-i
-overflow_add-i c = omega arith
-
-pub loop-i-smaller : goal.loop-i-smaller
-loop-i-smaller c = omega arith
 
 pub loop-i-preserved : goal.loop-i-preserved
 loop-i-preserved c =
     let v = c.loop-i.invariant in
     let lt = c.loop-i-test.true in
     let s = c.starts-s.ensures in
-    let z = c.size_in-own.ensures.0 ∙ c.requires.listed.sizes c.loop-i.i (omega (arith, lt, v.2)) in
-    let a = c.begin_in-begin.ensures.0 ∙ c.requires.listed.begins c.loop-i.i (omega (arith, lt, v.2)) in
-    let p = c.times-effects.ensures in (
-      omega (arith, lt),
+    let z = c.size_in-own.ensures.0 ∙ c.requires.listed.sizes c.loop-i.i (omega (arith, lt, v.1)) in
+    let a = c.begin_in-begin.ensures.0 ∙ c.requires.listed.begins c.loop-i.i (omega (arith, lt, v.1)) in
+    let m : c.min.result ≤ 256 = omega (arith, c.min.ensures, c.requires.b_value, (budget-of _ _ c.requires.listed).1) in (
+      v.0,
       v.1,
-      v.2,
-      adds _ _ _ _ v.3 s.0,
-      adds _ _ _ _ v.4 (effects-of _ _ _ _ _ _ _ _ p.0 s.0 c.smaller.ensures z c.requires.b_value),
-      grows _ _ _ _ _ v.5 (bodies_of _ _ _ _ _ _ _ a v.6 z c.larger.ensures) c.larger-longest.ensures,
-      part-ends _ _ _ _ _ _ v.6 a z,
-      omega (arith, v.7, s.1),
-      omega (arith, v.8, p.1),
+      adds _ _ _ _ v.2 s.0,
+      adds _ _ _ _ v.3 (effects-of _ _ _ _ _ _ _ _ refl s.0 c.min.ensures z c.requires.b_value),
+      grows _ _ _ _ _ v.4 (bodies_of _ _ _ _ _ _ _ a v.5 z c.max.ensures) c.max-in-loop-i.ensures,
+      part-ends _ _ _ _ _ _ v.5 a z,
+      omega (arith, v.6, s.1),
+      omega (arith, v.7, product-fits _ _ s.1 m),
     )
 
 pub returns : goal.returns
 returns c =
     let v = c.loop-i.invariant in
-    all-summed _ _ _ _ c.loop-i-test.false v.0 v.2 v.3 v.4 v.5
+    all-summed _ _ _ _ c.loop-i-test.false c.loop-i.auto.i-end v.1 v.2 v.3 v.4
