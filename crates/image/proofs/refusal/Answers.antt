@@ -1,7 +1,4 @@
 -- `image::refusal` meets its contract. Assumes nothing.
-use mathlib.Core.Path.{sym, ◌∙◌}
-use borrow.Author.Tests.{not-false}
-use borrow.Author.Rules.{rules}
 use Rattle.model.specs.Load.{tables_refusal}
 use Rattle.image.proofs.Refusals.{refused, passed, short, long, sized}
 use Rattle.image.proofs.refusal.Goals as goal
@@ -26,12 +23,6 @@ returns-then-not-places_fit c =
     rw (sized _ c.if-image-lt13.false c.if-image-gt4096.false)
     (passed _ _ _ _ _ c.limits_fit.ensures c.if-not-limits_fit.false-raw
     (refused _ _ _ _ c.places_fit.ensures c.if-not-places_fit.true-raw))
-
-pub records_refusal-requires : goal.records_refusal-requires
-records_refusal-requires c = record {
-  sized = search rules;
-  image_value = sym c.places_fit.ensures ∙ not-false _ c.if-not-places_fit.false-raw;
-}
 
 pub returns : goal.returns
 unfolding tables_refusal

@@ -2,15 +2,12 @@
 use mathlib.Core.Path.{refl, ◌∙◌}
 use borrow.Author.Rules.{rules}
 use Rattle.model.specs.Rows.{void, action_rows}
-use Rattle.fields.proofs.Padded.{no_kind, no_field, field_at}
+use Rattle.fields.proofs.Padded.{no_kind, field_at}
 use Rattle.image.proofs.Padding.{row-is}
 use Rattle.image.proofs.rows.action_field.Goals as goal
 
 pub returns-then-kind-ge29 : goal.returns-then-kind-ge29
 returns-then-kind-ge29 c = no_kind void action_rows c.args.kind c.args.j c.if-kind-ge29.true
-
-pub returns-then-action_fields-j : goal.returns-then-action_fields-j
-returns-then-action_fields-j c = let a = c.args in no_field void action_rows a.kind a.j (rw c.action_fields.ensures at c.if-action_fields-j.true)
 
 pub returns : goal.returns
 returns c =
