@@ -10,6 +10,7 @@ use crate::Mode;
 use eval::Env;
 use eval::conditions::conditions_hold;
 
+// kept: four ways to go on, of which three count something of their own; a Result with three errors would be matched in the same four arms
 #[derive(Clone, Copy)]
 pub enum Decision {
     Begins,

@@ -92,6 +92,7 @@ fn run_dry(
     x.push_outcome(outcomes, env.job, reason_word(run.reason), run.count)
 }
 
+// kept: that the image is accepted, not only sized, is asked here and where it decides the budget; exec's Env asks less of its callers
 pub fn execute(
     env: &Env,
     rule: &FlatRule,

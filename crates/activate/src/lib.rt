@@ -26,6 +26,8 @@ use state::reasons::Reason;
 
 // What activations and resumptions did so far: how many outcomes and effects are written, or would be. They stand beside the words that
 // the caller lends, and in no slice of them: the C interface counts on where there is no room.
+// kept: outcomes, effects and the state's words go on one by one to where each is written (`push_outcome`, `run_steps`, crate `state`); what
+// there is room for (`Room`) is said of these numbers and of the words together
 #[derive(Clone, Copy)]
 pub struct Handled {
     pub outcomes: u32,

@@ -34,6 +34,8 @@ pub struct Job {
 }
 
 // What a run is given: the words of the snapshot and of the image, and what it knows of its rule.
+// kept: the words of the state stand beside it, with `Sound` in the clauses: they are lent on to crate `state`, whose functions change the
+// words alone and ask and promise `Sound` of them, so that a struct with the fact would be taken apart and made anew at every call
 #[derive(Clone, Copy)]
 pub struct Env<'a> {
     pub snapshot: &'a [u32],

@@ -51,6 +51,7 @@ pub fn primitive(env: &Env, v: &mut [u32], sp: Point, i: u32) -> StepResult
 }
 
 // What follows a wait is scheduled, and the run ends: also where the continuation is dropped.
+// kept: how many continuations were accepted is bounded by the budget that is left, of one step to the next; no type holds both
 #[tactic(auto, unfolding(model::specs::Exec::exec))]
 fn run_wait(env: &Env, v: &mut [u32], left: u32, sp: Point, ms: u32) -> StepResult
     requires { Sound v.old × (accepted v.old < max64) × (suc sp.place ≤ max32) }
