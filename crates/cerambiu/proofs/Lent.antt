@@ -46,22 +46,3 @@ pub all-put : (a vs : List ℕ) (n i : ℕ) → length a ≡ n → n ≤ i → U
 all-put a vs n i l h f =
     ext_get_or 0 a (lent_answer n vs) (l ∙ sym (lent-long n vs))
     (λ j b. f.same j (omega (arith, l, b)) ∙ sym (lent_at n vs j (omega (arith, l, b))))
-
--- values that are lent through m words, where that is enough for them
-short-at : (m k : ℕ) (vs : List ℕ) (j : ℕ) → length vs ≤ m → get_or (take m (vs ++ replicate k 0)) j 0 ≡ get_or vs j 0
-short-at zero k [] j h = refl
-short-at zero k (x ∷ xs) j h = absurd (not-suc-le-zero h)
-short-at (suc m) zero [] j h = refl
-short-at (suc m) (suc k) [] zero h = refl
-short-at (suc m) (suc k) [] (suc j) h = short-at m k [] j (omega arith)
-short-at (suc m) k (x ∷ xs) zero h = refl
-short-at (suc m) k (x ∷ xs) (suc j) h = short-at m k xs j (le_of_suc-le-suc h)
-
-pub lent-lent : (n m : ℕ) (vs : List ℕ) → length vs ≤ m → lent_answer n (lent_answer m vs) ≡ lent_answer n vs
-unfolding lent_answer
-lent-lent n m vs h =
-    all-put (lent_answer n (lent_answer m vs)) vs n n (lent-long n (lent_answer m vs)) (omega arith)
-    (record { same = λ j b. lent_at n (lent_answer m vs) j b ∙ short-at m m vs j h })
-
-pub through : (n m : ℕ) (vs v a : List ℕ) → length vs ≤ m → v ≡ lent_answer m vs → a ≡ lent_answer n v → a ≡ lent_answer n vs
-through n m vs v a h e q = q ∙ ap (lent_answer n) e ∙ lent-lent n m vs h

@@ -5,6 +5,7 @@ use Rattle.model.specs.Telegrams as telegrams
 use Rattle.model.specs.declared.Refusal.{Refusal}
 use Rattle.model.specs.Refusals.{refusal_number}
 use Rattle.model.specs.Asked.{Asked}
+use Rattle.room.specs.declared.Needed.{Needed}
 use Rattle.cerambiu.specs.Called.{lent_answer}
 
 pub record Told : Type 0 where
@@ -19,11 +20,22 @@ tells r a l = record { number = r; answer = a; lent = l }
 unfoldable pub told : ℕ → Asked → Told
 told n a = tells a.number (lent_answer n a.values) a.lent
 
+-- how many triggers
+abbrev pub trigger_values : ℕ → List ℕ
+trigger_values n = n ∷ []
+
+-- the room for outcomes and effects
+abbrev pub needed_values : Needed → List ℕ
+needed_values r = r.outcomes ∷ r.effects ∷ []
+
 -- TELEGRAMS, which asks no store
 -- the count in two words, low first
+abbrev pub count_values : ℕ → List ℕ
+count_values n = low_of n ∷ high_of n ∷ []
+
 unfoldable pub telegram_values : Result ℕ Refusal → List ℕ
 telegram_values (Err r) = []
-telegram_values (Ok n) = low_of n ∷ high_of n ∷ []
+telegram_values (Ok n) = count_values n
 
 -- the kept list of the effects `ws` in `room` lent words
 unfoldable pub sending : ℕ → List ℕ → Asked

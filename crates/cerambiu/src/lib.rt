@@ -3,7 +3,7 @@
 // equation with the specification's call on words (model's `call_on`), for all arguments.
 #![tactic(auto)]
 
-ghost use Rattle.std.specs.Prelude.{◌≡◌, cond, List, [], ℕ, eqb, length};
+ghost use Rattle.std.specs.Prelude.{◌≡◌, List, [], ℕ, length};
 ghost use Rattle.model.specs.Calls.{new, load, unload, enable, tick, run, deadline, counters};
 ghost use Rattle.model.specs.OnWords.{call_on};
 ghost use Rattle.model.specs.Crontab.{crontab};
@@ -13,11 +13,12 @@ ghost use Rattle.room.specs.Needed.{room_for};
 ghost use Rattle.engine.specs.Asked.{next_start_on};
 ghost use Rattle.cerambiu.specs.Called.{called, answered, lent_answer};
 ghost use Rattle.model.specs.Refusals.{refusal_number};
-ghost use Rattle.cerambiu.specs.Told.{tells, told, telegram_values, sending};
+ghost use Rattle.cerambiu.specs.Told.{tells, told, trigger_values, count_values, needed_values, sending};
 
 use activate::Handled;
 use model::Refusal;
 use next::NextStart;
+use room::Needed;
 
 // What a call answers, as words.
 trait Answer {
@@ -86,6 +87,34 @@ impl Answer for NextStart {
     }
 }
 
+// How many triggers a line of a crontab has.
+impl Answer for u32 {
+    ghost words = { trigger_values };
+
+    fn put(self, answer: &mut [u32]) {
+        put_values(answer, &[self]);
+    }
+}
+
+// How many telegrams are in a list: two words, low first.
+impl Answer for usize {
+    ghost words = { count_values };
+
+    fn put(self, answer: &mut [u32]) {
+        let count = self as u64;
+        put_values(answer, &[words::low_word(count), words::high_word(count)]);
+    }
+}
+
+// The room for outcomes and effects.
+impl Answer for Needed {
+    ghost words = { needed_values };
+
+    fn put(self, answer: &mut [u32]) {
+        put_values(answer, &[self.outcomes, self.effects]);
+    }
+}
+
 // Values past the end of the answer are not written; words behind the values are 0.
 fn put_values(answer: &mut [u32], values: &[u32])
     ensures { answer.new ≡ lent_answer (length answer.old) values.now }
@@ -109,19 +138,6 @@ fn put_answer<T: Answer>(answer: &mut [u32], a: Result<T, Refusal>) -> u32
             u32::from(refusal)
         }
     }
-}
-
-// The answer of a call that asks: its values, unless it is refused.
-fn put_asked(answer: &mut [u32], number: u32, values: &[u32]) -> u32
-    ensures { (result ≡ number) × (answer.new ≡ lent_answer (length answer.old) (cond (eqb number 0) values.now [])) }
-{
-    if number != 0 {
-        let none = [0u32; 1];
-        put_values(answer, &none[1..]);
-        return number;
-    }
-    put_values(answer, values);
-    0
 }
 
 pub fn cerambiu_new(store: &mut [u32], time: u64) -> u32
@@ -195,51 +211,21 @@ pub fn cerambiu_next_start(store: &[u32], snapshot: &[u32], answer: &mut [u32]) 
     put_answer(answer, engine::next_start(store, snapshot))
 }
 
-fn telegram_number(a: Result<usize, Refusal>) -> u32
-    ensures { result ≡ refusal_number a }
-{
-    match a {
-        Ok(_) => 0,
-        Err(refusal) => u32::from(refusal),
-    }
-}
-
-fn telegram_values(a: Result<usize, Refusal>) -> [u32; 2]
-    ensures { result ≡ lent_answer 2 (telegram_values a) }
-{
-    match a {
-        Err(_) => [0, 0],
-        Ok(count) => [
-            words::low_word(count as u64),
-            words::high_word(count as u64),
-        ],
-    }
-}
-
 pub fn cerambiu_telegrams(effects: &[u32], list: &mut [u32], answer: &mut [u32]) -> u32
     ensures { tells result answer.new list.new ≡ told (length answer.old) (sending (length list.old) effects.now) }
 {
-    let a = telegrams::telegrams(effects, list);
-    let values = telegram_values(a);
-    put_values(answer, &values);
-    telegram_number(a)
+    put_answer(answer, telegrams::telegrams(effects, list))
 }
 
 pub fn cerambiu_crontab(line: &[u8], sunday: u32, triggers: &mut [u32], answer: &mut [u32]) -> u32
     ensures { tells result answer.new triggers.new ≡ told (length answer.old) (crontab line.now sunday (length triggers.old)) }
 {
-    match crontab::read(line, sunday, triggers) {
-        Ok(count) => put_asked(answer, 0, &[count]),
-        Err(refusal) => put_asked(answer, u32::from(refusal), &[0]),
-    }
+    put_answer(answer, crontab::read(line, sunday, triggers))
 }
 
 // Asks no store: what an image needs, before it is loaded.
 pub fn cerambiu_room(image: &[u32], answer: &mut [u32]) -> u32
     ensures { tells result answer.new [] ≡ told (length answer.old) (room_for image.now) }
 {
-    match room::room_for(image) {
-        Ok(a) => put_asked(answer, 0, &[a.outcomes, a.effects]),
-        Err(refusal) => put_asked(answer, u32::from(refusal), &[]),
-    }
+    put_answer(answer, room::room_for(image))
 }

@@ -19,29 +19,32 @@ use Rattle.model.specs.Answers as answers
 use Rattle.model.specs.OnWords.{result, store_refusal, store_after, outcome_words_of, effect_words_of, on_store, call_on}
 use Rattle.model.proofs.StoreLaws.{write_read}
 use Rattle.engine.specs.Seen.{seen, refusal_of}
-use Rattle.model.specs.Asked.{Asked, declined, shown_asked}
+use Rattle.std.specs.Prelude.{Err}
+use Rattle.model.specs.Refusals.{refusal_code}
+use Rattle.model.specs.declared.Refusal.{Refusal}
+use Rattle.model.proofs.RefusalLaws.{refusal-some}
+use Rattle.model.specs.Asked.{Asked, declined, shown_result}
 use Rattle.engine.specs.Asked.{lowest_of, asked_of, asked, seen_asked}
-use Rattle.engine.proofs.Seeing.{OnStore, is_store}
+use Rattle.engine.proofs.Seeing.{OnStore}
 
 -- THE CHECKS ----------------------------------------------------------------------------------------------------------------------------
-module _ (w : List ℕ) (n other : ℕ) (q : n ≡ refusal_of (read w) w) where
-  pub store-lowest : (n ≡ 0 → ⊥) → n ≡ lowest_of (read w) w other
-  store-lowest z = go (read w) q
-    where
-      go : (o : Option Store) → n ≡ refusal_of o w → n ≡ lowest_of o w other
-      go None e = e
-      go (Some s) e = absurd (z e)
+-- the refusal of words and of what else is given is that of the words, or the other one
+pub lowest-cases : {P : Type 0} (w : List ℕ) (n other : ℕ) → n ≡ lowest_of (read w) w other → (n ≡ refusal_of (read w) w → P) → (present (read w) ≡ true → n ≡ other → P) → P
+lowest-cases {P = P} w n other q f g = go (read w) refl q
+  where
+    go : (o : Option Store) → read w ≡ o → n ≡ lowest_of o w other → P
+    go None e z = f (z ∙ sym (ap (λ (o : Option Store). refusal_of o w) e))
+    go (Some s) e z = g (ap present e) z
 
-  pub other-lowest : n ≡ 0 → (m : ℕ) → m ≡ other → m ≡ lowest_of (read w) w other
-  other-lowest z m e = go (read w) (is_store w (sym z ∙ q))
-    where
-      go : (o : Option Store) → present o ≡ true → m ≡ lowest_of o w other
-      go None p = absurd (false≢true p)
-      go (Some s) p = e
+pub store-lowest : (w : List ℕ) (n other : ℕ) → n ≡ refusal_of (read w) w → (n ≡ 0 → ⊥) → n ≡ lowest_of (read w) w other
+store-lowest w n other q z = go (read w) q
+  where
+    go : (o : Option Store) → n ≡ refusal_of o w → n ≡ lowest_of o w other
+    go None e = e
+    go (Some s) e = absurd (z e)
 
-refuses : (b : Bool) → unless b 1 2 ≡ 0 → ⊥
-refuses true e = omega arith
-refuses false e = omega arith
+pub other-lowest : (w : List ℕ) (s : Store) (m other : ℕ) → read w ≡ Some s → m ≡ other → m ≡ lowest_of (read w) w other
+other-lowest w s m other e q = q ∙ sym (ap (λ (o : Option Store). lowest_of o w other) e)
 
 module _ (w : List ℕ) (n other : ℕ) (q : n ≡ lowest_of (read w) w other) where
   pub asked-declined : (n ≡ 0 → ⊥) → (k : ℕ) (answer : Store → Asked) → asked w other k answer ≡ declined k n
@@ -53,20 +56,10 @@ module _ (w : List ℕ) (n other : ℕ) (q : n ≡ lowest_of (read w) w other) w
       go (Some s) zero e = absurd (z e)
       go (Some s) (suc m) e = ap (declined k) (sym e)
 
-  -- code that shows the number, and has cleared the words that it was lent
-  pub shown-declined : (n ≡ 0 → ⊥) → (k : ℕ) (answer : Store → Asked) (values lent : List ℕ) → lent ≡ replicate k 0 → shown_asked n values lent ≡ asked w other k answer
-  unfolding shown_asked declined
-  shown-declined z k answer values lent e =
-      let f = ne_eqb n 0 z in
-      (λ i. record { number = n; values = cond (f i) values []; lent = e i }) ∙ sym (asked-declined z k answer)
-
-  pub asked-checked : n ≡ 0 → (present (read w) ≡ true) × (other ≡ 0)
-  unfolding store_refusal
-  asked-checked z = go (read w) (sym q ∙ z)
-    where
-      go : (o : Option Store) → lowest_of o w other ≡ 0 → (present o ≡ true) × (other ≡ 0)
-      go None e = absurd (refuses (eqb (length w) 16384) e)
-      go (Some s) e = (refl, e)
+pub asked-refused : {A : Type 0} (f : A → List ℕ) (w : List ℕ) (r : Refusal) (other : ℕ) (answer : Store → Asked) → refusal_code r ≡ lowest_of (read w) w other
+    → shown_result f (Err r) [] ≡ asked w other 0 answer
+unfolding shown_result declined
+asked-refused f w r other answer q = sym (asked-declined w (refusal_code r) other q (refusal-some r) 0 answer)
 
 pub asked-answered : (w : List ℕ) (s : Store) (k other : ℕ) (answer : Store → Asked) → read w ≡ Some s → other ≡ 0 → asked w other k answer ≡ answer s
 unfolding asked

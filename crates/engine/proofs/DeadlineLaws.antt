@@ -5,7 +5,6 @@ use mathlib.Core.List.{List, []}
 use Rattle.std.specs.Prelude.{Option, None, Some, Ok}
 use Prim.Native.Nat.{ℕ}
 use Rattle.model.specs.World.{is_one}
-use Rattle.model.specs.Codec.{wide}
 use Rattle.model.specs.State.{Store}
 use Rattle.model.specs.Steps.{FlatStep}
 use Rattle.model.specs.Store.{read, write}
@@ -15,9 +14,7 @@ use Rattle.model.specs.Answers as answers
 use Rattle.model.specs.OnWords.{call_on}
 use Rattle.state.specs.Meaning.{AllNumbered}
 use Rattle.store.specs.Set.{loaded_in}
-use Rattle.rows.specs.Places.{row_at}
 use Rattle.store.specs.Volatile.{Readable}
-use Rattle.store.proofs.Stored.{from-read, time-read}
 use Rattle.wheel.specs.Deadline.{set_if, store_of, AcceptedIf}
 use Rattle.engine.specs.Seen.{seen}
 use Rattle.engine.specs.Answers.{due_values, shown}
@@ -42,12 +39,11 @@ module _ (w img : List ℕ) (s : Store) (e : read w ≡ Some s) (i : Readable w 
       let l = loaded-image w img s e i (sym q) in
       record { flat = l.set.flat; is = ap (λ (x : List ℕ). Some (record { image = x; flat = l.set.flat })) (sym l.image) ∙ sym l.is }
 
-  pub deadline-is : (b : Bool) (v : List ℕ) (last : ℕ) (t : Option ℕ) → b ≡ is_one (loaded_in w).loaded → last ≡ row_at wide w 0 → AllNumbered v s.vol
+  pub deadline-is : (b : Bool) (v : List ℕ) (last : ℕ) (t : Option ℕ) → b ≡ is_one (loaded_in w).loaded → last ≡ s.now → AllNumbered v s.vol
       → ((flat : List (List FlatStep)) → t ≡ next_deadline (store_of img b flat v last)) → t ≡ next_deadline s
   deadline-is b v last t q l a h =
       let k = set_is b q in
-      let n : last ≡ s.now = l ∙ time-read w s (from-read w s e) in
-      let r : store_of img b k.flat v last ≡ s = λ j. record { now = n j; loaded = k.is j; vol = a.says j } in
+      let r : store_of img b k.flat v last ≡ s = λ j. record { now = l j; loaded = k.is j; vol = a.says j } in
       h k.flat ∙ ap next_deadline r
 
 same-due : (t : Option ℕ) → Same due_values (Ok t) (due t)

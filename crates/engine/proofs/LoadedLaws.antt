@@ -3,7 +3,8 @@ use mathlib.Core.Path.{◌≡◌, refl, sym, ap, ◌∙◌, subst}
 use mathlib.Core.Bool.{true, false, false≢true}
 use mathlib.Core.List.{List}
 use Rattle.std.specs.Prelude.{Option, None, Some}
-use Rattle.std.proofs.lemmas.Option.{none-some}
+use Rattle.std.specs.Prelude.{option_map}
+use Rattle.std.proofs.lemmas.Option.{none-some, same_Some}
 use Prim.Native.Nat.{ℕ, ◌<◌}
 use native.Mathlib.Omega.{arith}
 use lib.ListN.{length, get_or, take, get_or-eq_default}
@@ -48,11 +49,10 @@ pub record LoadedImage (w img : List ℕ) (s : Store) : Type 0 where
   pub form : set ≡ set_of img (flatten_rules img)
   pub kept : Kept w img set
 
-module _ (w img : List ℕ) (s : Store) (e : read w ≡ Some s) (i : Readable w → img ≡ (loaded_in w).image) where
-  abbrev pub image-of : (set : RuleSet) → s.loaded ≡ Some set → LoadedImage w img s
-  image-of set l =
+module _ (w img : List ℕ) (s : Store) (e : read w ≡ Some s) where
+  abbrev loaded-by : (set : RuleSet) → s.loaded ≡ Some set → set.image ≡ img → LoadedImage w img s
+  loaded-by set l q =
       let r = from-read w s e in
-      let q : set.image ≡ img = sym (i r.readable ∙ image-read w s r set l) in
       record {
         set = set;
         is = l;
@@ -61,6 +61,24 @@ module _ (w img : List ℕ) (s : Store) (e : read w ≡ Some s) (i : Readable w 
         form = subst (λ (x : List ℕ). set ≡ set_of x (flatten_rules x)) q (form-read w s r set l);
         kept = subst (λ (x : List ℕ). Kept w x set) q (kept_read w s r set l);
       }
+
+  -- by what a store says of its image
+  pub image-given : Some img ≡ option_map (λ (set : RuleSet). set.image) s.loaded → LoadedImage w img s
+  image-given h = go s.loaded refl h
+    where
+      go : (o : Option RuleSet) → s.loaded ≡ o → Some img ≡ option_map (λ (set : RuleSet). set.image) o → LoadedImage w img s
+      go None l h = absurd (none-some img (sym h))
+      go (Some set) l h = loaded-by set l (sym (same_Some img set.image h))
+
+pub none-given : (o : Option RuleSet) → None ≡ option_map (λ (set : RuleSet). set.image) o → o ≡ None
+none-given None h = refl
+none-given (Some set) h = absurd (none-some set.image h)
+
+module _ (w img : List ℕ) (s : Store) (e : read w ≡ Some s) (i : Readable w → img ≡ (loaded_in w).image) where
+  abbrev pub image-of : (set : RuleSet) → s.loaded ≡ Some set → LoadedImage w img s
+  image-of set l =
+      let r = from-read w s e in
+      loaded-by w img s e set l (sym (i r.readable ∙ image-read w s r set l))
 
   pub loaded-image : is_one (loaded_in w).loaded ≡ true → LoadedImage w img s
   loaded-image p = go s.loaded refl (sym (loaded-read w s (from-read w s e)) ∙ p)

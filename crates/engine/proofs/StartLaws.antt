@@ -2,12 +2,14 @@
 use mathlib.Core.Path.{◌≡◌, refl, sym, ap, ◌∙◌}
 use mathlib.Core.Bool.{Bool, false}
 use mathlib.Core.List.{List, [], ◌∷◌, map}
-use Rattle.std.specs.Prelude.{Option, None, Some}
+use Rattle.std.specs.Prelude.{Option, None, Some, Ok, Err, option_map}
 use Prim.Native.Nat.{ℕ, zero, suc, ◌+◌, ◌-◌, ◌≤◌}
 use native.Mathlib.Nat.{le_of_suc-le-suc, not-suc-le-zero}
 use native.Mathlib.Omega.{arith}
 use lib.ListN.{length, take, drop, length-drop}
-use Rattle.model.specs.Asked.{shown_asked}
+use Rattle.model.specs.Asked.{shown_result}
+use Rattle.model.specs.Refusals.{refusal_code}
+use Rattle.model.specs.declared.Refusal.{Refusal}
 use Rattle.model.specs.Codec.{rows_at}
 use Rattle.model.specs.Parts.{bit}
 use Rattle.model.specs.Snapshot.{snapshot_refusal}
@@ -18,7 +20,6 @@ use Rattle.model.specs.World.{World, is_one, world_of}
 use Rattle.model.specs.declared.SunTimes.{SunTimes}
 use Rattle.rows.specs.Places.{table_at}
 use Rattle.store.specs.Places.{state_place}
-use Rattle.store.specs.Set.{loaded_in}
 use Rattle.store.specs.Volatile.{changing_in}
 use Rattle.store.proofs.Parts.{bits_at}
 use Rattle.store.proofs.Stored.{from-read, volatile-read}
@@ -26,10 +27,10 @@ use Rattle.model.specs.declared.WallTime.{WallTime}
 use Rattle.next.specs.NextStart.{next_from, next_of_set, next_start, start_values}
 use Rattle.next.specs.declared.NextStart.{NextStart}
 use Rattle.next.specs.declared.NextStart.TheVariants.{NoStart, ClockUnknown}
-use Rattle.engine.specs.Asked.{start_asked, next_start_on}
-use Rattle.engine.proofs.WordLaws.{Said}
-use Rattle.engine.proofs.LoadedLaws.{LoadedImage, no-set}
-use Rattle.engine.proofs.AskedLaws.{asked-answered}
+use Rattle.engine.specs.Asked.{start_asked, lowest_of, next_start_on}
+use Rattle.std.proofs.lemmas.Option.{none-some, same_Some}
+use Rattle.engine.proofs.LoadedLaws.{none-given}
+use Rattle.engine.proofs.AskedLaws.{asked-answered, asked-refused}
 
 -- THE BITS --------------------------------------------------------------------------------------------------------------------------------
 -- rows of one word are the words
@@ -56,19 +57,20 @@ module _ (w : List ℕ) (s : Store) (e : read w ≡ Some s) where
       ∙ ap (λ (k : ℕ). map is_one (take k (changing_in w).bits)) q
       ∙ ap (λ (v : Volatile). v.rest.enabled) (volatile-read w s r)
 
-  -- THE SET -------------------------------------------------------------------------------------------------------------------------------
-  module _ (sun : Option SunTimes) (t : ℕ) where
-    pub nothing-starts : is_one (loaded_in w).loaded ≡ false → NoStart ≡ next_of_set s.loaded s.vol.rest.enabled sun t
-    unfolding next_of_set
-    nothing-starts p = sym (ap (λ (o : Option RuleSet). next_of_set o s.vol.rest.enabled sun t) (no-set w s e p))
+-- THE SET ---------------------------------------------------------------------------------------------------------------------------------
+module _ (s : Store) (sun : Option SunTimes) (t : ℕ) where
+  pub nothing-starts : None ≡ option_map (λ (set : RuleSet). set.image) s.loaded → NoStart ≡ next_of_set s.loaded s.vol.rest.enabled sun t
+  unfolding next_of_set
+  nothing-starts p = sym (ap (λ (o : Option RuleSet). next_of_set o s.vol.rest.enabled sun t) (none-given s.loaded p))
 
-    pub starts_from : (img : List ℕ) (enabled : List Bool) (r : NextStart) → LoadedImage w img s → enabled ≡ s.vol.rest.enabled → r ≡ next_from img enabled sun t
-        → r ≡ next_of_set s.loaded s.vol.rest.enabled sun t
-    unfolding next_of_set
-    starts_from img enabled r l b q =
-        q ∙ ap (λ (x : List Bool). next_from img x sun t) b
-        ∙ sym (ap (λ (x : List ℕ). next_from x s.vol.rest.enabled sun t) l.image)
-        ∙ sym (ap (λ (o : Option RuleSet). next_of_set o s.vol.rest.enabled sun t) l.is)
+  pub starts_from : (img : List ℕ) (enabled : List Bool) (r : NextStart) → Some img ≡ option_map (λ (set : RuleSet). set.image) s.loaded → enabled ≡ s.vol.rest.enabled
+      → r ≡ next_from img enabled sun t → r ≡ next_of_set s.loaded s.vol.rest.enabled sun t
+  unfolding next_of_set
+  starts_from img enabled r h b q = q ∙ ap (λ (x : List Bool). next_from img x sun t) b ∙ go s.loaded h
+    where
+      go : (o : Option RuleSet) → Some img ≡ option_map (λ (set : RuleSet). set.image) o → next_from img s.vol.rest.enabled sun t ≡ next_of_set o s.vol.rest.enabled sun t
+      go None e = absurd (none-some img (sym e))
+      go (Some set) e = ap (λ (x : List ℕ). next_from x s.vol.rest.enabled sun t) (same_Some img set.image e)
 
 -- THE CLOCK -------------------------------------------------------------------------------------------------------------------------------
 module _ (s : Store) (w : World) (clock : Option WallTime) (is : clock ≡ w.wall) where
@@ -82,8 +84,12 @@ module _ (s : Store) (w : World) (clock : Option WallTime) (is : clock ≡ w.wal
   known-clock time sun t r e q f says = rw (← is, e, ← q, ← f) says
 
 -- THE ANSWER ------------------------------------------------------------------------------------------------------------------------------
-pub start-shown : (snap w : List ℕ) (k : Said w) (r : NextStart) → snapshot_refusal snap ≡ 0 → r ≡ next_start k.store (world_of snap)
-    → shown_asked 0 (start_values r) [] ≡ next_start_on snap w
-unfolding shown_asked next_start_on
-start-shown snap w k r z e =
-    ap start_asked e ∙ sym (asked-answered w k.store 0 (snapshot_refusal snap) (λ s. start_asked (next_start s (world_of snap))) k.is z)
+pub start-shown : (snap w : List ℕ) (s : Store) (r : NextStart) → read w ≡ Some s → snapshot_refusal snap ≡ 0 → r ≡ next_start s (world_of snap)
+    → shown_result start_values (Ok r) [] ≡ next_start_on snap w
+unfolding shown_result next_start_on
+start-shown snap w s r i z e =
+    ap start_asked e ∙ sym (asked-answered w s 0 (snapshot_refusal snap) (λ s. start_asked (next_start s (world_of snap))) i z)
+
+pub start-refused : (snap w : List ℕ) (r : Refusal) → refusal_code r ≡ lowest_of (read w) w (snapshot_refusal snap) → shown_result start_values (Err r) [] ≡ next_start_on snap w
+unfolding next_start_on
+start-refused snap w r q = asked-refused start_values w r (snapshot_refusal snap) _ q

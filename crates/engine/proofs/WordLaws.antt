@@ -28,15 +28,18 @@ pub record Said (w : List ℕ) : Type 0 where
   pub reads : ReadsAs w store
   pub long : length w ≡ 16384
 
+abbrev pub saying : (w : List ℕ) (s : Store) → read w ≡ Some s → Said w
+saying w s e =
+    let r = write_read w s e in
+    let a = from-read w s e in
+    record { store = s; is = e; written = r.written; keeps = r.keeps; reads = a; long = a.readable.long }
+
 pub said : (w : List ℕ) → present (read w) ≡ true → Said w
 said w p = go (read w) refl p
   where
     go : (o : Option Store) → read w ≡ o → present o ≡ true → Said w
     go None e p = absurd (false≢true p)
-    go (Some s) e p =
-        let r = write_read w s e in
-        let a = from-read w s e in
-        record { store = s; is = e; written = r.written; keeps = r.keeps; reads = a; long = a.readable.long }
+    go (Some s) e p = saying w s e
 
 -- the value that is read is the store's
 pub value_read : (w : List ℕ) (s : Store) → read w ≡ Some s → (n : ℕ) (v : List ℕ) → n ≡ rule_count s.loaded → AllNumbered v (volatile_in n (changing_in w)) → AllNumbered v s.vol

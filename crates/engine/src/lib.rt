@@ -6,16 +6,17 @@
 ghost use Rattle.std.specs.Prelude.{◌≡◌, [], length};
 ghost use Rattle.model.specs.Calls.{new, load, unload, enable, tick, run, deadline, counters};
 ghost use Rattle.model.specs.OnWords.{call_on};
-ghost use Rattle.model.specs.Asked.{shown_asked};
-ghost use Rattle.model.specs.Refusals.{refusal_number};
+ghost use Rattle.model.specs.Asked.{shown_result};
 ghost use Rattle.next.specs.NextStart.{start_values};
 ghost use Rattle.engine.specs.Seen.{seen};
-ghost use Rattle.engine.specs.Answers.{shown, values_of, no_values, enabled_values, handled_values, due_values, counter_values};
+ghost use Rattle.engine.specs.Answers.{shown, no_values, enabled_values, handled_values, due_values, counter_values};
 ghost use Rattle.engine.specs.Asked.{next_start_on};
 
 use activate::Handled;
+use asked::{opened, opened_with};
 use model::Refusal;
 use next::NextStart;
+use state::place::WORDS;
 
 pub mod asked;
 mod handle;
@@ -38,9 +39,13 @@ pub fn new(store: &mut [u32], time: u64) -> Result<(), Refusal>
 pub fn load(store: &mut [u32], time: u64, image: &[u32]) -> Result<(), Refusal>
     ensures { shown no_values result store.new [] [] ≡ seen (call_on (load time image.now) store.old) }
 {
-    stored::refusal(store)?;
+    let checked = opened(store)?;
     load::refusal(image)?;
-    sets::load(store, time, image);
+    let mut v = [0u32; WORDS];
+    sets::with_set(&checked, image, time, &mut v);
+    store::put_set::put_loaded(store, image);
+    store::volatile::put_state(store, &v);
+    store::set::put_last(store, time);
     Ok(())
 }
 
@@ -48,17 +53,28 @@ pub fn load(store: &mut [u32], time: u64, image: &[u32]) -> Result<(), Refusal>
 pub fn unload(store: &mut [u32], time: u64) -> Result<(), Refusal>
     ensures { shown no_values result store.new [] [] ≡ seen (call_on (unload time) store.old) }
 {
-    stored::refusal(store)?;
-    sets::unload(store, time);
+    let checked = opened(store)?;
+    let mut v = [0u32; WORDS];
+    sets::without_set(&checked, &mut v);
+    store::set::put_unloaded(store);
+    store::volatile::put_state(store, &v);
+    store::set::put_last(store, time);
     Ok(())
 }
 
-// A rule, by its name, is enabled or disabled.
+// A rule, by its name, is enabled or disabled; who disables also drops the rule's continuations. Whether there is such a rule.
 pub fn enable(store: &mut [u32], rule: u32, on: bool) -> Result<bool, Refusal>
     ensures { shown enabled_values result store.new [] [] ≡ seen (call_on (enable rule on) store.old) }
 {
-    stored::refusal(store)?;
-    Ok(stored::enable(store, rule, on))
+    let checked = opened(store)?;
+    let Some(i) = checked.rule_in(rule) else {
+        return Ok(false);
+    };
+    let mut v = [0u32; WORDS];
+    checked.begin(&mut v);
+    state::rules::set_enabled(&mut v, rule, i as usize, on);
+    store::volatile::put_state(store, &v);
+    Ok(true)
 }
 
 // What is due in the world of a snapshot runs. Outcomes and effects go into the lent stores.
@@ -72,9 +88,11 @@ pub fn tick(
 {
     lent_words::clear(outcomes);
     lent_words::clear(effects);
-    stored::refusal(store)?;
-    world::refusal(snapshot)?;
-    handle::tick(store, snapshot, outcomes, effects)
+    let checked = opened_with(store, snapshot)?;
+    let mut v = [0u32; WORDS];
+    checked.begin(&mut v);
+    let x = handle::service(&checked, snapshot, outcomes, effects, &mut v);
+    handle::commit(store, outcomes, effects, world::now_ms(snapshot), &mut v, x)
 }
 
 // A rule runs, by its name, in the world of a snapshot.
@@ -90,31 +108,33 @@ pub fn run(
 {
     lent_words::clear(outcomes);
     lent_words::clear(effects);
-    stored::refusal(store)?;
-    world::refusal(snapshot)?;
-    handle::run(store, rule, dry, snapshot, outcomes, effects)
+    let checked = opened_with(store, snapshot)?;
+    let mut v = [0u32; WORDS];
+    checked.begin(&mut v);
+    let x = handle::run_rule(&checked, snapshot, outcomes, effects, &mut v, rule, dry);
+    handle::commit(store, outcomes, effects, world::now_ms(snapshot), &mut v, x)
 }
 
 // When the store next has something to do.
 pub fn next_deadline(store: &[u32]) -> Result<Option<u64>, Refusal>
     ensures { shown due_values result store.now [] [] ≡ seen (call_on deadline store.now) }
 {
-    stored::refusal(store)?;
-    Ok(stored::next_deadline(store))
+    let checked = opened(store)?;
+    Ok(stored::next_deadline(&checked))
 }
 
 // The 12 counters, then how many are pending, timers, rules and variables.
 pub fn counters(store: &[u32]) -> Result<[u32; 16], Refusal>
     ensures { shown counter_values result store.now [] [] ≡ seen (call_on counters store.now) }
 {
-    stored::refusal(store)?;
-    Ok(stored::counters(store))
+    let checked = opened(store)?;
+    Ok(stored::counters(&checked))
 }
 
 // What starts next by the wall clock, in the world of a snapshot.
 pub fn next_start(store: &[u32], snapshot: &[u32]) -> Result<NextStart, Refusal>
-    ensures { shown_asked (refusal_number result) (values_of start_values result) [] ≡ next_start_on snapshot.now store.now }
+    ensures { shown_result start_values result [] ≡ next_start_on snapshot.now store.now }
 {
-    asked::refusal(store, snapshot)?;
-    Ok(starts::next_start(store, snapshot))
+    let checked = opened_with(store, snapshot)?;
+    Ok(starts::next_start(&checked, snapshot))
 }

@@ -1,10 +1,7 @@
 -- `cerambiu::cerambiu_crontab` meets its contract. Assumes nothing.
-use Rattle.cerambiu.proofs.Seeing.{ok-told, err-told}
+use Rattle.cerambiu.specs.Told.{trigger_values}
+use Rattle.cerambiu.proofs.Seeing.{result-told}
 use Rattle.cerambiu.proofs.cerambiu_crontab.Goals as goal
 
-pub returns-in-Ok : goal.returns-in-Ok
-returns-in-Ok c = ok-told _ _ _ _ _ _ c.in-Ok.count c.in-Ok.ensures c.put_asked.ensures.0 c.put_asked.ensures.1
-
-pub returns-in-Err : goal.returns-in-Err
-returns-in-Err c =
-    err-told _ _ _ _ _ _ c.in-Err.refusal _ _ c.in-Err.ensures c.from.ensures c.put_asked-in-Err.ensures.0 c.put_asked-in-Err.ensures.1
+pub returns : goal.returns
+returns c = result-told trigger_values _ _ _ _ _ _ c.read.ensures c.put_answer.ensures.0 c.put_answer.ensures.1

@@ -1,10 +1,8 @@
 -- `cerambiu::cerambiu_room` meets its contract. Assumes nothing.
-use Rattle.cerambiu.proofs.Seeing.{ok-told, err-told}
+use mathlib.Core.Path.{◌∙◌}
+use Rattle.cerambiu.specs.Told.{needed_values}
+use Rattle.cerambiu.proofs.Seeing.{result-told, room-shown}
 use Rattle.cerambiu.proofs.cerambiu_room.Goals as goal
 
-pub returns-in-Ok : goal.returns-in-Ok
-returns-in-Ok c = ok-told _ _ _ _ _ _ c.in-Ok.a c.in-Ok.ensures c.put_asked.ensures.0 c.put_asked.ensures.1
-
-pub returns-in-Err : goal.returns-in-Err
-returns-in-Err c =
-    err-told _ _ _ _ _ _ c.in-Err.refusal _ _ c.in-Err.ensures c.from.ensures c.put_asked-in-Err.ensures.0 c.put_asked-in-Err.ensures.1
+pub returns : goal.returns
+returns c = result-told needed_values _ _ _ _ _ _ (room-shown _ ∙ c.room_for.ensures) c.put_answer.ensures.0 c.put_answer.ensures.1

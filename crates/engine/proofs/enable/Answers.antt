@@ -3,15 +3,31 @@ use Rattle.std.proofs.lemmas.Result.{err_from_is_err_and}
 use mathlib.Core.Path.{refl}
 use Rattle.model.specs.Calls.{enable}
 use Rattle.engine.specs.Answers.{enabled_values}
-use Rattle.engine.proofs.Seeing.{is_store, refused-seen}
-use Rattle.engine.proofs.CallLaws.{enable-on}
+use Rattle.engine.proofs.Seeing.{refused-seen}
+use Rattle.engine.proofs.WordLaws.{saying}
+use Rattle.engine.proofs.CallLaws.{itself, flipped-numbers, enable-on, enable-no, enable-yes}
 use Rattle.engine.proofs.enable.Goals as goal
 
-pub returns-in_err-refusal : goal.returns-in_err-refusal
-returns-in_err-refusal c =
+pub returns-in_err-checked : goal.returns-in_err-checked
+returns-in_err-checked c =
     let a = c.args in
     let p = err_from_is_err_and c.from_residual.result c.from_residual.ensures.1 in
-    rw (p.1, p.2) (refused-seen _ _ c.in_err-refusal.ensures enabled_values (enable a.rule a.on) _ _ (enable-on a.rule a.on _) refl refl)
+    rw (p.1, p.2) (refused-seen _ _ c.in_err-checked.ensures.number enabled_values (enable a.rule a.on) _ _ (enable-on a.rule a.on _) refl refl)
 
-pub enable-requires : goal.enable-requires
-enable-requires c = is_store _ c.in_ok-refusal.ensures
+pub returns-in_default : goal.returns-in_default
+returns-in_default c = enable-no c.args.rule c.args.on _ (saying _ _ c.in_ok-checked.ensures.value) _ c.rule_in.ensures c.in_default.is
+
+pub set_enabled-requires : goal.set_enabled-requires
+set_enabled-requires c = c.begin.ensures.sound
+
+pub put_state-requires : goal.put_state-requires
+put_state-requires c =
+    let k = saying _ _ c.in_ok-checked.ensures.value in
+    (k.long, itself (flipped-numbers _ _ k.store c.args.rule _ c.args.on c.begin.ensures c.set_enabled.ensures))
+
+pub returns : goal.returns
+returns c =
+    let k = saying _ _ c.in_ok-checked.ensures.value in
+    enable-yes c.args.rule _ c.args.on _ _ _ k _ c.rule_in.ensures c.in-Some.is
+    (flipped-numbers _ _ k.store c.args.rule _ c.args.on c.begin.ensures c.set_enabled.ensures)
+    c.put_state.ensures

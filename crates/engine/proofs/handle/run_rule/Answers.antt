@@ -11,23 +11,25 @@ use Rattle.engine.proofs.handle.run_rule.Goals as goal
 pub run_at-requires : goal.run_at-requires
 run_at-requires c =
     record {
-      store_value = (c.requires.0, λ t e. found_at (rule_in t.loaded c.args.rule) _ _ (c.rule_in.ensures t e) c.in-Some.is);
-      room = room-begun c.args.v.now _ c.requires.1;
+      loaded = found_at (rule_in c.args.store.now.loaded c.args.rule) _ _ c.rule_in.ensures c.in-Some.is;
+      room = room-begun c.args.v.now _ c.requires;
     }
 
 pub returns-in-None : goal.returns-in-None
-returns-in-None c s e =
+returns-in-None c =
     let a = c.args in
+    let s = a.store.now in
     let v = a.v.now in
-    let n = found_none (rule_in s.loaded a.rule) _ (c.rule_in.ensures s e) c.in-None.is in
-    rw (ran-nothing s.loaded a.rule a.dry a.snapshot.now (meaning v) n) (nothing-done (begun v) _ _ c.requires.1.sound)
+    let n = found_none (rule_in s.loaded a.rule) _ c.rule_in.ensures c.in-None.is in
+    rw (ran-nothing s.loaded a.rule a.dry a.snapshot.now (meaning v) n) (nothing-done (begun v) _ _ c.requires.sound)
 
 pub returns-in-Some : goal.returns-in-Some
-returns-in-Some c s e =
+returns-in-Some c =
     let a = c.args in
+    let s = a.store.now in
     let v = a.v.now in
-    let q = found_at (rule_in s.loaded a.rule) _ _ (c.rule_in.ensures s e) c.in-Some.is in
+    let q = found_at (rule_in s.loaded a.rule) _ _ c.rule_in.ensures c.in-Some.is in
     let l = set-of s.loaded a.rule _ q in
     continues-as (begun v) _ _ _ _ _ _ _
     (ran-rule s.loaded l.0 a.rule _ a.dry a.snapshot.now (meaning v) l.1 q)
-    (c.run_at.ensures s l.0 e l.1)
+    (c.run_at.ensures l.0 l.1)

@@ -5,19 +5,21 @@ use Rattle.engine.proofs.LoadedLaws.{activation-kept, position-kept, activations
 use Rattle.engine.proofs.sets.put_rule.Goals as goal
 
 pub name_of-requires : goal.name_of-requires
-name_of-requires c = (loadable _ c.requires.1).sized
+name_of-requires c = (loadable _ c.requires.0).sized
 
 pub enabled_of-on-requires : goal.enabled_of-on-requires
-enabled_of-on-requires c = (loadable _ c.requires.1).sized
+enabled_of-on-requires c = (loadable _ c.requires.0).sized
 
 pub returns : goal.returns
-returns c s e =
+returns c =
     let a = c.args in
-    let w = a.store.now in
+    let s = a.store.now in
+    let w = c.words-words.result.now in
+    let e = c.words-words.ensures in
     let img = a.image.now in
     let p = c.old_place-k.ensures in
     let n = c.name_of.ensures in
     rule-put img s a.i a.v.now _ _ _ _ _ _ c.enabled_of-on.ensures
-    (activation-kept w s e _ _ img a.i _ n c.last_activation-activation.ensures (p s (changing_in w).activations e (activations-all w)))
-    (position-kept w s e _ _ img a.i _ n c.cycle_pos-position.ensures (p s (changing_in w).positions e (positions-all w)))
+    (activation-kept w s e _ _ img a.i _ n c.last_activation-activation.ensures (p (changing_in w).activations (activations-all w)))
+    (position-kept w s e _ _ img a.i _ n c.cycle_pos-position.ensures (p (changing_in w).positions (positions-all w)))
     c.put_bit.ensures c.put_last_activation.ensures c.put_cycle_pos.ensures

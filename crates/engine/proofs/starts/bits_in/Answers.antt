@@ -1,12 +1,12 @@
 -- `engine::starts::bits_in` meets its contract. Assumes nothing.
 use mathlib.Core.Path.{refl}
 use native.Mathlib.Omega.{arith}
-use Rattle.engine.proofs.WordLaws.{said}
+use Rattle.engine.proofs.WordLaws.{saying}
 use Rattle.engine.proofs.StartLaws.{enabled-words}
 use Rattle.engine.proofs.starts.bits_in.Goals as goal
 
 pub slice_bounds-result-end : goal.slice_bounds-result-end
-slice_bounds-result-end c = omega (arith, (said _ c.requires).long, c.rule_count.ensures.0)
+slice_bounds-result-end c = omega (arith, (saying _ _ c.words.ensures).long, c.rule_count-to.ensures.few)
 
 pub returns : goal.returns
-returns c s e = enabled-words _ s e c.rule_count.result _ c.rule_count.ensures.0 (c.rule_count.ensures.1 s e) refl
+returns c = enabled-words _ c.args.store.now c.words.ensures c.rule_count-to.result _ c.rule_count-to.ensures.few c.rule_count-to.ensures.count refl

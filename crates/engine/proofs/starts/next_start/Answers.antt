@@ -6,11 +6,11 @@ use Rattle.engine.proofs.starts.next_start.Goals as goal
 
 pub week_minute-requires : goal.week_minute-requires
 week_minute-requires c =
-    wall-in-range _ c.requires.1 (sym c.wall.ensures ∙ c.in-Some.is)
+    wall-in-range _ c.requires (sym c.wall.ensures ∙ c.in-Some.is)
 
 pub returns-in-Some : goal.returns-in-Some
-returns-in-Some c s e =
-    known-clock s _ _ c.wall.ensures _ _ _ _ c.in-Some.is c.sun.ensures c.week_minute.ensures.0 (c.next_from.ensures s e)
+returns-in-Some c =
+    known-clock c.args.store.now _ _ c.wall.ensures _ _ _ _ c.in-Some.is c.sun.ensures c.week_minute.ensures.0 c.next_from.ensures
 
 pub returns-in-None : goal.returns-in-None
-returns-in-None c s e = unknown-clock s _ _ c.wall.ensures c.in-None.is
+returns-in-None c = unknown-clock c.args.store.now _ _ c.wall.ensures c.in-None.is
