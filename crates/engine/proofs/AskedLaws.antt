@@ -1,18 +1,12 @@
 -- Calls that ask: the checks, and the two of the eight that do. Assumes nothing.
 use mathlib.Core.Path.{◌≡◌, refl, sym, ap, ◌∙◌}
-use mathlib.Core.Bool.{Bool, true, false, cond, false≢true}
+use mathlib.Core.Bool.{true}
 use mathlib.Core.List.{List, []}
 use Rattle.std.specs.Prelude.{Option, None, Some}
 use Prim.Native.Nat.{ℕ, zero, suc}
-use native.Mathlib.Omega.{arith}
-use lib.Dec.{eqb}
-use lib.ListN.{length, replicate}
-use borrow.Author.Tests.{ne_eqb}
 use Rattle.model.specs.Lists.{present}
-use Rattle.model.specs.Field.{unless}
 use Rattle.model.specs.State.{Store}
 use Rattle.model.specs.Store.{read, write}
-use Rattle.model.specs.Wheel.{next_deadline}
 use Rattle.model.specs.Calls as model
 use Rattle.model.specs.Calls.{Call, deadline, counters, done, refused, enabled, handled, due, counted, answered, counters_of, call}
 use Rattle.model.specs.Answers as answers
@@ -35,16 +29,6 @@ lowest-cases {P = P} w n other q f g = go (read w) refl q
     go : (o : Option Store) → read w ≡ o → n ≡ lowest_of o w other → P
     go None e z = f (z ∙ sym (ap (λ (o : Option Store). refusal_of o w) e))
     go (Some s) e z = g (ap present e) z
-
-pub store-lowest : (w : List ℕ) (n other : ℕ) → n ≡ refusal_of (read w) w → (n ≡ 0 → ⊥) → n ≡ lowest_of (read w) w other
-store-lowest w n other q z = go (read w) q
-  where
-    go : (o : Option Store) → n ≡ refusal_of o w → n ≡ lowest_of o w other
-    go None e = e
-    go (Some s) e = absurd (z e)
-
-pub other-lowest : (w : List ℕ) (s : Store) (m other : ℕ) → read w ≡ Some s → m ≡ other → m ≡ lowest_of (read w) w other
-other-lowest w s m other e q = q ∙ sym (ap (λ (o : Option Store). lowest_of o w other) e)
 
 module _ (w : List ℕ) (n other : ℕ) (q : n ≡ lowest_of (read w) w other) where
   pub asked-declined : (n ≡ 0 → ⊥) → (k : ℕ) (answer : Store → Asked) → asked w other k answer ≡ declined k n

@@ -72,6 +72,7 @@ fn starts(v: &[u32], i: u32, dry: bool) -> bool
 }
 
 // Rule i of the loaded set runs.
+// kept: crates `activate` and `wheel` take the lent words one by one; `&mut` slices in a struct would be taken apart at each call of theirs
 fn run_at(
     store: &Checked,
     snapshot: &[u32],

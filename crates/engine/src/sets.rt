@@ -36,6 +36,7 @@ fn old_place(store: &Checked, name: u32) -> usize
 }
 
 // Rule i of a set: its bit, and what the store keeps for its name.
+// kept: that load accepts the image is found once, by `load::refusal`, and said here alone; `Sound` is a fact of crate `state`, whose functions take the words `v`
 fn put_rule(store: &Checked, image: &[u32], i: u32, v: &mut [u32])
     requires { (image_refusal image.now ≡ 0) × Sound v.old }
     ensures { Means v.new (base v.old) (with_rest (rule_of image.now store.now i (meaning v.old).rest) (meaning v.old)) }

@@ -17,9 +17,6 @@ returns-in_err-checked c =
 pub returns-in_default : goal.returns-in_default
 returns-in_default c = enable-no c.args.rule c.args.on _ (saying _ _ c.in_ok-checked.ensures.value) _ c.rule_in.ensures c.in_default.is
 
-pub set_enabled-requires : goal.set_enabled-requires
-set_enabled-requires c = c.begin.ensures.sound
-
 pub put_state-requires : goal.put_state-requires
 put_state-requires c =
     let k = saying _ _ c.in_ok-checked.ensures.value in

@@ -20,9 +20,6 @@ returns-in_err-refusal c =
     let p = err_from_is_err_and c.from_residual-in_err-refusal.result c.from_residual-in_err-refusal.ensures.1 in
     rw (p.1, p.2) (load-refused no_values c.args.time c.args.image.now _ _ (saying _ _ c.in_ok-checked.ensures.value) c.in_err-refusal.ensures)
 
-pub with_set-requires : goal.with_set-requires
-with_set-requires c = (sym c.in_ok-refusal.ensures, refl)
-
 pub put_loaded-requires : goal.put_loaded-requires
 put_loaded-requires c = ((saying _ _ c.in_ok-checked.ensures.value).long, sym c.in_ok-refusal.ensures)
 

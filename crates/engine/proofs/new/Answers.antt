@@ -7,9 +7,6 @@ use Rattle.engine.proofs.new.Goals as goal
 pub returns-then-not-sized : goal.returns-then-not-sized
 returns-then-not-sized c = new-refused _ _ (sym c.sized.ensures ∙ not-true _ c.if-not-sized.true-raw)
 
-pub put_new-requires : goal.put_new-requires
-put_new-requires c = eqb-true _ _ (sym c.sized.ensures ∙ not-false _ c.if-not-sized.false-raw)
-
 pub returns : goal.returns
 returns c =
     new-done _ _ _

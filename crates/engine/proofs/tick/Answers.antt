@@ -1,10 +1,7 @@
 -- `engine::tick` meets its contract. Assumes nothing.
 use Rattle.std.proofs.lemmas.Result.{err_from_is_err_and}
-use mathlib.Core.Path.{ap}
 use lib.ListN.{length}
-use Rattle.model.specs.Lists.{present}
 use Rattle.engine.specs.Answers.{handled_values}
-use Rattle.engine.proofs.CallLaws.{itself}
 use Rattle.engine.proofs.TickLaws.{tick-declined, tick-ends}
 use Rattle.engine.proofs.tick.Goals as goal
 
@@ -13,12 +10,6 @@ returns-in_err-checked c =
     let a = c.args in
     let p = err_from_is_err_and c.from_residual.result c.from_residual.ensures.1 in
     rw (p.1, p.2) (tick-declined handled_values a.snapshot.now (length a.outcomes.now) (length a.effects.now) _ _ _ _ c.in_err-checked.ensures.number c.clear.ensures c.clear-2.ensures)
-
-pub service-x-requires : goal.service-x-requires
-service-x-requires c = (c.in_ok-checked.ensures.accepted, c.begin.ensures)
-
-pub commit-requires : goal.commit-requires
-commit-requires c = (ap present c.in_ok-checked.ensures.value, c.service-x.ensures.state.sound)
 
 pub returns : goal.returns
 returns c =

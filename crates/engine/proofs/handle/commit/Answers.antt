@@ -1,6 +1,6 @@
 -- `engine::handle::commit` meets its contract. Assumes nothing.
-use mathlib.Core.Path.{sym, ◌∙◌}
-use borrow.Author.Tests.{not-true, not-false, leb-true}
+use mathlib.Core.Path.{◌∙◌}
+use borrow.Author.Tests.{not-true, not-false}
 use Rattle.model.proofs.StoreLaws.{write_read}
 use Rattle.engine.proofs.WordLaws.{said}
 use Rattle.engine.proofs.CallLaws.{itself}
@@ -30,10 +30,6 @@ returns-then-not-last_fits c s h e o =
     let a = c.args in
     let r = c.refuse-then-not-last_fits.ensures in
     rw r.0 (last-over a.v.now a.x a.time _ _ _ s h o _ _ r.1 r.2 c.if-outcomes-x.false c.if-effects-x.false _ c.next_fits.ensures (not-false _ c.if-not-next_fits.false-raw) _ c.last_fits.ensures (not-true _ c.if-not-last_fits.true-raw))
-
-pub assign_numbers-requires : goal.assign_numbers-requires
-assign_numbers-requires c =
-    (c.requires.1, sym c.next_fits.ensures ∙ not-false _ c.if-not-next_fits.false-raw, leb-true _ _ (sym c.last_fits.ensures ∙ not-false _ c.if-not-last_fits.false-raw))
 
 pub put_state-requires : goal.put_state-requires
 put_state-requires c = ((said _ c.requires.0).long, itself c.assign_numbers.ensures)

@@ -17,17 +17,14 @@ returns-then-not-starts c set l =
     let a = c.args in
     not-started _ (carried a.v.now a.x) _ a.i _ _ _ a.dry c.starts.ensures (not-true _ c.if-not-starts.true-raw) c.bump.ensures refl refl
 
-pub activate-requires : goal.activate-requires
-activate-requires c =
+pub activate-requires-clause-accepted : goal.activate-requires-clause-accepted
+activate-requires-clause-accepted c =
     let s = c.args.store.now in
     let q = c.requires.loaded in
     let n = set-of s.loaded c.args.rule c.args.i q in
     let l = image-of _ _ s c.words-words.ensures c.image_in-image.ensures n.0 n.1 in
     let b = rule-inside _ _ s l c.args.rule c.args.i q in
-    record {
-      accepted = ((loadable _ l.passes).accepted, part-fits _ _ _ l.kept c.args.i b _ _ c.rule_steps-part.ensures c.rule_own-own.ensures l.passes, b);
-      room = c.requires.room;
-    }
+    ((loadable _ l.passes).accepted, part-fits _ _ _ l.kept c.args.i b _ _ c.rule_steps-part.ensures c.rule_own-own.ensures l.passes, b)
 
 pub returns : goal.returns
 returns c set l =

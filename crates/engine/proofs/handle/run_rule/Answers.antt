@@ -5,15 +5,8 @@ use Rattle.activate.proofs.Continues.{nothing-done}
 use Rattle.store.proofs.RecordRules.{found_none, found_at}
 use Rattle.engine.specs.Handling.{begun}
 use Rattle.engine.proofs.LoadedLaws.{set-of}
-use Rattle.engine.proofs.HandlingLaws.{ran-nothing, ran-rule, continues-as, room-begun}
+use Rattle.engine.proofs.HandlingLaws.{ran-nothing, ran-rule, continues-as}
 use Rattle.engine.proofs.handle.run_rule.Goals as goal
-
-pub run_at-requires : goal.run_at-requires
-run_at-requires c =
-    record {
-      loaded = found_at (rule_in c.args.store.now.loaded c.args.rule) _ _ c.rule_in.ensures c.in-Some.is;
-      room = room-begun c.args.v.now _ c.requires;
-    }
 
 pub returns-in-None : goal.returns-in-None
 returns-in-None c =

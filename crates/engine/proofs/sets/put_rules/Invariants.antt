@@ -1,6 +1,4 @@
 -- `engine::sets::put_rules` meets its contract. The invariant: the first i rules are set. Assumes nothing.
-use mathlib.Core.Path.{◌≡◌}
-use Prim.Native.Nat.{◌≤◌}
 use Rattle.model.specs.State.{with_rest}
 use Rattle.state.specs.Meaning.{Means, meaning, base}
 use Rattle.engine.proofs.SetLaws.{rules_to}

@@ -17,9 +17,6 @@ rebuild_every-requires c =
       k_bound = (omega arith, omega (arith, c.word_at-n.ensures, (counted _ k.reads.readable).slots), c.begin.ensures.sound);
     }
 
-pub put_rules-requires : goal.put_rules-requires
-put_rules-requires c = (c.requires.0, c.drop_all.ensures.0.sound)
-
 pub returns : goal.returns
 returns c =
     let s = c.args.store.now in

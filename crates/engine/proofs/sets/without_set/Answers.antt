@@ -4,8 +4,5 @@ use Rattle.engine.proofs.CallLaws.{itself}
 use Rattle.engine.proofs.SetLaws.{set-left}
 use Rattle.engine.proofs.sets.without_set.Goals as goal
 
-pub drop_all-requires : goal.drop_all-requires
-drop_all-requires c = c.begin.ensures.sound
-
 pub returns : goal.returns
 returns c = set-left c.args.store.now _ _ _ _ (itself c.begin.ensures) (sym c.begin.ensures.says) c.drop_all.ensures.0 c.drop_every.ensures c.unset_rules.ensures

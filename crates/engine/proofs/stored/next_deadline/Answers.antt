@@ -1,5 +1,4 @@
 -- `engine::stored::next_deadline` meets its contract. Assumes nothing.
-use mathlib.Core.Path.{refl}
 use Rattle.engine.proofs.DeadlineLaws.{accepted-if, deadline-is}
 use Rattle.engine.proofs.stored.next_deadline.Goals as goal
 
