@@ -1,22 +1,17 @@
 -- What a C caller sees, from what a caller of `engine` sees. Assumes nothing.
-use mathlib.Core.Path.{◌≡◌, refl, sym, ap, ◌∙◌}
-use mathlib.Core.Bool.{cond}
+use mathlib.Core.Path.{◌≡◌, refl, ap, ◌∙◌}
 use mathlib.Core.List.{List, []}
 use Prim.Native.Nat.{ℕ}
 use Rattle.model.specs.OnWords as OnWords
 use Rattle.engine.specs.Seen.{Seen, seen}
 use Rattle.engine.specs.Answers.{values_of, shown}
-use borrow.Author.Tests.{ne_eqb}
 use Rattle.std.specs.Prelude.{Result, Ok, Err}
 use Rattle.model.specs.declared.Refusal.{Refusal}
-use Rattle.model.specs.Refusals.{refusal_code, refusal_number}
-use Rattle.model.specs.Asked.{Asked, shown_asked, shown_result}
-use Rattle.model.proofs.RefusalLaws.{refusal-some}
+use Rattle.model.specs.Refusals.{refusal_number}
+use Rattle.model.specs.Asked.{Asked, shown_result}
 use Rattle.cerambiu.specs.Called.{Called, called, lent_answer, answered}
 use Rattle.cerambiu.specs.Told as Told
-use Rattle.cerambiu.specs.Told.{tells, needed_values}
-use Rattle.room.specs.Needed as room
-use Rattle.room.specs.declared.Needed.{Needed}
+use Rattle.cerambiu.specs.Told.{tells}
 
 -- THE CALLS ------------------------------------------------------------------------------------------------------------------------------
 -- what engine shows, with n words lent for the values
@@ -40,8 +35,3 @@ pub result-told : {A : Type 0} (f : A → List ℕ) (n : ℕ) (asked : Asked) (a
 unfolding shown_result Told.told
 result-told f n asked (Ok x) number answer lent e m v = (λ i. tells (m i) (v i) lent) ∙ ap (Told.told n) e
 result-told f n asked (Err r) number answer lent e m v = (λ i. tells (m i) (v i) lent) ∙ ap (Told.told n) e
-
-pub room-shown : (a : Result Needed Refusal) → shown_result needed_values a [] ≡ room.shown a
-unfolding shown_result room.shown shown_asked
-room-shown (Ok r) = refl
-room-shown (Err r) = λ i. record { number = refusal_code r; values = cond (sym (ne_eqb (refusal_code r) 0 (refusal-some r)) i) [] []; lent = [] }

@@ -5,7 +5,6 @@ use Rattle.model.specs.Telegrams as telegrams
 use Rattle.model.specs.declared.Refusal.{Refusal}
 use Rattle.model.specs.Refusals.{refusal_number}
 use Rattle.model.specs.Asked.{Asked}
-use Rattle.room.specs.declared.Needed.{Needed}
 use Rattle.cerambiu.specs.Called.{lent_answer}
 
 pub record Told : Type 0 where
@@ -23,10 +22,6 @@ told n a = tells a.number (lent_answer n a.values) a.lent
 -- how many triggers
 abbrev pub trigger_values : ℕ → List ℕ
 trigger_values n = n ∷ []
-
--- the room for outcomes and effects
-abbrev pub needed_values : Needed → List ℕ
-needed_values r = r.outcomes ∷ r.effects ∷ []
 
 -- TELEGRAMS, which asks no store
 -- the count in two words, low first

@@ -9,11 +9,11 @@ ghost use Rattle.model.specs.OnWords.{call_on};
 ghost use Rattle.model.specs.Crontab.{crontab};
 ghost use Rattle.next.specs.NextStart.{start_values};
 ghost use Rattle.engine.specs.Answers.{values_of, no_values, enabled_values, handled_values, due_values, counter_values};
-ghost use Rattle.room.specs.Needed.{room_for};
+ghost use Rattle.room.specs.Needed.{numbers, room_for};
 ghost use Rattle.engine.specs.Asked.{next_start_on};
 ghost use Rattle.cerambiu.specs.Called.{called, answered, lent_answer};
 ghost use Rattle.model.specs.Refusals.{refusal_number};
-ghost use Rattle.cerambiu.specs.Told.{tells, told, trigger_values, count_values, needed_values, sending};
+ghost use Rattle.cerambiu.specs.Told.{tells, told, trigger_values, count_values, sending};
 
 use activate::Handled;
 use model::Refusal;
@@ -108,7 +108,7 @@ impl Answer for usize {
 
 // The room for outcomes and effects.
 impl Answer for Needed {
-    ghost words = { needed_values };
+    ghost words = { numbers };
 
     fn put(self, answer: &mut [u32]) {
         put_values(answer, &[self.outcomes, self.effects]);

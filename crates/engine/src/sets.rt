@@ -9,7 +9,7 @@ ghost use Rattle.state.specs.Meaning.{AllNumbered, Sound, Means, meaning, base, 
 ghost use Rattle.engine.specs.Sets.{cleared, rule_of, rules_of};
 
 use image::layout::{Table, size_of};
-use rows::read;
+use rows::row::Row;
 use state::place::MAX_RULES;
 use store::checked::Checked;
 use store::table;
@@ -70,7 +70,7 @@ pub fn with_set(store: &Checked, image: &[u32], time: u64, v: &mut [u32])
 {
     let words = store.words();
     store.begin(v);
-    let n = read::word_at(words, table::SLOTS) as usize;
+    let n = u32::at(words, table::SLOTS) as usize;
     every::rebuild_every(image, words, table::SLOTS + 1, n, time, v);
     state::pending::drop_all(v);
     put_rules(store, image, v);

@@ -3,7 +3,7 @@ ghost use Rattle.std.specs.Prelude.{◌≡◌};
 ghost use Rattle.model.specs.Calls.{counters_of};
 ghost use Rattle.model.specs.Wheel.{next_deadline};
 
-use rows::read;
+use rows::row::Row;
 use state::place::WORDS;
 use store::checked::Checked;
 use store::set::{image_in, is_loaded};
@@ -26,10 +26,10 @@ pub fn counters(store: &Checked) -> [u32; 16]
 {
     let words = store.words();
     let gauges = [
-        read::word_at(words, table::PENDING),
-        read::word_at(words, table::TIMERS),
+        u32::at(words, table::PENDING),
+        u32::at(words, table::TIMERS),
         store.rule_count() as u32,
-        read::word_at(words, table::VARIABLES),
+        u32::at(words, table::VARIABLES),
     ];
     let mut values = [0; 16];
     let (first, last) = values.split_at_mut(12);

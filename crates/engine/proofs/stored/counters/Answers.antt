@@ -10,4 +10,4 @@ slice_bounds-copy_from_slice-end c = omega (arith, (saying _ _ c.words-words.ens
 pub returns : goal.returns
 returns c =
     rw (c.copy_from_slice.ensures.after, c.copy_from_slice-2.ensures.after)
-    (counters-are _ c.args.store.now _ _ _ _ c.words-words.ensures c.word_at.ensures c.word_at-2.ensures c.rule_count.ensures.count c.word_at-3.ensures)
+    (counters-are _ c.args.store.now _ _ _ _ c.words-words.ensures c.at.ensures c.at-2.ensures c.rule_count.ensures.count c.at-3.ensures)
