@@ -1,8 +1,8 @@
--- `fields::fresh` meets its contract. Assumes nothing.
+-- `fields::Records::all_fresh` meets its contract. Assumes nothing.
 use mathlib.Core.Path.{refl}
 use borrow.Author.Rules.{rules}
 use Rattle.fields.proofs.Chains.{computes-every}
-use Rattle.fields.proofs.fresh.Goals as goal
+use Rattle.fields.proofs.Records.all_fresh.Goals as goal
 
 pub returns : goal.returns
 returns c = computes-every _ _ _ _ _ _ c.all.ensures.ran refl (λ x b q k. search rules)

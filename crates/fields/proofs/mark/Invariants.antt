@@ -1,8 +1,0 @@
--- `fields::mark` meets its contract. Assumes nothing.
-use mathlib.Core.Path.{◌≡◌}
-use Prim.Native.Nat.{◌≤◌}
-use Rattle.fields.specs.Marks.{mark_of}
-use Rattle.fields.proofs.mark.Given as goal
-
-abbrev pub invariant-loop-j : goal.invariant-loop-j
-invariant-loop-j l = (l.j ≤ l.key) × (l.m ≡ mark_of l.s l.start l.width l.j l.i)
