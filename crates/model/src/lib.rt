@@ -293,6 +293,7 @@ pub enum Value {
     NoValue,
 }
 
+// kept: no Option. Each enum that an image's records name has a variant for a number that names no kind (NoAction, NoCondition, NoValue), and this is that of bounds.
 #[derive(Clone, Copy)]
 pub enum TimeBound {
     Clock { hour: u32, minute: u32 },
@@ -414,7 +415,7 @@ pub struct NamedTimer {
     pub due: u64,
 }
 
-// An integer is kept as its 64 bits, a text as its number.
+// An integer is kept as its 64 bits, a text as its number. kept: no Result. Both variants are values, and neither is an error.
 #[derive(Clone, Copy)]
 pub enum VarValue {
     Int(u64),
@@ -499,7 +500,7 @@ impl From<Refusal> for u32 {
     }
 }
 
-// The same of an answer: 0 where nothing is refused.
+// The same of an answer: 0 where nothing is refused. kept: a function and no `From`, which only the crate of `Result` or of `u32` may give.
 pub fn refusal_number(answer: Result<(), Refusal>) -> u32
     ensures { result ≡ refusal_number answer }
 {
