@@ -23,30 +23,6 @@ pub enum Counter {
     TicksTimeUnsynced,
 }
 
-pub const ACTIVATIONS_TOTAL: Counter = Counter::ActivationsTotal;
-
-pub const ACTIVATIONS_DRY: Counter = Counter::ActivationsDry;
-
-pub const SUPPRESSED_COOLDOWN: Counter = Counter::SuppressedCooldown;
-
-pub const SUPPRESSED_DISABLED: Counter = Counter::SuppressedDisabled;
-
-pub const CONDITIONS_REJECTED: Counter = Counter::ConditionsRejected;
-
-pub const PARTIAL_OUTCOMES: Counter = Counter::PartialOutcomes;
-
-pub const EFFECTS_EMITTED: Counter = Counter::EffectsEmitted;
-
-pub const ACTIONS_FAILED: Counter = Counter::ActionsFailed;
-
-pub const CONTINUATIONS_SCHEDULED: Counter = Counter::ContinuationsScheduled;
-
-pub const CONTINUATIONS_FIRED: Counter = Counter::ContinuationsFired;
-
-pub const CONTINUATIONS_DROPPED: Counter = Counter::ContinuationsDropped;
-
-pub const TICKS_TIME_UNSYNCED: Counter = Counter::TicksTimeUnsynced;
-
 #[derive(Clone, Copy)]
 pub struct Counters {
     pub activations_total: u32,
@@ -77,6 +53,7 @@ impl Counters {
     pub fn bump(&mut self, which: Counter, by: u32)
         ensures { counters_of self.new ≡ raised_at (place_of_counter which) by (counters_of self.old) }
     {
+        // kept: one arm for each counter, since each is a field of its own; a closure that picks the field would hide the match and no more.
         match which {
             Counter::ActivationsTotal => raise(&mut self.activations_total, by),
             Counter::ActivationsDry => raise(&mut self.activations_dry, by),

@@ -19,6 +19,7 @@ use crate::minutes::{WEEK_MINUTES, cyclic_dist, in_window, week_minute};
 use crate::rules::activate_rule;
 use crate::wall::{due_wall_kind, has_wall_triggers};
 use activate::Handled;
+use counters::Counter;
 use model::WallTime;
 use state::rules::is_enabled;
 
@@ -92,7 +93,7 @@ fn count_missed(v: &mut [u32], missed: bool)
     ensures { Means v.new (base v.old) (count_missed missed (meaning v.old)) }
 {
     if missed {
-        state::bump(v, counters::TICKS_TIME_UNSYNCED, 1);
+        state::bump(v, Counter::TicksTimeUnsynced, 1);
     }
 }
 
