@@ -3,11 +3,6 @@ use borrow.Author.Rules.{rules}
 use Rattle.crontab.proofs.Lines.{bit-off, bit-on}
 use Rattle.crontab.proofs.table.day_bit.Goals as goal
 
-pub returns-then-not-covered : goal.returns-then-not-covered
-returns-then-not-covered c =
-    let s = c.args in
-    bit-off s.line.now s.sunday s.d _ c.covered.ensures (search rules)
-
 pub returns : goal.returns
 returns c =
     let s = c.args in

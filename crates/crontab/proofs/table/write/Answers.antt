@@ -21,9 +21,6 @@ put-requires c =
     let e = left-on (marked c.args.hours.now c.args.minutes.now) l.t c.loop-t-test.true c.is_marked.ensures c.if-is_marked.true in
     omega (arith, ap length e, l.invariant.1.1.0, l.invariant.1.1.1.0, c.requires)
 
-pub overflow_add-n : goal.overflow_add-n
-overflow_add-n c = omega (arith, c.loop-t.invariant.1.0)
-
 pub loop-t-preserved : goal.loop-t-preserved
 loop-t-preserved c =
     let l = c.loop-t in
@@ -61,9 +58,6 @@ loop-t-preserved c =
             ),
           )
     ]
-
-pub shape_of-store : goal.shape_of-store
-shape_of-store c = c.loop-t.invariant.1.1.0
 
 pub returns : goal.returns
 returns c = write-end _ (marked c.args.hours.now c.args.minutes.now) c.loop-t.t c.loop-t.n _ c.loop-t-test.false c.loop-t.invariant.1.1.1.1
