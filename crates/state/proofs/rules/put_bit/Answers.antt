@@ -3,9 +3,6 @@ use native.Mathlib.Omega.{arith}
 use Rattle.state.proofs.KeptForRules.{bit-put, bit_past}
 use Rattle.state.proofs.rules.put_bit.Goals as goal
 
-pub put-requires : goal.put-requires
-put-requires c = omega (arith, c.requires.long, c.rule_count.ensures, c.if-i-rule_count.true)
-
 pub returns-then-i-rule_count : goal.returns-then-i-rule_count
 returns-then-i-rule_count c = bit-put _ c.requires _ _ _ (omega (arith, c.rule_count.ensures.0, c.if-i-rule_count.true)) c.put.ensures
 

@@ -2,9 +2,6 @@
 use Rattle.state.proofs.Follows.{flips-on, flips-off}
 use Rattle.state.proofs.rules.set_enabled.Goals as goal
 
-pub strike-requires : goal.strike-requires
-strike-requires c = c.put_bit.ensures.sound
-
 pub returns-then-not-on : goal.returns-then-not-on
 returns-then-not-on c = flips-off _ _ _ _ _ _ c.args.on c.if-not-on.true-raw c.put_bit.ensures c.strike.ensures
 

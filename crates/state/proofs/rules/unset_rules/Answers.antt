@@ -3,9 +3,6 @@ use native.Mathlib.Omega.{arith}
 use Rattle.state.proofs.Unsetting.{rules-unset, unset-long}
 use Rattle.state.proofs.rules.unset_rules.Goals as goal
 
-pub clear-requires : goal.clear-requires
-clear-requires c = omega (arith, c.requires.0.long)
-
 pub put-requires : goal.put-requires
 put-requires c = omega (arith, unset-long _ _ c.requires.0 c.clear.ensures)
 

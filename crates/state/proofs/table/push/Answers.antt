@@ -9,24 +9,6 @@ use Rattle.rows.proofs.Writing.{laid-long}
 use Rattle.state.proofs.Good.{words-laid, are_words}
 use Rattle.state.proofs.table.push.Goals as goal
 
-pub bounds-t-0 : goal.bounds-t-0
-bounds-t-0 g c = omega (arith, c.requires.room)
-
-pub overflow_mul-n : goal.overflow_mul-n
-overflow_mul-n g c =
-    let e = ap (λ (m : ℕ). get_or c.args.t.now 0 0 * m) c.WORDS.ensures in
-    omega (arith, e, c.requires.room, c.requires.short)
-
-pub overflow_add-n : goal.overflow_add-n
-overflow_add-n g c =
-    let e = ap (λ (m : ℕ). get_or c.args.t.now 0 0 * m) c.WORDS.ensures in
-    omega (arith, e, c.requires.room, c.requires.short)
-
-pub put-requires : goal.put-requires
-put-requires g c =
-    let e = ap (λ (m : ℕ). get_or c.args.t.now 0 0 * m) c.WORDS.ensures in
-    omega (arith, e, c.requires.room)
-
 pub bounds-t-0-2 : goal.bounds-t-0-2
 bounds-t-0-2 g c =
     let e = ap (λ (m : ℕ). get_or c.args.t.now 0 0 * m) c.WORDS.ensures in
