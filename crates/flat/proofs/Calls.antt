@@ -9,7 +9,6 @@ use lib.ListN.{length}
 use Rattle.model.specs.declared.Record.{Record}
 use Rattle.model.specs.declared.FlattenCtx.{FlattenCtx}
 use Rattle.model.specs.declared.FlowAction.{FlowAction}
-use Rattle.model.specs.declared.FlowAction.TheVariants.{After, Repeat, Conditional, Call}
 use Rattle.model.specs.declared.Step.{Step}
 use Rattle.model.specs.declared.Step.TheVariants as step
 use Rattle.model.specs.Flat.{row_of, Flattened, one_step, flatten_call, block_named}
@@ -17,22 +16,10 @@ use Rattle.std.specs.Prelude.{Result, Ok}
 use Rattle.model.specs.declared.Refusal.{Refusal}
 use Rattle.flat.specs.declared.Progress.{Progress}
 use Rattle.flat.specs.Words.{row_words}
-use Rattle.flat.specs.Outcome.{Put, Behind, Wrote, ListOut, ActOut, list_at, form_at, action_at, action_in}
+use Rattle.flat.specs.Outcome.{Put, Wrote, ListOut, ActOut, list_at, form_at, action_at, action_in}
 use Rattle.flat.proofs.Starts.{Begun}
 use Rattle.flat.proofs.Definition.{call_none, call-more}
-use Rattle.flat.proofs.Outcomes.{wrote_one, loosen}
-
-pub behind-is : {n i first count f k : ℕ} → first ≡ f → count ≡ k → Behind n i f k → Behind n i first count
-behind-is e g b = rw (e, g) b
-
-pub after_same : {ms f k first count : ℕ} → first ≡ f → count ≡ k → After ms f k ≡ After ms first count
-after_same e g = rw (e, g)
-
-pub repeat-same : {times f k first count : ℕ} → first ≡ f → count ≡ k → Repeat times f k ≡ Repeat times first count
-repeat-same e g = rw (e, g)
-
-pub conditional-same : {q f k g l yf yk ef ek : ℕ} → yf ≡ f → yk ≡ k → ef ≡ g → ek ≡ l → Conditional q f k g l ≡ Conditional q yf yk ef ek
-conditional-same a b c d = rw (a, b, c, d)
+use Rattle.flat.proofs.Outcomes.{wrote_one}
 
 -- an action is what its record says
 module _ {acts blocks calls : List ℕ} {scratch d : ℕ} {c : FlattenCtx} {n m a : ℕ} (start : Begun acts blocks calls scratch d c n m a) (i : ℕ) (same : Bool) (seen list bodies : List ℕ) where
@@ -42,13 +29,6 @@ module _ {acts blocks calls : List ℕ} {scratch d : ℕ} {c : FlattenCtx} {n m 
   pub one-act : (x : FlowAction) (s : Step) {l : List ℕ} → action_in acts i ≡ x → form_at acts blocks d i x c n m ≡ one_step s → Put list n (row_words (row_of s 0 0)) l
       → Acts (action_at acts blocks d i c n m) l bodies (Ok (record { n = n + 1; m = m; left = a; same = same }))
   one-act x s e f p = rw (e, f) (wrote_one s (omega arith) p)
-
-  pub out-act : (x : FlowAction) (l b : List ℕ) (r : Result Progress Refusal) → action_in acts i ≡ x → Acts (form_at acts blocks d i x c n m) l b r → Acts (action_at acts blocks d i c n m) l b r
-  out-act x l b r e z = rw e z
-
-  pub call-act : (name : ℕ) (l b : List ℕ) (r : Result Progress Refusal) → action_in acts i ≡ Call name → ListOut (flatten_call acts blocks d name c n m) n m a same seen list bodies l b r
-      → Acts (action_at acts blocks d i c n m) l b r
-  call-act name l b r e z = rw e (loosen (flatten_call acts blocks d name c n m) n m a same seen list bodies l b r z)
 
 -- blocks are looked up in their table alone
 same_block : (acts blocks : List ℕ) (b : ℕ) → block_named acts blocks b ≡ block_named [] blocks b

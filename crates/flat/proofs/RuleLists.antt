@@ -9,8 +9,7 @@ use native.Mathlib.Omega.{arith}
 use borrow.Author.Tests.{lt-ltb, le-ltb}
 use borrow.Rule.Slice.PartMut.{mid_of, put_mid}
 use lib.Dec.{ltb}
-use lib.ListN.{length, take, set, get_or, replicate, length-append, length-map, length-set}
-use lib.Seq.{take-suc-set}
+use lib.ListN.{length, take, get_or, replicate, length-append, length-map}
 use Rattle.model.specs.Lists.{up_from, flatten}
 use Rattle.model.specs.Codec as codec
 use Rattle.model.specs.Codec.{words_of}
@@ -19,9 +18,7 @@ use Rattle.model.specs.Store.{list_rows}
 use Rattle.model.specs.Flat.{Row, Flattened, part_of, steps_in, taken_in, too_many_steps}
 use Rattle.model.proofs.ListLaws.{length-up_from, up_from-last, map-append}
 use Rattle.model.proofs.Bools.{or-true}
-use Rattle.std.specs.Prelude.{Ok, Err}
-use Rattle.model.specs.declared.Refusal.{Refusal}
-use Rattle.model.specs.declared.Refusal.TheVariants.{FlatSteps}
+use Rattle.std.specs.Prelude.{Ok}
 use Rattle.flat.specs.Words.{layout, same_at}
 use Rattle.flat.specs.Outcome.{Start, Behinds, holds_at, Wrote}
 use Rattle.flat.specs.Load.{stored, step_part, list_part, loaded, RuleWrote, EachWrote, MadeOf, CheckedTables, rule_context, rule_at, rules_up_to, flatten_tables}
@@ -88,25 +85,9 @@ module _ (fs : List Flattened) where
   unfolding too_many_steps
   within h k = rw (le-ltb 2048 (steps_in fs) k, le-ltb 65536 (taken_in fs) h)
 
-  pub loaded-over : (refusal : Refusal) → refusal ≡ FlatSteps → too_many_steps fs ≡ true → Err refusal ≡ loaded fs
-  unfolding loaded
-  loaded-over refusal e h = rw (h, e)
-
   pub loaded-steps : (n : ℕ) → too_many_steps fs ≡ false → n ≡ length (stored fs) → Ok n ≡ loaded fs
   unfolding loaded
   loaded-steps n h e = rw (h, e)
-
--- two words were stored, one behind the other
-pub two-set : (w : List ℕ) (k a b : ℕ) → (k + 1) * 2 ≤ length w
-    → take ((k + 1) * 2) (set (set w (k * 2) a) (k * 2 + 1) b) ≡ take (k * 2) w ++ (a ∷ b ∷ [])
-two-set w k a b h =
-    let n : (k + 1) * 2 ≡ suc (suc (k * 2)) = omega arith in
-    let m : k * 2 + 1 ≡ suc (k * 2) = omega arith in
-    let l : suc (k * 2) < length (set w (k * 2) a) = omega (arith, length-set w (k * 2) a) in
-    rw (n, m)
-    (take-suc-set (set w (k * 2) a) (suc (k * 2)) b l
-    ∙ ap (λ (q : List ℕ). q ++ (b ∷ [])) (take-suc-set w (k * 2) a (omega arith))
-    ∙ append_assoc (take (k * 2) w) (a ∷ []) (b ∷ []))
 
 -- ONE RULE --------------------------------------------------------------------------------------------------------------------------
 module _ (acts blocks rules : List ℕ) (d limit k left : ℕ) (h : CheckedTables acts blocks rules d limit) where

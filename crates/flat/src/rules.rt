@@ -68,6 +68,7 @@ fn flatten_rule(
 }
 
 // The parts of all rules, one behind the other in `words`, and their rows in `lists`.
+// kept: words, lists and seen are lent each for itself, of three lengths and by two callers: a struct would say no more of them.
 fn flatten_each(
     t: &Source,
     own: &mut [u32],

@@ -22,15 +22,8 @@ module _ (acts blocks calls : List ℕ) where
     | no m ↦ let o : i ≡ k → ⊥ = λ j. omega arith in rw (get_or-set_other calls k i x 0 o) (h i (omega arith))
   ]
 
-  all_done : (n k : ℕ) → n ≤ k → Resolved acts blocks calls k → Resolved acts blocks calls n
-  unfolding Resolved
-  all_done n k l h i g = h i (omega arith)
-
 pub loop-i-init : goal.loop-i-init
 loop-i-init c = let a = c.args in (refl, none_yet a.acts.now a.blocks.now a.calls.now)
-
-pub bounds-calls-i : goal.bounds-calls-i
-bounds-calls-i c = omega (arith, c.loop-i.invariant.0, c.requires, c.loop-i-test.true)
 
 pub loop-i-preserved : goal.loop-i-preserved
 loop-i-preserved c =
@@ -40,11 +33,3 @@ loop-i-preserved c =
       simp length-set l.invariant.0,
       one_more a.acts.now a.blocks.now l.calls l.i f.result l.invariant.1 (omega (arith, l.invariant.0, c.requires, c.loop-i-test.true)) f.ensures.result_value f.ensures.upper_bound,
     )
-
-pub shape_of-calls : goal.shape_of-calls
-shape_of-calls c = c.loop-i.invariant.0
-
-pub returns : goal.returns
-returns c =
-    let a = c.args in
-    let l = c.loop-i in all_done a.acts.now a.blocks.now l.calls (length a.acts.now / 8) l.i c.loop-i-test.false l.invariant.1
