@@ -26,6 +26,11 @@ use Rattle.store.specs.Places.{variables_place}
 use Rattle.store.specs.Volatile.{changing_in, Readable}
 use Rattle.store.proofs.Parts.{variables-at, good-changing, table-long}
 use Rattle.rows.proofs.Reading.{word-is}
+use Rattle.std.specs.Prelude.{Result, Ok, Err, ⊤}
+use Rattle.std.specs.Result.{is_ok}
+use Rattle.model.specs.declared.Refusal.{Refusal}
+use Rattle.model.specs.Refusals.{refusal_code, refusal_number}
+use Rattle.model.proofs.RefusalLaws.{refusal-some}
 use Rattle.exports.specs.Answers.{readable, given}
 
 -- THE STORE -----------------------------------------------------------------------------------------------------------------------
@@ -79,6 +84,11 @@ unfolding image_refusal
 accepted-is image e =
     (sized image (tables-accepted image (flatten_rules image) e), rules-few image (few-accepted image (flatten_rules image) e))
 
+-- an answer is accepted where its number is 0
+pub ok-is : {A : Type 0} (r : Result A Refusal) → is_ok r ≡ eqb (refusal_number r) 0
+ok-is (Ok a) = refl
+ok-is (Err r) = sym (ne_eqb (refusal_code r) 0 (refusal-some r))
+
 module _ (snapshot image store : List ℕ) where
   pub given_is : given snapshot image store ≡ true → Given image store
   unfolding given
@@ -88,17 +98,11 @@ module _ (snapshot image store : List ℕ) where
       let a = accepted-is image (eqb-true _ _ i) in
       record { sized = a.0; few = a.1; readable = readable-is store s }
 
-  module _ (r : ℕ) (e : r ≡ snapshot_refusal snapshot) where
-    pub snapshot-refused : (r ≡ 0 → ⊥) → false ≡ given snapshot image store
-    unfolding given
-    snapshot-refused n = rw (ne_eqb (snapshot_refusal snapshot) 0 (λ z. n (e ∙ z))) refl
+  pub given-by : (r : Result ⊤ Refusal) (q : Result ⊤ Refusal) → refusal_number r ≡ snapshot_refusal snapshot → refusal_number q ≡ image_refusal image
+      → given snapshot image store ≡ is_ok r && (is_ok q && readable store)
+  unfolding given
+  given-by r q e f = rw (← e, ← f, ← ok-is r, ← ok-is q) refl
 
-    module _ (z : r ≡ 0) (q : ℕ) (f : q ≡ image_refusal image) where
-      pub image-refused : (q ≡ 0 → ⊥) → false ≡ given snapshot image store
-      unfolding given
-      image-refused n =
-          rw (eq-eqb (snapshot_refusal snapshot) 0 (sym e ∙ z), ne_eqb (image_refusal image) 0 (λ z. n (f ∙ z))) refl
-
-      pub store-decides : (b : Bool) → q ≡ 0 → b ≡ readable store → b ≡ given snapshot image store
-      unfolding given
-      store-decides b y h = rw (eq-eqb (snapshot_refusal snapshot) 0 (sym e ∙ z), eq-eqb (image_refusal image) 0 (sym f ∙ y)) h
+  pub first-refused : (r : Result ⊤ Refusal) → refusal_number r ≡ snapshot_refusal snapshot → is_ok r ≡ false → given snapshot image store ≡ false
+  unfolding given
+  first-refused r e z = rw (← e, ← ok-is r, z) refl

@@ -9,7 +9,8 @@ use borrow.Author.Tests.{eq-eqb, ne_eqb}
 use Rattle.model.specs.Load.{image_refusal}
 use Rattle.model.specs.Flat.{flatten_rules}
 use Rattle.flat.specs.Load.{Checked, stored, loaded}
-use Rattle.std.specs.Prelude.{Result, Ok, Err}
+use Rattle.std.specs.Prelude.{Result}
+use Rattle.std.specs.Result.{result_unwrap_or}
 use Rattle.model.specs.declared.Refusal.{Refusal}
 use Rattle.flat.proofs.FlatPart.{passed}
 use Rattle.flat.proofs.RuleLists.{loaded-steps}
@@ -20,22 +21,8 @@ refused r n steps e h = rw (ne_eqb n 0 (λ z. h (e ∙ z))) refl
 pub checked : (img : List ℕ) (r : ℕ) → r ≡ image_refusal img → r ≡ 0 → Checked img
 checked img r e z = (passed img (sym e ∙ z)).0
 
--- the number that an answer tells
-pub number_in : Result ℕ Refusal → ℕ
-number_in (Ok n) = n
-number_in (Err refusal) = 0
-
-pub told : (img : List ℕ) (r n : ℕ) (l : Result ℕ Refusal) → r ≡ image_refusal img → r ≡ 0 → l ≡ loaded (flatten_rules img) → number_in l ≡ n
+pub told : (img : List ℕ) (r n : ℕ) (l : Result ℕ Refusal) → r ≡ image_refusal img → r ≡ 0 → l ≡ loaded (flatten_rules img) → n ≡ result_unwrap_or l 0
     → n ≡ cond (eqb (image_refusal img) 0) (length (stored (flatten_rules img))) 0
-unfolding number_in
 told img r n l e z h t =
     let a = sym (loaded-steps (flatten_rules img) (length (stored (flatten_rules img))) (passed img (sym e ∙ z)).1 refl) in
-    rw (eq-eqb (image_refusal img) 0 (sym e ∙ z)) (sym t ∙ ap number_in (h ∙ a))
-
-pub over-told : (l : Result ℕ Refusal) (refusal : Refusal) → l ≡ Err refusal → number_in l ≡ 0
-unfolding number_in
-over-told l refusal e = rw e refl
-
-pub steps-told : (l : Result ℕ Refusal) (n : ℕ) → l ≡ Ok n → number_in l ≡ n
-unfolding number_in
-steps-told l n e = rw e refl
+    rw (eq-eqb (image_refusal img) 0 (sym e ∙ z)) (t ∙ ap (λ (x : Result ℕ Refusal). result_unwrap_or x 0) (h ∙ a))

@@ -29,13 +29,7 @@ fn readable(store: &[u32]) -> bool
 fn given(snapshot: &[u32], image: &[u32], store: &[u32]) -> bool
     ensures { result ≡ answers.given snapshot.now image.now store.now }
 {
-    if model::refusal_number(world::refusal(snapshot)) != 0 {
-        return false;
-    }
-    if load::refusal(image).is_err() {
-        return false;
-    }
-    readable(store)
+    world::refusal(snapshot).is_ok() && load::refusal(image).is_ok() && readable(store)
 }
 
 // What the store keeps, for the rules of the image.
@@ -50,11 +44,7 @@ fn begin(snapshot: &[u32], image: &[u32], store: &[u32], v: &mut [u32])
 fn verdict_code(v: Option<bool>) -> u32
     ensures { result ≡ answers.verdict_code v }
 {
-    match v {
-        Some(false) => 0,
-        Some(true) => 1,
-        None => 2,
-    }
+    v.map_or(2, u32::from)
 }
 
 fn put_number(answer: &mut [u32; 3], mark: u32, x: u64)

@@ -39,10 +39,7 @@ pub extern "C" fn cerambiu_flat_steps(img: &[u32]) -> usize
     }
     let mut words = [0u32; 1];
     let mut lists = [0u32; 1];
-    match flat::rules::flatten_rules(img, &mut words[1..], &mut lists[1..]) {
-        Ok(n) => n,
-        Err(_) => 0,
-    }
+    flat::rules::flatten_rules(img, &mut words[1..], &mut lists[1..]).unwrap_or(0)
 }
 
 // 20 to 22, 0 for none.

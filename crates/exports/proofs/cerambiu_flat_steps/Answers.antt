@@ -2,7 +2,7 @@ use mathlib.Core.Path.{sym, ◌∙◌}
 use native.Mathlib.Omega.{arith}
 use Rattle.model.specs.Refusals.{refusal_number}
 use Rattle.model.proofs.RefusalLaws.{zero-of, above-zero}
-use Rattle.exports.proofs.Steps.{refused, checked, told, over-told, steps-told}
+use Rattle.exports.proofs.Steps.{refused, checked, told}
 use Rattle.exports.proofs.cerambiu_flat_steps.Goals as goal
 
 pub returns-then-is_err : goal.returns-then-is_err
@@ -15,12 +15,7 @@ flatten_rules-requires c =
       words_len_bound = omega arith;
     }
 
-pub returns-in-Err : goal.returns-in-Err
-returns-in-Err c =
+pub returns : goal.returns
+returns c =
     told _ (refusal_number c.refusal.result) _ _ c.refusal.ensures (zero-of c.refusal.result (sym c.is_err.ensures.value ∙ c.if-is_err.false)) c.flatten_rules.ensures.value
-    (over-told _ _ c.in-Err.is)
-
-pub returns-in-Ok : goal.returns-in-Ok
-returns-in-Ok c =
-    told _ (refusal_number c.refusal.result) _ _ c.refusal.ensures (zero-of c.refusal.result (sym c.is_err.ensures.value ∙ c.if-is_err.false)) c.flatten_rules.ensures.value
-    (steps-told _ _ c.in-Ok.is)
+    c.unwrap_or.ensures
