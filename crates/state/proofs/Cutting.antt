@@ -5,7 +5,7 @@ use Prim.Native.Nat.{ℕ, zero, suc, ◌+◌, ◌-◌, ◌*◌, ◌≤◌, ◌<�
 use native.Mathlib.Nat.{add-zero, zero-add, zero-mul, suc-mul, suc-add, add_assoc, mul-le-mul_right}
 use native.Mathlib.Omega.{arith}
 use lib.ListN.{length, get_or, take, drop, set, replicate, length-append, length-drop, take-append-drop}
-use lib.Seq.{take_at, drop_at, drop-drop, take-add, take-append-le, drop-append-le, length-take-le, take-take, drop-append-add, get_or-drop, get_or-take}
+use lib.Seq.{take_at, drop_at, drop-drop, take-add, take-append-le, drop-append-le, length-take-le, take-take, drop-append-add, get_or-take}
 use borrow.Rule.Slice.PartMut.{put_mid, post_of, Post-is}
 use Rattle.model.specs.Lists.{flatten}
 use Rattle.rows.specs.Places.{laid}
@@ -48,10 +48,6 @@ laid-behind w k ys m a b =
     ∙ drop-append-add (take k w ++ ys) (drop (k + length ys) w) (m - (k + length ys))
     ∙ drop-drop (m - (k + length ys)) (k + length ys) w
     ∙ ap (λ (i : ℕ). drop i w) (let q : k + length ys + (m - (k + length ys)) ≡ m = omega arith in q)
-
-pub word-behind : (w : List ℕ) (k : ℕ) (ys : List ℕ) (m : ℕ) → k + length ys ≤ m → k ≤ length w → get_or (laid w k ys) m 0 ≡ get_or w m 0
-word-behind w k ys m a b =
-    rw add-zero at (sym (get_or-drop m (laid w k ys) 0 0) ∙ ap (λ (l : List ℕ). get_or l 0 0) (laid-behind w k ys m a b) ∙ get_or-drop m w 0 0)
 
 pub word-before : (w : List ℕ) (k : ℕ) (ys : List ℕ) (m : ℕ) → m < k → k ≤ length w → get_or (laid w k ys) m 0 ≡ get_or w m 0
 word-before w k ys m a b =

@@ -6,11 +6,9 @@ use mathlib.Core.Bool.{Bool, true, false, cond}
 use mathlib.Core.Path.{◌≡◌, refl, ◌∙◌}
 use mathlib.Core.List.{List, [], ◌∷◌, ◌++◌}
 use Rattle.std.specs.Prelude.{Option, None, Some}
-use lib.Dec.{ltb}
 use lib.ListN.{length, take, drop, get_or}
-use lib.Seq.{drop-cons, take_all, take-take, take-suc, get_or-take, length-take-le}
-use borrow.Author.Tests.{ltb-true, ltb-false}
-use Rattle.model.specs.Lists.{find, present}
+use lib.Seq.{drop-cons, take_all, take-take, take-suc, length-take-le}
+use Rattle.model.specs.Lists.{find}
 use Rattle.state.specs.Tables.{First}
 
 module _ {A : Type 0} where
@@ -42,28 +40,12 @@ module _ {A : Type 0} where
       pub not_found : length l ≤ i → find p l ≡ None
       not_found h = rw take_all at first.before
 
-      present-by : (d : A) (t : Bool) → ltb i (length l) ≡ t → present (find p l) ≡ t
-      present-by d true e = rw (found d (ltb-true i (length l) e))
-      present-by d false e = rw (not_found (ltb-false i (length l) e))
-
-      pub present-below : A → present (find p l) ≡ ltb i (length l)
-      present-below d = present-by d (ltb i (length l)) refl
-
     -- the loop: none of the first i passes
     module _ (l : List A) (n i : ℕ) (d : A) (none_yet : find p (take i l) ≡ None) (h : i < n) (w : n ≤ length l) where
       pub goes_on : p (get_or l i d) ≡ false → find p (take (i + 1) l) ≡ None
       goes_on e =
           let room : i < length l = omega arith in
           rw (add-one, take-suc l i d room, find-append (take i l) (get_or l i d ∷ []) none_yet, e)
-
-      pub stops : p (get_or l i d) ≡ true → First p (take n l) i
-      stops e =
-          let size = length-take-le n l w in
-          record {
-            within = omega arith;
-            before = rw (take-take i n l (omega arith)) none_yet;
-            passes = λ f b. rw (get_or-take n l i f h, any-default l i f d (omega arith)) e;
-          }
 
     pub ends : (l : List A) (n i : ℕ) → find p (take i l) ≡ None → i ≤ n → n ≤ i → n ≤ length l → First p (take n l) n
     ends l n i none_yet h k w =

@@ -23,7 +23,7 @@ use Rattle.model.proofs.Bools.{both}
 use Rattle.model.proofs.PartsLaws.{variable-laws, timer-laws, slot_laws}
 use Rattle.model.proofs.RowLaws.{RowLaws}
 use Rattle.rows.specs.Places.{laid, row_at}
-use Rattle.rows.proofs.Writing.{laid-long, one_set}
+use Rattle.rows.proofs.Writing.{laid-long}
 use Rattle.state.specs.Cuts.{cut}
 use Rattle.state.specs.Meaning.{state_parts, part_sizes, place_of, words_in, state_words, part, bits_part, activations_part, positions_part, variables_part, timers_part, slots_part, pending_part, week_part, counters_part, rules_in, stored_in, accepted_in, base_in, records_in, meaning_of, SoundOf, OnlyBeyond, unset_from, Below, meaning, base, rules_of, Sound, Means, Holds, Counted}
 use Rattle.state.proofs.Cutting.{cut-long, cut_at, cut-laid, piece-end, piece-long, part-laid, laid-within}
@@ -96,14 +96,6 @@ module _ (t : ℕ) (h : t < 15) where
       let e : laid w (place_of t + j) ys ≡ laid w (place_of t) (laid (part t w) j ys) =
       laid-within w ys (place_of t) j (words_in t) (omega (arith, s.long, end)) l ∙ ap (λ (p : List ℕ). laid w (place_of t) (laid p j ys)) (sym (part-is w)) in
       subst (λ (y : List ℕ). Changed w y t (laid (part t w) j ys)) (sym e) (changed-laid w (laid (part t w) j ys) s (laid-long (part t w) j ys (rw long l) ∙ long) f)
-
-  -- one word
-  pub changed-word : (w : List ℕ) (i x : ℕ) → Shaped w → i < words_in t → part_fits (get_or state_parts t (fixed 0 [])) (set (part t w) i x) ≡ true → Changed w (set w (place_of t + i) x) t (set (part t w) i x)
-  changed-word w i x s l f =
-      let end = piece-end part_sizes t h in
-      let one : set (part t w) i x ≡ laid (part t w) i (x ∷ []) = one_set (part t w) i x (rw (part-long w s.long) l) in
-      let e : set w (place_of t + i) x ≡ laid w (place_of t + i) (x ∷ []) = one_set w (place_of t + i) x (omega (arith, s.long, end)) in
-      rw (e, one) (changed-words w (x ∷ []) i s (omega arith) (subst (λ (p : List ℕ). part_fits (get_or state_parts t (fixed 0 [])) p ≡ true) one f))
 
 -- the words of a table that are lent
 module _ {A : Type 0} (r : Row A) (laws : RowLaws r) (t n : ℕ) (h : t < 15) (is : get_or state_parts t (fixed 0 []) ≡ counted n r.cells) where

@@ -11,7 +11,7 @@ use native.Mathlib.Omega.{arith}
 use lib.Dec.{leb, ltb}
 use lib.ListN.{length, get_or, take, drop, set, replicate, length-append, length-drop, length-replicate, replicate-append-replicate}
 use lib.Seq.{drop_at, drop-drop, take-suc, length-take-le, set_split, get_or-take, get_or-drop, take_all}
-use borrow.Author.Tests.{eq-eqb, ne_eqb, leb-true, leb-false, lt-ltb, le-ltb}
+use borrow.Author.Tests.{ne_eqb, leb-true, leb-false, lt-ltb, le-ltb}
 use Rattle.model.specs.Codec.{wide}
 use Rattle.model.specs.Lists.{flatten, keep, find}
 use Rattle.model.proofs.CodecLaws.{rest_of}
@@ -20,7 +20,7 @@ use Rattle.rows.specs.Places as rows
 use Rattle.rows.proofs.Writing.{laid-long}
 use Rattle.state.specs.Tables.{First}
 use Rattle.state.specs.Cuts.{cut, sum, rows_in, table_of, Fits, Table, RowSet, word_in, wide_of, has_word}
-use Rattle.state.proofs.Found.{goes_on, stops, ends}
+use Rattle.state.proofs.Found.{goes_on, ends}
 use Rattle.state.proofs.Closing.{Keeps, Closing, keep_append, starts, keeps, skips, done}
 use Rattle.state.proofs.Cutting.{laid-drop, laid-behind, word-before, cut-long, cut_at, cut-laid, cut-first, sum_same, sum_first, size_same, row-end}
 
@@ -42,10 +42,6 @@ module _ (f : ℕ) (p : List ℕ) (h : Fits f p) where
   pub word-at : (i at : ℕ) → i < n → at < f → get_or p (1 + i * f + at) 0 ≡ word_in f p i at
   word-at i at l m =
       sym (rw (row_at i l, get_or-take f (drop (1 + i * f) p) at 0 m, get_or-drop (1 + i * f) p at 0))
-
-  -- a word of a row is within
-  pub word-within : (i at : ℕ) → i < n → at < f → 1 + i * f + at < length p
-  word-within i at l m = let e = row-end i n f l in omega (arith, e, h.within)
 
   pub row_within : (i : ℕ) → i < n → 1 + i * f + f ≤ length p
   row_within i l = let e = row-end i n f l in omega (arith, e, h.within)
@@ -185,11 +181,6 @@ module _ (f : ℕ) (p : List ℕ) (h : Table f p) where
     pub gone-within : 1 + j * f + (get_or p 0 0 - j) * f ≤ length t
     gone-within = omega (arith, rest_of j (get_or p 0 0) f closed-few, h.fits.within, c.long)
 
-    pub gone_long : (t₁ : List ℕ) → t₁ ≡ laid t (1 + j * f) (replicate ((get_or p 0 0 - j) * f) 0) → length t₁ ≡ length p
-    gone_long t₁ e =
-        let z : length (replicate {A = ℕ} ((get_or p 0 0 - j) * f) 0) ≡ (get_or p 0 0 - j) * f = length-replicate {A = ℕ} ((get_or p 0 0 - j) * f) 0 in
-        ap length e ∙ laid-long t (1 + j * f) (replicate ((get_or p 0 0 - j) * f) 0) (rw z gone-within) ∙ c.long
-
     kept-words : take (j * f) (drop 1 t) ≡ flatten kept
     unfolding rows_in
     kept-words =
@@ -235,11 +226,6 @@ module _ (f at x : ℕ) (p : List ℕ) (h : Fits f p) (i : ℕ) where
   module _ (y : ℕ) (none_yet : find (has_word at x) (take i (rows_in f p)) ≡ None) (l : i < get_or p 0 0) (e : y ≡ word_in f p i at) where
     pub find-goes : (y ≡ x → ⊥) → find (has_word at x) (take (i + 1) (rows_in f p)) ≡ None
     find-goes d = goes_on (has_word at x) (rows_in f p) (get_or p 0 0) i [] none_yet l (rw (rows_long f p h) (omega arith)) (rw (sym e) (ne_eqb y x d))
-
-    pub find-stops : y ≡ x → First (has_word at x) (rows_in f p) i
-    find-stops d =
-        let s = stops (has_word at x) (rows_in f p) (get_or p 0 0) i [] none_yet l (rw (rows_long f p h) (omega arith)) (rw (sym e) (eq-eqb y x d)) in
-        subst (λ (rows : List (List ℕ)). First (has_word at x) rows i) all-rows s
 
   pub find-ends : find (has_word at x) (take i (rows_in f p)) ≡ None → i ≤ get_or p 0 0 → get_or p 0 0 ≤ i → First (has_word at x) (rows_in f p) (length (rows_in f p))
   find-ends none_yet a b =
