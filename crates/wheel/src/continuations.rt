@@ -64,6 +64,7 @@ fn resume_all(
     h
 }
 
+// kept: `fire_every` has this shape and none of these calls; one function for both would take the four of them as closures over the same words.
 pub fn fire_continuations(
     snapshot: &[u32],
     image: &[u32],

@@ -30,6 +30,7 @@ const CATCH_UP_MINUTES: u64 = 60;
 const SET_BACK_MINUTES: u64 = 120;
 
 // A rule's turn: what was done so far, and whether a sun was missed so far.
+// kept: both say something in every turn, so that neither is an Option.
 #[derive(Clone, Copy)]
 pub struct WallTurn {
     pub handled: Handled,

@@ -57,6 +57,7 @@ fn fire_slots(
     h
 }
 
+// kept: see `fire_continuations`.
 pub fn fire_every(
     snapshot: &[u32],
     image: &[u32],

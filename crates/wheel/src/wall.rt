@@ -22,6 +22,7 @@ const BY_TIME: u32 = 3;
 const BY_SOLAR: u32 = 4;
 
 // The kind of the first due trigger, and whether a sun was asked for that is not known.
+// kept: `unsynced` says no kind that is missing: a trigger can be due where an earlier one missed the sun, as the specification's record has it.
 #[derive(Clone, Copy)]
 pub struct WallKind {
     pub kind: Option<u32>,
@@ -98,17 +99,14 @@ pub fn due_wall_kind(
     requires { Accepted image.now × (i < size_of image.now rules) }
     ensures { Kind snapshot.now base window missed (triggers_of image.now i) result }
 {
-    let n = trigger_count(image, i);
     let mut unsynced = missed;
-    let mut k = 0;
-    while k < n {
+    for k in 0..trigger_count(image, i) {
         let trigger = trigger_at(image, i, k);
         let w = trigger_kind(snapshot, base, window, trigger, unsynced);
-        k += 1;
-        unsynced = w.unsynced;
         if w.kind.is_some() {
             return w;
         }
+        unsynced = w.unsynced;
     }
     kind_if(false, 0, unsynced)
 }

@@ -5,36 +5,23 @@ use Rattle.eval.specs.Answers.{env_of}
 use Rattle.wheel.proofs.DueKind.{starts, ends-here, goes, ends}
 use Rattle.wheel.proofs.wall.due_wall_kind.Goals as goal
 
-pub trigger_count-n-requires : goal.trigger_count-n-requires
-trigger_count-n-requires c = (c.requires.0.least, c.requires.0.most)
+pub trigger_count-k-end-requires : goal.trigger_count-k-end-requires
+trigger_count-k-end-requires c = (c.requires.0.least, c.requires.0.most)
 
 pub loop-k-init : goal.loop-k-init
-loop-k-init c = (omega arith, c.trigger_count-n.ensures, λ img flat. starts (env_of _ img flat) _ _ _ _)
+loop-k-init c = λ img flat. starts (env_of _ img flat) _ _ _ _
 
 pub trigger_at-trigger-requires : goal.trigger_at-trigger-requires
-trigger_at-trigger-requires c = record {
-  accepted = c.requires.0;
-  i_bound = c.requires.1;
-  k_in_bounds = omega (arith, c.loop-k-test.true, c.loop-k.invariant.1);
-}
-
-pub overflow_add-k : goal.overflow_add-k
-overflow_add-k c = omega arith
+trigger_at-trigger-requires c = record { accepted = c.requires.0; i_bound = c.requires.1; k_in_bounds = omega (arith, c.trigger_count-k-end.ensures) }
 
 pub returns-then-is_some : goal.returns-then-is_some
 returns-then-is_some c = λ img flat.
-    ends-here (env_of _ img flat) _ _ _ _ _ _ _ (omega (arith, c.loop-k-test.true, c.loop-k.invariant.1)) (c.loop-k.invariant.2 img flat) c.trigger_at-trigger.ensures (c.trigger_kind-w.ensures img flat) (sym c.is_some.ensures ∙ c.if-is_some.true)
-
-pub loop-k-smaller : goal.loop-k-smaller
-loop-k-smaller c = omega arith
+    ends-here (env_of _ img flat) _ _ _ _ _ _ _ (omega (arith, c.trigger_count-k-end.ensures)) (c.loop-k.invariant img flat) c.trigger_at-trigger.ensures (c.trigger_kind-w.ensures img flat) (sym c.is_some.ensures ∙ c.if-is_some.true)
 
 pub loop-k-preserved : goal.loop-k-preserved
-loop-k-preserved c = (
-  omega arith,
-  c.loop-k.invariant.1,
-  λ img flat. goes (env_of _ img flat) _ _ _ _ _ _ _ (omega (arith, c.loop-k-test.true, c.loop-k.invariant.1)) (c.loop-k.invariant.2 img flat) c.trigger_at-trigger.ensures (c.trigger_kind-w.ensures img flat) (sym c.is_some.ensures ∙ c.if-is_some.false),
-)
+loop-k-preserved c = λ img flat.
+    goes (env_of _ img flat) _ _ _ _ _ _ _ (omega (arith, c.trigger_count-k-end.ensures)) (c.loop-k.invariant img flat) c.trigger_at-trigger.ensures (c.trigger_kind-w.ensures img flat) (sym c.is_some.ensures ∙ c.if-is_some.false)
 
 pub returns : goal.returns
 returns c = λ img flat.
-    rw c.kind_if.ensures (ends (env_of _ img flat) _ _ _ _ _ _ (omega (arith, c.loop-k-test.false, c.loop-k.invariant.1)) (c.loop-k.invariant.2 img flat))
+    rw c.kind_if.ensures (ends (env_of _ img flat) _ _ _ _ _ _ (omega (arith, c.trigger_count-k-end.ensures)) (c.loop-k.invariant img flat))
