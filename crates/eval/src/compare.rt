@@ -5,6 +5,7 @@ ghost use Rattle.model.specs.Eval.{compare_text};
 
 // Eq, Ne, Ge, Le, Gt, Lt. The number is a word of the image, and the specification compares by it: an enum would be told from the
 // word in the same six arms.
+#[tactic(auto, using(crate::proofs::Numbers::no_comparison), unfolding(model::specs::Arith::compare_i64))]
 pub fn compare_i64(cmp: u32, left: i64, right: i64) -> bool
     ensures { result ≡ compare_i64 cmp left right }
 {

@@ -87,6 +87,7 @@ pub fn condition_at(env: &Env, i: u32) -> Option<bool>
 }
 
 // The conditions of a rule: the first that does not hold decides.
+#[tactic(auto, using(crate::proofs::Holding::starts))]
 pub fn conditions_hold(env: &Env, rule: u32) -> Option<bool>
     requires { Accepted env.now.image.now × (rule < size_of env.now.image.now rules) }
     ensures { RuleHolds env.now rule result }

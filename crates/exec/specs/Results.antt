@@ -8,6 +8,7 @@ use Rattle.model.specs.declared.Action.{Action}
 use Rattle.model.specs.Steps.{FlatStep}
 use Rattle.model.specs.declared.VarValue.{VarValue}
 use Rattle.model.specs.Eval.{value_at}
+use Rattle.model.specs.Rules.{rule_named}
 use Rattle.state.specs.Meaning.{Sound, Means, meaning, base}
 use Rattle.eval.specs.Answers.{env_of}
 use Rattle.exec.specs.declared.Job.{Job}
@@ -58,5 +59,6 @@ Adds j v name step held r = (e : Env) → Does v r (model.var_add e (job_of j) (
 abbrev pub LevelAt : List ℕ → List ℕ → Rest → ℕ → Option ℕ → Type 0
 LevelAt snapshot image s i r = (flat : List (List FlatStep)) → r ≡ model.level_at (value_at (env_of snapshot image flat) s i)
 
-abbrev pub SetsBit : Job → List ℕ → ℕ → Bool → Option ℕ → ActionDone → Type 0
-SetsBit j v rule on i r = (e : Env) → Does v r (model.set_rule_bit e (job_of j) (meaning v).rest rule on i)
+abbrev pub SetsBit : List ℕ → List ℕ → Job → List ℕ → ℕ → Bool → ActionDone → Type 0
+SetsBit snapshot image j v rule on r =
+    (flat : List (List FlatStep)) → Does v r (model.set_rule_bit (env_of snapshot image flat) (job_of j) (meaning v).rest rule on (rule_named image rule))

@@ -3,7 +3,7 @@ ghost use Rattle.std.specs.Prelude.{List, ℕ};
 ghost use Rattle.model.specs.declared.Action.TheVariants.{TimerStart, TimerRestart, TimerCancel};
 ghost use Rattle.state.specs.Meaning.{Sound};
 ghost use Rattle.exec.specs.Done.{action_done};
-ghost use Rattle.exec.specs.Results.{Performs, PerformsIn, Arms};
+ghost use Rattle.exec.specs.Results.{PerformsIn, Arms};
 
 use crate::answers::fails;
 use crate::{Env, PrimResult};
@@ -50,7 +50,7 @@ pub fn timer_restart(env: &Env, v: &mut [u32], timer: u32, ms: u32) -> PrimResul
 #[tactic(auto, unfolding(model::specs::Actions::run_prim))]
 pub fn timer_cancel(env: &Env, v: &mut [u32], timer: u32) -> PrimResult
     requires { Sound v.old }
-    ensures { Performs env.now.job v.old (TimerCancel timer) (action_done v.new result) }
+    ensures { PerformsIn env.now.snapshot.now env.now.image.now env.now.job v.old (TimerCancel timer) (action_done v.new result) }
 {
     if env.job.dry {
         return Ok(None);

@@ -2,11 +2,8 @@
 use mathlib.Core.Path.{ap, ◌∙◌}
 use Rattle.std.specs.Prelude.{Some}
 use native.Mathlib.Omega.{arith}
-use Rattle.eval.proofs.Holding.{starts, holds, fails, stops, ends}
+use Rattle.eval.proofs.Holding.{holds, fails, stops, ends}
 use Rattle.eval.proofs.conditions.conditions_hold.Goals as goal
-
-pub loop-k-init : goal.loop-k-init
-loop-k-init c = λ flat. starts _ _ _
 
 pub returns-in_err-holds : goal.returns-in_err-holds
 returns-in_err-holds c = λ flat.

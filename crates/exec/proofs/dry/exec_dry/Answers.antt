@@ -1,12 +1,8 @@
 -- `exec::dry::exec_dry` meets its contract. Assumes nothing.
 use Rattle.eval.specs.Answers.{env_of}
 use Rattle.exec.specs.Results.{job_of}
-use Rattle.exec.proofs.Stepped.{reach-at}
 use Rattle.exec.proofs.DryLaws.{primitive-dry, wait-dry, branch-dry, after-dry, fail-dry}
 use Rattle.exec.proofs.dry.exec_dry.Goals as goal
-
-pub run_branch-requires : goal.run_branch-requires
-run_branch-requires c = (c.requires.0, reach-at _ _ _ c.in-Branch.is c.requires.2)
 
 pub returns-in-Primitive : goal.returns-in-Primitive
 returns-in-Primitive c flat qs =

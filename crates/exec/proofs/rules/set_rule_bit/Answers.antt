@@ -5,7 +5,7 @@ use Rattle.exec.proofs.Follows.{does-nothing, bit-flipped}
 use Rattle.exec.proofs.rules.set_rule_bit.Goals as goal
 
 pub returns : goal.returns
-returns c e =
+returns c flat =
     let d = does-nothing c.set_enabled.ensures.sound in
     rw (sym c.rule_named.ensures ∙ c.in-Some.is, c.if-env.false)
     (record {
