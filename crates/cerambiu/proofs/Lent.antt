@@ -1,12 +1,10 @@
 -- The words lent for values. Assumes nothing.
-use mathlib.Core.Path.{◌≡◌, refl, sym, ap, ◌∙◌}
+use mathlib.Core.Path.{◌≡◌, refl, sym, ◌∙◌}
 use mathlib.Core.List.{List, [], ◌∷◌, ◌++◌}
-use mathlib.Core.Logic.{⊎_elim}
-use Prim.Native.Nat.{ℕ, zero, suc, ◌+◌, ◌≤◌, ◌<◌}
-use native.Mathlib.Nat.{eq-or-lt_of_le, le_of_suc-le-suc, not-suc-le-zero}
+use Prim.Native.Nat.{ℕ, zero, suc, ◌≤◌, ◌<◌}
 use native.Mathlib.Omega.{arith}
-use lib.ListN.{length, get_or, set, take, replicate, length-append, length-replicate}
-use lib.Seq.{length-take-le, get_or-take, get_or-set_same, get_or-set_other, ext_get_or}
+use lib.ListN.{length, get_or, replicate, length-append, length-replicate}
+use lib.Seq.{length-take-le, get_or-take, ext_get_or}
 use Rattle.cerambiu.specs.Called.{lent_answer}
 
 lent-long : (n : ℕ) (vs : List ℕ) → length (lent_answer n vs) ≡ n
@@ -29,18 +27,6 @@ lent_at n vs j h = get_or-take n (vs ++ replicate n 0) j 0 h ∙ padded-at vs n 
 -- words that are the values up to i, with 0 behind them
 pub record UpTo (i : ℕ) (a vs : List ℕ) : Type 0 where
   pub same : (j : ℕ) → j < i → get_or a j 0 ≡ get_or vs j 0
-
-pub none_yet : (a vs : List ℕ) → UpTo 0 a vs
-none_yet a vs = record { same = λ j h. absurd (not-suc-le-zero h) }
-
-pub one_more : (a vs : List ℕ) (i v : ℕ) → i < length a → v ≡ get_or vs i 0 → UpTo i a vs → UpTo (i + 1) (set a i v) vs
-one_more a vs i v l e f = record { same = go }
-  where
-    go : (j : ℕ) → j < i + 1 → get_or (set a i v) j 0 ≡ get_or vs j 0
-    go j h =
-        let b : suc j ≤ suc i = omega (arith, h) in
-        ⊎_elim (λ (q : j ≡ i). rw q (get_or-set_same a i v 0 l ∙ e)) (λ (q : j < i). get_or-set_other a i j v 0 (λ z. omega (arith, q, z)) ∙ f.same j q)
-        (eq-or-lt_of_le (le_of_suc-le-suc b))
 
 pub all-put : (a vs : List ℕ) (n i : ℕ) → length a ≡ n → n ≤ i → UpTo i a vs → a ≡ lent_answer n vs
 all-put a vs n i l h f =
