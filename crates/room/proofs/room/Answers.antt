@@ -4,16 +4,6 @@ use native.Mathlib.Omega.{arith}
 use Rattle.room.proofs.Rows.{budget-of, known, room-made}
 use Rattle.room.proofs.room.Goals as goal
 
-pub budget-b-requires : goal.budget-b-requires
-budget-b-requires c = (c.requires.image.least, c.requires.image.most)
-
-pub sum_rules-s-requires : goal.sum_rules-s-requires
-sum_rules-s-requires c =
-    record {
-      listed = c.requires;
-      b_value = c.budget-b.ensures;
-    }
-
 pub overflow_add-result : goal.overflow_add-result
 overflow_add-result c =
     omega (arith, (known _ _ _ _ c.requires c.budget-b.ensures c.sum_rules-s.ensures).few-outcomes)

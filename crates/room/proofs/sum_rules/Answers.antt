@@ -4,25 +4,12 @@ use Prim.Native.Nat.{◌≤◌}
 use native.Mathlib.Omega.{arith}
 use Rattle.fields.proofs.Total.{empty, adds}
 use Rattle.room.proofs.Rows.{budget-of, few-of}
-use Rattle.room.proofs.Counting.{no-greatest, grows, effects-of, bodies_of, part-ends, all-summed, product-fits}
+use Rattle.room.proofs.Counting.{no-greatest, grows, effects-of, bodies_of, part-ends, product-fits}
 use Rattle.room.proofs.sum_rules.Goals as goal
-
-pub size_of-n-requires : goal.size_of-n-requires
-size_of-n-requires c = (c.requires.listed.image.least, c.requires.listed.image.most)
 
 pub loop-i-init : goal.loop-i-init
 loop-i-init c =
     (omega (arith, c.size_of-n.ensures, few-of _ _ c.requires.listed), c.size_of-n.ensures, empty _, empty _, no-greatest _, empty _, omega arith, omega arith)
-
-pub starts-s-requires : goal.starts-s-requires
-starts-s-requires c =
-    record {
-      accepted = c.requires.listed.image;
-      i_bound = omega (arith, c.loop-i-test.true, c.loop-i.invariant.1);
-    }
-
-pub overflow_add-sums : goal.overflow_add-sums
-overflow_add-sums c = let v = c.loop-i.invariant in omega (arith, c.loop-i.auto.i-end, v.0, v.6, c.starts-s.ensures.1)
 
 pub overflow_mul-sums : goal.overflow_mul-sums
 overflow_mul-sums c =
@@ -34,15 +21,6 @@ overflow_add-sums-in-loop-i c =
     let v = c.loop-i.invariant in
     let m : c.min.result ≤ 256 = omega (arith, c.min.ensures, c.requires.b_value, (budget-of _ _ c.requires.listed).1) in
     omega (arith, c.loop-i.auto.i-end, v.0, v.7, product-fits _ _ c.starts-s.ensures.1 m)
-
--- the row of rule i, which stands behind the steps so far
-pub overflow_sub-begin : goal.overflow_sub-begin
-overflow_sub-begin c =
-    let v = c.loop-i.invariant in
-    omega (arith, v.5, c.begin_in-begin.ensures.0, c.requires.listed.begins c.loop-i.i (omega (arith, c.loop-i-test.true, v.1)))
-
-pub overflow_add-end : goal.overflow_add-end
-overflow_add-end c = omega (arith, c.begin_in-begin.ensures.1, c.size_in-own.ensures.1)
 
 pub loop-i-preserved : goal.loop-i-preserved
 loop-i-preserved c =
@@ -61,8 +39,3 @@ loop-i-preserved c =
       omega (arith, v.6, s.1),
       omega (arith, v.7, product-fits _ _ s.1 m),
     )
-
-pub returns : goal.returns
-returns c =
-    let v = c.loop-i.invariant in
-    all-summed _ _ _ _ c.loop-i-test.false c.loop-i.auto.i-end v.1 v.2 v.3 v.4
