@@ -5,9 +5,6 @@ use Rattle.model.specs.Telegrams.{cuts, sets}
 use Rattle.telegrams.proofs.CodeLaws.{set-cut, set_here, set_on, set-end}
 use Rattle.telegrams.proofs.is_set_from.Goals as goal
 
-pub loop-j-init : goal.loop-j-init
-loop-j-init c = (refl, omega arith, refl)
-
 pub returns-then-cuts : goal.returns-then-cuts
 returns-then-cuts c = set-cut _ _ _ c.loop-j-test.true _ (c.cuts.ensures ∙ ap cuts c.effect_at-x.ensures) c.if-cuts.true ∙ c.loop-j.invariant.2
 

@@ -4,18 +4,9 @@ use native.Mathlib.Omega.{arith}
 use Rattle.telegrams.proofs.CodeLaws.{put-begin, put-turn, put-end}
 use Rattle.telegrams.proofs.put_kept.Goals as goal
 
-pub loop-k-init : goal.loop-k-init
-loop-k-init c = (refl, omega arith, put-begin _ _)
-
-pub put_if_kept-n-requires : goal.put_if_kept-n-requires
-put_if_kept-n-requires c = (c.loop-k.invariant.2.few, c.loop-k-test.true)
-
 pub loop-k-preserved : goal.loop-k-preserved
 loop-k-preserved c =
     (refl, omega arith, put-turn _ _ _ _ _ _ _ c.loop-k.invariant.2 c.loop-k-test.true c.put_if_kept-n.ensures.0 c.put_if_kept-n.ensures.1)
-
-pub shape_of-list : goal.shape_of-list
-shape_of-list c = c.loop-k.invariant.2.long
 
 pub returns : goal.returns
 returns c = put-end _ _ _ _ _ c.loop-k.invariant.2 c.loop-k-test.false
