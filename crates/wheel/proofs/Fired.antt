@@ -1,12 +1,10 @@
 -- The parts of a tick: the state changes first, and then what was due is started. Assumes nothing.
-use Prim.Native.Nat.{ℕ, ◌≤◌}
-use native.Mathlib.Omega.{arith}
+use Prim.Native.Nat.{ℕ}
 use mathlib.Core.Path.{◌≡◌, refl}
 use mathlib.Core.Bool.{Bool, true}
 use mathlib.Core.List.{List, map}
 use Rattle.model.specs.Flat.{set_of}
 use Rattle.model.specs.Lists.{all, keep}
-use Rattle.model.specs.Parts.{slot_row}
 use Rattle.model.specs.State as model-state
 use Rattle.model.specs.State.{with_rest, with_timers, with_every}
 use Rattle.model.specs.Wheel.{by_timer, by_every, activate_each, resume_all, due_now, not_due, due_timers, timers_due, moved, every_due, fire_continuations, fire_timers, fire_every}
@@ -14,11 +12,8 @@ use Rattle.model.specs.World.{world_of}
 use Rattle.model.specs.declared.EverySlot.{EverySlot}
 use Rattle.model.specs.declared.NamedTimer.{NamedTimer}
 use Rattle.model.specs.declared.Pending.{Pending}
-use Rattle.model.proofs.PartsLaws.{slot_laws}
-use Rattle.state.specs.Meaning.{Means, Sound, meaning, base, part, slots_part}
+use Rattle.state.specs.Meaning.{Means, meaning, base}
 use Rattle.state.specs.Named.{timer_later, slot_due}
-use Rattle.state.proofs.Frame.{table-part}
-use Rattle.state.proofs.Typed.{holds-few}
 use Rattle.activate.specs.Handled.{Room}
 use Rattle.activate.specs.Carried.{Carried}
 use Rattle.activate.proofs.Continues.{with_vol}

@@ -1,27 +1,24 @@
 -- The least of some times: of a table's rows, and of several lists. Assumes nothing.
 use mathlib.Core.Path.{◌≡◌, refl, sym, ap, ◌∙◌}
-use mathlib.Core.Bool.{Bool, true, false}
+use mathlib.Core.Bool.{Bool}
 use mathlib.Core.List.{List, [], ◌∷◌, ◌++◌, map, append_assoc, append-nil}
 use Rattle.std.specs.Prelude.{Option, None, Some}
 use Rattle.std.specs.List.{reduce, fold, flat_map, range_with_len}
 use Rattle.std.specs.Option.{option_to_list}
-use Prim.Native.Nat.{ℕ, zero, suc, ◌+◌, ◌-◌, ◌*◌, ◌≤◌, ◌<◌, min}
+use Prim.Native.Nat.{ℕ, zero, suc, ◌+◌, ◌*◌, ◌≤◌, ◌<◌, min}
 use native.Mathlib.Omega.{arith}
-use lib.ListN.{length, take, drop, get_or, drop_of_length-le}
-use lib.Seq.{drop-cons}
-use Rattle.words.specs.Saturating.{saturating_add, max64}
+use lib.ListN.{length, take, drop, get_or}
 use Rattle.words.proofs.Laws.{joined_words}
 use Rattle.model.specs.Codec.{Row, most}
 use Rattle.model.specs.Layout.{fixed, counted}
 use Rattle.model.specs.Parts.{timer_row, slot_row}
 use Rattle.model.specs.Steps.{FlatStep}
-use Rattle.model.specs.Wheel.{has_wall_triggers, least, least_of, wall_poll, next_deadline}
+use Rattle.model.specs.Wheel.{least, least_of, wall_poll, next_deadline}
 use Rattle.model.specs.declared.EverySlot.{EverySlot}
 use Rattle.model.specs.declared.NamedTimer.{NamedTimer}
 use Rattle.model.specs.declared.Pending.{Pending}
 use Rattle.model.proofs.PartsLaws.{timer-laws, slot_laws}
 use Rattle.model.proofs.RowLaws.{RowLaws}
-use Rattle.image.specs.Accepted.{Accepted}
 use Rattle.state.specs.Cuts.{Fits, cut, rows_in, wide_of, wide_in}
 use Rattle.state.specs.Meaning.{Sound, pending_row, state_parts, part_sizes, place_of, words_in, part, timers_part, slots_part, pending_part, base_in, stored_in, records_in, offset_from, numbered, meaning}
 use Rattle.state.proofs.Frame.{part-is, table-lent}

@@ -12,7 +12,6 @@ use Rattle.model.specs.State as model-state
 use Rattle.model.specs.State.{Env, is_enabled, with_rest, with_prev_week_min, bump_by, ticks_time_unsynced}
 use Rattle.model.specs.Wheel as wheel
 use Rattle.model.specs.Wheel.{start_wall, due_wall_kind, has_wall_triggers, week_minute, window_of, fire_window, make_up, is_set_back, fire_wall_at, fire_wall_schedules}
-use Rattle.model.specs.World as model-world
 use Rattle.model.specs.declared.WallTime.{WallTime}
 use Rattle.model.specs.World.{world_of}
 use Rattle.state.specs.Meaning.{Means, Sound, meaning, base}

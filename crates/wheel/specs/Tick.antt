@@ -1,12 +1,10 @@
 -- What a part of a tick does.
-use Rattle.std.specs.Prelude.{ℕ, ◌≡◌, Bool, true, cond, ◌||◌, List, map, ltb, take}
+use Rattle.std.specs.Prelude.{ℕ, ◌≡◌, Bool, true, cond, ◌||◌, List, map, ltb}
 use Rattle.std.specs.Prelude.{None, Some}
 use Rattle.model.specs.Activate as model
 use Rattle.model.specs.Flat.{flatten_rules, set_of}
-use Rattle.model.specs.Image.{size_of}
 use Rattle.model.specs.Lists.{all, any, flatten, to_list}
 use Rattle.model.specs.Load.{image_refusal}
-use Rattle.model.specs.Rows.{rules}
 use Rattle.model.specs.Rules.{name_order, triggers_of, rule_named}
 use Rattle.model.specs.Snapshot.{snapshot_refusal}
 use Rattle.model.specs.State as model-state

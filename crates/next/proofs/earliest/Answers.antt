@@ -4,17 +4,8 @@ use Rattle.next.specs.Distance.{best_from, best_of}
 use Rattle.next.proofs.Down.{starts-number, goes_number, ends}
 use Rattle.next.proofs.earliest.Goals as goal
 
-pub size_of-i-requires : goal.size_of-i-requires
-size_of-i-requires c = (c.requires.0.least, c.requires.0.most)
-
 pub loop-i-init : goal.loop-i-init
 loop-i-init c = starts-number _ _ _ _ c.size_of-i.ensures
-
-pub rule_minutes-minutes-requires : goal.rule_minutes-minutes-requires
-rule_minutes-minutes-requires c = (c.requires.0, omega (arith, c.size_of-i.ensures), c.requires.1)
-
-pub name_of-requires : goal.name_of-requires
-name_of-requires c = (c.requires.0.least, c.requires.0.most)
 
 pub loop-i-preserved : goal.loop-i-preserved
 loop-i-preserved c =

@@ -10,17 +10,8 @@ returns-then-word-ne1 c =
     let s = c.args in
     off s.sun s.t s.image.now s.bits.now s.i (λ e. c.if-word-ne1.true (c.word.ensures ∙ e))
 
-pub trigger_count-k-requires : goal.trigger_count-k-requires
-trigger_count-k-requires c = (c.requires.0.least, c.requires.0.most)
-
 pub loop-k-init : goal.loop-k-init
 loop-k-init c = starts _ _ _ _ c.trigger_count-k.ensures
-
-pub trigger_at-requires : goal.trigger_at-requires
-trigger_at-requires c = record { accepted = c.requires.0; i_bound = c.requires.1; k_in_bounds = omega (arith, c.trigger_count-k.ensures) }
-
-pub trigger_minutes-requires : goal.trigger_minutes-requires
-trigger_minutes-requires c = c.requires.2
 
 pub loop-k-preserved : goal.loop-k-preserved
 loop-k-preserved c =

@@ -1,5 +1,4 @@
 -- `next::solar_minutes` meets its contract. Assumes nothing.
-use mathlib.Core.Path.{ap}
 use Rattle.next.proofs.Triggers.{at-sun, no-sun}
 use Rattle.next.proofs.solar_minutes.Goals as goal
 

@@ -11,8 +11,5 @@ returns-in-Every c = rw c.in-Every.is (slot _ _ _)
 pub returns-in-AtTime : goal.returns-in-AtTime
 returns-in-AtTime c = rw c.in-AtTime.is (at-time _ _ _ _ _ c.days_minutes.ensures)
 
-pub returns-in-AtSolar : goal.returns-in-AtSolar
-returns-in-AtSolar c = rw c.in-AtSolar.is c.solar_minutes.ensures
-
 pub returns-in-Other : goal.returns-in-Other
 returns-in-Other c = rw c.in-Other.is (other _ _)

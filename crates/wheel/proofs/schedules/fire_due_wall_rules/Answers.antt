@@ -1,9 +1,6 @@
 -- `wheel::schedules::fire_due_wall_rules` meets its contract. Assumes nothing.
 use native.Mathlib.Omega.{arith}
 use mathlib.Core.Path.{refl}
-use mathlib.Core.Bool.{false}
-use Rattle.model.specs.Wheel.{fire_due_wall_rules}
-use Rattle.wheel.specs.Tick.{tick_env}
 use Rattle.wheel.proofs.Fires.{same-state}
 use Rattle.wheel.proofs.Going.{room-here}
 use Rattle.wheel.proofs.Loops.{turning-starts, turning-goes, turning-ends}
@@ -23,15 +20,6 @@ wall_turn-turn-requires c =
 
 pub loop-i-preserved : goal.loop-i-preserved
 loop-i-preserved c = turning-goes _ _ _ _ _ c.loop-i.invariant 0 _ c.loop-i-test.true refl c.wall_turn-turn.ensures
-
-pub count_missed-requires : goal.count_missed-requires
-count_missed-requires c = c.loop-i.invariant.within.sound
-
-pub shape_of-outcomes : goal.shape_of-outcomes
-shape_of-outcomes c = c.loop-i.invariant.long_outcomes
-
-pub shape_of-effects : goal.shape_of-effects
-shape_of-effects c = c.loop-i.invariant.long_effects
 
 pub shape_of-v : goal.shape_of-v
 shape_of-v c = same-state c.requires.room.sound c.count_missed.ensures.sound

@@ -1,5 +1,4 @@
 -- `wheel::schedules::fire_window` meets its contract. Assumes nothing.
-use native.Mathlib.Omega.{arith}
 use mathlib.Core.Bool.{false}
 use Rattle.model.specs.Rules.{name_order}
 use Rattle.model.specs.Wheel.{fire_due_wall_rules, fire_window}
@@ -21,21 +20,6 @@ returns-then-not-has_wall_triggers c =
 pub returns-then-window-eq0 : goal.returns-then-window-eq0
 returns-then-window-eq0 c =
     skips 64 (fire_window (tick_env c.args.snapshot.now c.args.image.now) c.args.minute c.args.window) (carried c.args.v.now c.args.x) _ _ c.requires.room.0.sound (no-window c.args.snapshot.now c.args.image.now c.args.minute c.args.window _ c.has_wall_triggers.ensures c.if-not-has_wall_triggers.false-raw c.if-window-eq0.true)
-
-pub overflow_add-base : goal.overflow_add-base
-overflow_add-base c =
-    omega (arith, c.requires.room.1)
-
-pub overflow_sub-base : goal.overflow_sub-base
-overflow_sub-base c =
-    omega (arith, c.requires.room.2)
-
-pub fire_due_wall_rules-requires : goal.fire_due_wall_rules-requires
-fire_due_wall_rules-requires c =
-    record {
-      holds = c.requires.holds;
-      room = c.requires.room.0;
-    }
 
 pub returns : goal.returns
 returns c =

@@ -5,14 +5,8 @@ use Rattle.eval.specs.Answers.{env_of}
 use Rattle.wheel.proofs.DueKind.{starts, ends-here, goes, ends}
 use Rattle.wheel.proofs.wall.due_wall_kind.Goals as goal
 
-pub trigger_count-k-end-requires : goal.trigger_count-k-end-requires
-trigger_count-k-end-requires c = (c.requires.0.least, c.requires.0.most)
-
 pub loop-k-init : goal.loop-k-init
 loop-k-init c = λ img flat. starts (env_of _ img flat) _ _ _ _
-
-pub trigger_at-trigger-requires : goal.trigger_at-trigger-requires
-trigger_at-trigger-requires c = record { accepted = c.requires.0; i_bound = c.requires.1; k_in_bounds = omega (arith, c.trigger_count-k-end.ensures) }
 
 pub returns-then-is_some : goal.returns-then-is_some
 returns-then-is_some c = λ img flat.

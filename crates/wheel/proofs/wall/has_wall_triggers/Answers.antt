@@ -12,9 +12,6 @@ use Rattle.wheel.proofs.Places.{any-numbers}
 use Rattle.wheel.proofs.Windows.{of-rules}
 use Rattle.wheel.proofs.wall.has_wall_triggers.Goals as goal
 
-pub size_of-requires : goal.size_of-requires
-size_of-requires c = (c.requires.0.least, c.requires.0.most)
-
 pub returns : goal.returns
 returns c =
     let p = enabled_wall c.args.image.now (meaning c.args.v.now).rest in

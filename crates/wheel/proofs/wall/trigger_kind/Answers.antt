@@ -9,11 +9,5 @@ returns-in-TimerFires c = λ image flat. rw (c.in-TimerFires.is, c.kind_if.ensur
 pub returns-in-Every : goal.returns-in-Every
 returns-in-Every c = λ image flat. rw (c.in-Every.is, c.kind_if-in-Every.ensures) (no_slot (env_of _ image flat) _ _ _ _)
 
-pub returns-in-AtTime : goal.returns-in-AtTime
-returns-in-AtTime c = λ image flat. rw c.in-AtTime.is (c.time_kind.ensures (env_of _ image flat))
-
-pub returns-in-AtSolar : goal.returns-in-AtSolar
-returns-in-AtSolar c = λ image flat. rw c.in-AtSolar.is (c.solar_kind.ensures image flat)
-
 pub returns-in-Other : goal.returns-in-Other
 returns-in-Other c = λ image flat. rw (c.in-Other.is, c.kind_if-in-Other.ensures) (no_other (env_of _ image flat) _ _ _)
