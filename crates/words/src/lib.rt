@@ -1,31 +1,17 @@
 // Words as parts of larger numbers, and the minute of the day. Each contract is one equation with a definition of specs/, over ℕ for unsigned numbers and
 // over ℤ for signed ones; what the library's methods give in these words is in proofs/Laws.antt.
-#![tactic(auto, unfolding(crate::specs::Saturating::saturating_add, crate::specs::Saturating::saturating_sub, crate::specs::Pairs::joined, crate::specs::Pairs::low_of, crate::specs::Pairs::high_of, crate::specs::Signed::clamped))]
+#![tactic(auto, unfolding(crate::specs::Saturating::saturating_add, crate::specs::Pairs::joined, crate::specs::Pairs::low_of, crate::specs::Pairs::high_of))]
 
 ghost use Rattle.std.specs.Prelude.{◌≡◌};
-ghost use Rattle.words.specs.Saturating.{max32, max64, saturating_add, saturating_sub};
+ghost use Rattle.words.specs.Saturating.{max64, saturating_add};
 ghost use Rattle.words.specs.Pairs.{joined, low_of, high_of};
-ghost use Rattle.words.specs.Signed.{signed32, signed64, bits64, saturating_add_i64, solar_minute};
-
-// u32::saturating_add
-pub fn saturating_add_u32(x: u32, y: u32) -> u32
-    ensures { result ≡ saturating_add max32 x y }
-{
-    x.saturating_add(y)
-}
+ghost use Rattle.words.specs.Signed.{solar_minute};
 
 // u64::saturating_add
 pub fn saturating_add_u64(x: u64, y: u64) -> u64
     ensures { result ≡ saturating_add max64 x y }
 {
     x.saturating_add(y)
-}
-
-// u64::saturating_sub
-pub fn saturating_sub_u64(x: u64, y: u64) -> u64
-    ensures { result ≡ saturating_sub x y }
-{
-    x.saturating_sub(y)
 }
 
 // Two words as one 64-bit number, and back.
@@ -45,34 +31,6 @@ pub fn high_word(x: u64) -> u32
     ensures { result ≡ high_of x }
 {
     (x / 0x1_0000_0000) as u32
-}
-
-// Bits read as a signed number: what `x as i64` gives in Rust.
-pub fn as_i64(x: u64) -> i64
-    ensures { result ≡ signed64 x }
-{
-    x.cast_signed()
-}
-
-// `x as u64` in Rust
-pub fn bits_of(x: i64) -> u64
-    ensures { result ≡ bits64 x }
-{
-    x.cast_unsigned()
-}
-
-// A signed 64-bit number from its two words
-pub fn join_signed(low: u32, high: u32) -> i64
-    ensures { result ≡ signed64 (joined low high) }
-{
-    join_words(low, high).cast_signed()
-}
-
-// A signed word is added to a signed 64-bit number.
-pub fn add_signed_word(x: i64, delta: u32) -> i64
-    ensures { result ≡ saturating_add_i64 x (signed32 delta) }
-{
-    x.saturating_add(i64::from(delta.cast_signed()))
 }
 
 // The minute of the day at `offset` milliseconds, a signed word, from the minute `base`.
