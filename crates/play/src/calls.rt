@@ -271,6 +271,7 @@ impl Lent {
 
     // Makes a call of the table.
     // kept: an arm for each call, which is what the enum is for; closures would hide what each is lent.
+    #[tactic(auto, using(crate::proofs::Gathering::gathers_none), unfolding(crate::specs::Playing::doing))]
     fn make(&mut self, line: &Said, out: &mut Output) -> Result<(), Refused>
         requires { Ranged line.now.command }
         ensures makes { Makes (done line.now self.old) line.now.command.call self.new.store out.old out.new result }

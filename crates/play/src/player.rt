@@ -87,6 +87,7 @@ impl Player {
         let _fits = self.line.try_push(b);
     }
 
+    #[tactic(auto, using(crate::proofs::Standing::follows_none, crate::proofs::Standing::follows_all))]
     // Plays the lines that end in what was read; the rest of it is kept.
     fn feed(&mut self, input: &[u8])
         ensures { Follows (bytes_come room input.now) self.old self.new }
@@ -96,6 +97,7 @@ impl Player {
         }
     }
 
+    #[tactic(auto, using(crate::proofs::Standing::reads_end))]
     // Reads once, plays what came, and writes the answers out. The end of the input ends its last line, and so does a read that fails. Whether the
     // script goes on.
     fn read_some(&mut self, from: &mut Stdin) -> bool
@@ -113,6 +115,7 @@ impl Player {
         self.output.is_open()
     }
 
+    #[tactic(auto, using(crate::proofs::Standing::reads_none, crate::proofs::Standing::reads_then))]
     // A proved loop has to end, and nothing says that the input does. So the loop has a number of turns that no run uses up.
     pub fn play(&mut self, mut from: Stdin)
         ensures { Reads self.old self.new }
