@@ -1,24 +1,15 @@
 #!/usr/bin/env python3
-"""changes.py < LISTED > docs/design-pass/CHANGES.md
+"""changes.py LISTED > docs/design-pass/CHANGES.md
 
-LISTED is what `python3 /opt/rattle/port/port.py contracts COMMIT` prints. Sorts it by crate, old and new one below the other, and lists by name alone what has the old text
-once none and some are the library's None and Some, get_elem? its slice_get, and a jump an Option.
+LISTED is a file with what `python3 /opt/rattle/port/contracts.py OLD NEW --json` prints, where OLD is a checkout of the commit at which the pass began. Sorts it by crate,
+old and new one below the other, whole. What has the old text once none and some are the library's None and Some, get_elem? its slice_get, and a jump an Option, is named only.
 """
-import ast
 import collections
+import json
 import re
 import sys
 
-head, names, same, changed = [], collections.defaultdict(list), collections.defaultdict(list), collections.defaultdict(list)
-what = crate = None
-old = None
-
-
-def texts(line):
-    try:
-        return ast.literal_eval(line)
-    except (SyntaxError, ValueError):
-        return [line]
+listed = json.load(open(sys.argv[1], encoding="utf8"))
 
 
 def renamed(text):
@@ -27,40 +18,69 @@ def renamed(text):
     return re.sub(r"(?<![\w\-.'])(none|some)(?![\w\-'])", lambda m: m.group(1).capitalize(), text)
 
 
-for line in sys.stdin.read().split("\n"):
-    m = re.match(r"([a-z][\w ,]*?)(?:, (changed|gone))?: (\S+) (.*)$", line)
-    if line.startswith("    - "):
-        old = texts(line[6:])
-    elif line.startswith("    + ") and what:
-        new = texts(line[6:])
-        if [renamed(o) for o in old] == new:
-            same[crate].append(what[1])
-        else:
-            changed[crate].append((what, old, new))
-        what = None
-    elif re.match(r"[a-z ]+\d", line) or line.startswith("crates "):
-        head.append(line)
-    elif m:
-        crate = m.group(3)
-        what = (m.group(1), m.group(4))
-        if m.group(2) == "gone" or m.group(1).startswith("functions not found"):
-            names[crate].append(m.group(4))
-            what = None
+def flat(text):
+    return re.sub(r"\s+", " ", text).strip()
+
+
+def clauses(requires, ensures):
+    """The clauses of a contract, a line each."""
+    return [flat(f"{kind} {label + ' ' if label else ''}{{ {text} }}") for kind, cs in (("requires", requires), ("ensures", ensures)) for label, text in cs]
+
+
+gone, same, changed = collections.defaultdict(list), collections.defaultdict(list), collections.defaultdict(list)
+
+
+def split(name):
+    crate, _, rest = name.partition(" ")
+    return crate, rest
+
+
+def put(crate, what, old, new):
+    """Only the lines that differ are shown; a change that is the Option's alone is named."""
+    if [renamed(o) for o in old] == new:
+        same[crate].append(what.split("`")[1])
+        return
+    changed[crate].append((what, [o for o in old if renamed(o) not in new], [n for n in new if n not in [renamed(o) for o in old]]))
+
+
+for name in listed["functions not found again"]:
+    crate, rest = split(name)
+    gone[crate].append(re.sub(r" \(requires.*", "", rest))
+for crate, kind, name in listed["ghost items and constants"]["gone"]:
+    gone[crate].append(f"{kind} {name}")
+for crate, name in listed["definitions"]["gone"]:
+    gone[crate].append(name)
+for name, old, new in listed["signatures changed"]:
+    crate, rest = split(name)
+    put(crate, f"signature `{rest}`", [flat(old)], [flat(new)])
+for name, old_requires, old_ensures, new_requires, new_ensures in listed["contracts changed"]:
+    crate, rest = split(name)
+    put(crate, f"contract `{rest}`", clauses(old_requires, old_ensures), clauses(new_requires, new_ensures))
+for crate, kind, name, old, new in listed["ghost items and constants"]["changed"]:
+    put(crate, f"{kind} `{name}`", [flat(o) for o in old], [flat(n) for n in new])
+for crate, name, old, new in listed["definitions"]["changed"]:
+    put(crate, f"definition `{name}`", [flat(o) for o in old], [flat(n) for n in new])
+for crate, name, old, new in listed["edits and outputs"]["changed"]:
+    put(crate, f"edit `{name}`", [flat(old)], [flat(new)])
 
 print("# What the design pass changed\n")
-print("Made by `tools/port/changes.py`, which says how. The counts:\n\n```")
-print("\n".join(head))
-print("```\n\nGone are functions, constants and definitions that stand under another name or not at all; DESIGN-PASS says what states their promise now.")
-for c in sorted(set(names) | set(same) | set(changed)):
-    print(f"\n## {c}\n")
-    if names[c]:
-        print("Gone: " + ", ".join(f"`{n}`" for n in names[c]) + "\n")
-    if same[c]:
-        print("The same but for the library's Option: " + ", ".join(f"`{n}`" for n in same[c]) + "\n")
-    for (kind, name), a, b in changed[c]:
-        print(f"- {kind} `{name}`")
-        gone, new = [x for x in a if x not in b], [x for x in b if x not in a]
-        for x in gone:
-            print(f"  - old: `{x}`")
-        for x in new:
-            print(f"  - new: `{x}`")
+print("Made by `tools/port/changes.py`, which says how. The counts, old and new:\n")
+for key in ("functions", "with ensures"):
+    print(f"- {key}: {listed[key][0]}, {listed[key][1]}")
+print(f"- contracts: the same {listed['contracts the same']}, changed {len(listed['contracts changed'])}; signatures changed {len(listed['signatures changed'])}; functions not found again by name {len(listed['functions not found again'])}")
+for key in ("ghost items and constants", "definitions", "edits and outputs"):
+    part = listed[key]
+    print(f"- {key}: {part['old']}, {part['new']}; the same {part['same']}, changed {len(part['changed'])}, gone {len(part['gone'])}")
+print("\nOf a contract the clauses that differ are shown, old and new. GONE.md has what is gone, and what states its promise now.")
+for crate in sorted(set(gone) | set(same) | set(changed)):
+    print(f"\n## {crate}\n")
+    if gone[crate]:
+        print("Gone: " + ", ".join(f"`{g}`" for g in gone[crate]) + "\n")
+    if same[crate]:
+        print("The same but for the library's Option: " + ", ".join(f"`{s}`" for s in same[crate]) + "\n")
+    for what, old, new in changed[crate]:
+        print(f"- {what}")
+        for o in old:
+            print(f"  - old: `{o}`")
+        for n in new:
+            print(f"  - new: `{n}`")
