@@ -12,6 +12,7 @@ ghost use Rattle.model.specs.declared.Trigger.TheVariants as trigger;
 ghost use Rattle.image.specs.Accepted.{Accepted};
 ghost use Rattle.next.specs.NextStart.{on_days, due_in, starts_in, first_from, next_from};
 ghost use Rattle.next.specs.Distance.{day_ahead, better, best_of};
+ghost use Rattle.next.specs.Facts.{accepted-prop};
 
 use eval::time::{has_day, solar_minute};
 use image::layout::{Table, size_of};
@@ -34,6 +35,18 @@ struct Best {
     name: u32,
 }
 
+// What is asked: the words of an accepted image and of its rules' bits (1 is enabled), the sun's times, and the minute of the week it is.
+#[derive(Clone, Copy)]
+struct Asked<'a> {
+    image: &'a [u32],
+    bits: &'a [u32],
+    sun: Option<model::SunTimes>,
+    t: u32,
+
+    ghost accepted: { Accepted image.now } by { accepted-prop _ },
+    ghost in_week: { t < 10080 },
+}
+
 const WEEK: u32 = 10080;
 
 // A minute more than the last that is asked for.
@@ -44,84 +57,6 @@ fn least(a: u32, b: u32) -> u32
     ensures { result ≡ min a b }
 {
     if a < b { a } else { b }
-}
-
-// From minute t of the week to another one, at least 1 and at most a week.
-fn minutes_to(t: u32, target: u64) -> u32
-    requires { t < 10080 }
-    ensures { result ≡ first_from (λ m. eqb (target % 10080) ((t + m) % 10080)) 1 10080 }
-{
-    let minute = (target % 10080) as u32;
-    if t < minute {
-        minute - t
-    } else {
-        minute + WEEK - t
-    }
-}
-
-// To a minute of one day, where the day is in the set.
-fn day_minutes(t: u32, days: u32, minute: u64, day: u32) -> u32
-    requires { (t < 10080) × (minute ≤ 61 * max32) × (day < 7) }
-    ensures { result ≡ first_from (λ m. day_ahead t days minute day m) 1 10080 }
-{
-    if has_day(days, day) {
-        return minutes_to(t, day as u64 * 1440 + minute);
-    }
-    NEVER
-}
-
-// To a minute of these days.
-fn days_minutes(t: u32, days: u32, minute: u64) -> u32
-    requires { (t < 10080) × (minute ≤ 61 * max32) }
-    ensures { result ≡ first_from (λ m. on_days ((t + m) % 10080) days minute) 1 10080 }
-{
-    let mut best = NEVER;
-    for day in (0..7).rev() {
-        best = least(day_minutes(t, days, minute, day), best);
-    }
-    best
-}
-
-fn solar_minutes(sun: Option<model::SunTimes>, t: u32, event: u32, offset_ms: u32) -> u32
-    requires { t < 10080 }
-    ensures { result ≡ first_from (λ m. due_in sun t (trigger.AtSolar event offset_ms) m) 1 10080 }
-{
-    match sun {
-        Some(s) => days_minutes(t, 127, solar_minute(s, event, offset_ms) as u64),
-        None => NEVER,
-    }
-}
-
-fn trigger_minutes(sun: Option<model::SunTimes>, t: u32, trigger: Trigger) -> u32
-    requires { t < 10080 }
-    ensures { result ≡ first_from (λ m. due_in sun t trigger m) 1 10080 }
-{
-    match trigger {
-        Trigger::TimerFires { timer } => NEVER,
-        Trigger::Every { period_ms } => NEVER,
-        Trigger::AtTime { hour, minute, days } => days_minutes(
-            t,
-            days,
-            hour as u64 * 60 + minute as u64,
-        ),
-        Trigger::AtSolar { event, offset_ms } => solar_minutes(sun, t, event, offset_ms),
-        Trigger::Other => NEVER,
-    }
-}
-
-// To the first start of rule i, which has none while its bit is not set.
-fn rule_minutes(image: &[u32], bits: &[u32], sun: Option<model::SunTimes>, t: u32, i: u32) -> u32
-    requires { Accepted image.now × (i < size_of image.now rules) × (t < 10080) }
-    ensures { result ≡ first_from (starts_in image.now (map is_one bits.now) sun t i) 1 10080 }
-{
-    if fields::word(bits, i as usize) != 1 {
-        return NEVER;
-    }
-    let mut best = NEVER;
-    for k in (0..trigger_count(image, i)).rev() {
-        best = least(trigger_minutes(sun, t, trigger_at(image, i, k)), best);
-    }
-    best
 }
 
 // The earlier of two starts, and of two in one minute the one of the lower name.
@@ -140,20 +75,93 @@ fn earlier(minutes: u32, name: u32, best: Best) -> Best
     }
 }
 
-// The earliest start of all rules.
-fn earliest(image: &[u32], bits: &[u32], sun: Option<model::SunTimes>, t: u32) -> Best
-    requires { Accepted image.now × (t < 10080) }
-    ensures { result ≡ best_of image.now (map is_one bits.now) sun t }
-{
-    let mut best = Best {
-        minutes: NEVER,
-        name: 0,
-    };
-    for i in (0..size_of(image, Table::Rules)).rev() {
-        let minutes = rule_minutes(image, bits, sun, t, i);
-        best = earlier(minutes, name_of(image, i), best);
+impl Asked<'_> {
+    // To a minute of the week, at least 1 and at most a week.
+    fn minutes_to(&self, target: u64) -> u32
+        ensures { result ≡ first_from (λ m. eqb (target % 10080) ((self.now.t + m) % 10080)) 1 10080 }
+    {
+        let minute = (target % 10080) as u32;
+        if self.t < minute {
+            minute - self.t
+        } else {
+            minute + WEEK - self.t
+        }
     }
-    best
+
+    // To a minute of one day, where the day is in the set.
+    fn day_minutes(&self, days: u32, minute: u64, day: u32) -> u32
+        requires { (minute ≤ 61 * max32) × (day < 7) }
+        ensures { result ≡ first_from (λ m. day_ahead self.now.t days minute day m) 1 10080 }
+    {
+        if has_day(days, day) {
+            return self.minutes_to(day as u64 * 1440 + minute);
+        }
+        NEVER
+    }
+
+    // To a minute of these days.
+    fn days_minutes(&self, days: u32, minute: u64) -> u32
+        requires { minute ≤ 61 * max32 }
+        ensures { result ≡ first_from (λ m. on_days ((self.now.t + m) % 10080) days minute) 1 10080 }
+    {
+        let mut best = NEVER;
+        for day in (0..7).rev() {
+            best = least(self.day_minutes(days, minute, day), best);
+        }
+        best
+    }
+
+    fn solar_minutes(&self, event: u32, offset_ms: u32) -> u32
+        ensures { result ≡ first_from (λ m. due_in self.now.sun self.now.t (trigger.AtSolar event offset_ms) m) 1 10080 }
+    {
+        match self.sun {
+            Some(s) => self.days_minutes(127, solar_minute(s, event, offset_ms) as u64),
+            None => NEVER,
+        }
+    }
+
+    fn trigger_minutes(&self, trigger: Trigger) -> u32
+        ensures { result ≡ first_from (λ m. due_in self.now.sun self.now.t trigger m) 1 10080 }
+    {
+        match trigger {
+            Trigger::TimerFires { timer } => NEVER,
+            Trigger::Every { period_ms } => NEVER,
+            Trigger::AtTime { hour, minute, days } => {
+                self.days_minutes(days, hour as u64 * 60 + minute as u64)
+            }
+            Trigger::AtSolar { event, offset_ms } => self.solar_minutes(event, offset_ms),
+            Trigger::Other => NEVER,
+        }
+    }
+
+    // To the first start of rule i, which has none while its bit is not set.
+    fn rule_minutes(&self, i: u32) -> u32
+        requires { i < size_of self.now.image.now rules }
+        ensures { result ≡ first_from (starts_in self.now.image.now (map is_one self.now.bits.now) self.now.sun self.now.t i) 1 10080 }
+    {
+        if fields::word(self.bits, i as usize) != 1 {
+            return NEVER;
+        }
+        let mut best = NEVER;
+        for k in (0..trigger_count(self.image, i)).rev() {
+            best = least(self.trigger_minutes(trigger_at(self.image, i, k)), best);
+        }
+        best
+    }
+
+    // The earliest start of all rules.
+    fn earliest(&self) -> Best
+        ensures { result ≡ best_of self.now.image.now (map is_one self.now.bits.now) self.now.sun self.now.t }
+    {
+        let mut best = Best {
+            minutes: NEVER,
+            name: 0,
+        };
+        for i in (0..size_of(self.image, Table::Rules)).rev() {
+            best = earlier(self.rule_minutes(i), name_of(self.image, i), best);
+        }
+        best
+    }
 }
 
 // From minute t of the week on, of an accepted image and the words of its rules' bits: 1 is enabled.
@@ -161,7 +169,13 @@ pub fn next_from(image: &[u32], bits: &[u32], sun: Option<model::SunTimes>, t: u
     requires { Accepted image.now × (t < 10080) }
     ensures { result ≡ next_from image.now (map is_one bits.now) sun t }
 {
-    let best = earliest(image, bits, sun, t);
+    let asked = Asked {
+        image,
+        bits,
+        sun,
+        t,
+    };
+    let best = asked.earliest();
     if best.minutes < NEVER {
         return NextStart::Start(best.minutes, best.name);
     }

@@ -1,6 +1,6 @@
--- `next::solar_minutes` meets its contract. Assumes nothing.
+-- `next::Asked::solar_minutes` meets its contract. Assumes nothing.
 use Rattle.next.proofs.Triggers.{at-sun, no-sun}
-use Rattle.next.proofs.solar_minutes.Goals as goal
+use Rattle.next.proofs.Asked.solar_minutes.Goals as goal
 
 pub returns-in-Some : goal.returns-in-Some
 returns-in-Some c =

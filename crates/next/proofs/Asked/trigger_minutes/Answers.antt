@@ -1,6 +1,6 @@
--- `next::trigger_minutes` meets its contract. Assumes nothing.
+-- `next::Asked::trigger_minutes` meets its contract. Assumes nothing.
 use Rattle.next.proofs.Triggers.{timer, slot, other, at-time}
-use Rattle.next.proofs.trigger_minutes.Goals as goal
+use Rattle.next.proofs.Asked.trigger_minutes.Goals as goal
 
 pub returns-in-TimerFires : goal.returns-in-TimerFires
 returns-in-TimerFires c = rw c.in-TimerFires.is (timer _ _ _)

@@ -1,9 +1,9 @@
--- `next::days_minutes` meets its contract. Assumes nothing.
+-- `next::Asked::days_minutes` meets its contract. Assumes nothing.
 use mathlib.Core.Path.{refl, ◌∙◌}
 use native.Mathlib.Omega.{arith}
 use Rattle.next.proofs.Down.{starts, goes_number, ends}
 use Rattle.next.proofs.Minutes.{of-days}
-use Rattle.next.proofs.days_minutes.Goals as goal
+use Rattle.next.proofs.Asked.days_minutes.Goals as goal
 
 pub loop-day-init : goal.loop-day-init
 loop-day-init c = starts _ _ _ _ refl
