@@ -7,8 +7,9 @@ ghost use Rattle.model.specs.Wheel.{resume_all, fire_continuations};
 ghost use Rattle.state.specs.Meaning.{meaning, stored_count, pending_count};
 ghost use Rattle.activate.specs.Carried.{carried};
 ghost use Rattle.activate.specs.Handled.{Room};
-ghost use Rattle.wheel.specs.Tick.{Holds, HasRecords, Fires, fits_set, are_indices, records_in, tick_env};
+ghost use Rattle.wheel.specs.Tick.{HasRecords, Fires, fits_set, are_indices, records_in, tick_env};
 
+use crate::Env;
 use activate::{Handled, resume};
 use image::rule::rule_named;
 use model::Pending;
@@ -18,24 +19,24 @@ use store::volatile::pending_record;
 
 // One goes on. Its rule is loaded.
 fn resume_one(
-    snapshot: &[u32],
-    image: &[u32],
-    store: &[u32],
+    env: &Env,
     outcomes: &mut [u32],
     effects: &mut [u32],
     v: &mut [u32],
     x: Handled,
     c: Pending,
 ) -> Handled
-    requires holds { Holds store.now image.now × (fits_set image.now c ≡ true) }
+    requires fits { fits_set env.now.image.now c ≡ true }
     requires room { Room 1 (carried v.old x) }
-    ensures { Fires 1 (model.resume (tick_env snapshot.now image.now) c) (carried v.old x) outcomes.old effects.old (carried v.new result) outcomes.new effects.new }
+    ensures { Fires 1 (model.resume (tick_env env.now.snapshot.now env.now.image.now) c) (carried v.old x) outcomes.old effects.old (carried v.new result) outcomes.new effects.new }
 {
-    match rule_named(image, c.rule) {
+    match rule_named(env.image, c.rule) {
         Some(i) => {
-            let part = rule_steps(store, i);
-            let own = rule_own(store, i);
-            resume(snapshot, image, part, own, outcomes, effects, v, x, i, c)
+            let part = rule_steps(env.store, i);
+            let own = rule_own(env.store, i);
+            resume(
+                env.snapshot, env.image, part, own, outcomes, effects, v, x, i, c,
+            )
         }
         None => x,
     }
@@ -43,48 +44,42 @@ fn resume_one(
 
 // Those at some indices of the store's records go on, one after the other.
 fn resume_all(
-    snapshot: &[u32],
-    image: &[u32],
-    store: &[u32],
+    env: &Env,
     outcomes: &mut [u32],
     effects: &mut [u32],
     v: &mut [u32],
     x: Handled,
     due: &[usize],
 ) -> Handled
-    requires holds { Holds store.now image.now × (length due.now ≤ 32) × (are_indices due.now ≡ true) × (all (fits_set image.now) (records_in store.now due.now) ≡ true) }
+    requires records { (length due.now ≤ 32) × (are_indices due.now ≡ true) × (all (fits_set env.now.image.now) (records_in env.now.store.now due.now) ≡ true) }
     requires room { Room 32 (carried v.old x) }
-    ensures { Fires 32 (resume_all (tick_env snapshot.now image.now) (records_in store.now due.now)) (carried v.old x) outcomes.old effects.old (carried v.new result) outcomes.new effects.new }
+    ensures { Fires 32 (resume_all (tick_env env.now.snapshot.now env.now.image.now) (records_in env.now.store.now due.now)) (carried v.old x) outcomes.old effects.old (carried v.new result) outcomes.new effects.new }
 {
     let mut h = x;
     for i in due {
-        let c = pending_record(store, *i);
-        h = resume_one(snapshot, image, store, outcomes, effects, v, h, c);
+        let c = pending_record(env.store, *i);
+        h = resume_one(env, outcomes, effects, v, h, c);
     }
     h
 }
 
 // kept: `fire_every` has this shape and none of these calls; one function for both would take the four of them as closures over the same words.
 pub fn fire_continuations(
-    snapshot: &[u32],
-    image: &[u32],
-    store: &[u32],
+    env: &Env,
     outcomes: &mut [u32],
     effects: &mut [u32],
     v: &mut [u32],
     x: Handled,
 ) -> Handled
-    requires holds { Holds store.now image.now × (all (fits_set image.now) (meaning v.old).pending ≡ true) × HasRecords store.now v.old }
+    requires records { (all (fits_set env.now.image.now) (meaning v.old).pending ≡ true) × HasRecords env.now.store.now v.old }
     requires v_value { (stored_count v.old ≡ pending_count v.old) × Room 32 (carried v.old x) }
-    ensures { Fires 32 (fire_continuations (tick_env snapshot.now image.now)) (carried v.old x) outcomes.old effects.old (carried v.new result) outcomes.new effects.new }
+    ensures { Fires 32 (fire_continuations (tick_env env.now.snapshot.now env.now.image.now)) (carried v.old x) outcomes.old effects.old (carried v.new result) outcomes.new effects.new }
 {
-    let time = world::now_ms(snapshot);
+    let time = world::now_ms(env.snapshot);
     let due = due_now(v, time);
     without_due(v, time);
     resume_all(
-        snapshot,
-        image,
-        store,
+        env,
         outcomes,
         effects,
         v,

@@ -6,16 +6,15 @@ ghost use Rattle.model.specs.Rows.{rules};
 ghost use Rattle.model.specs.Wheel.{activate_if_enabled};
 ghost use Rattle.activate.specs.Carried.{carried};
 ghost use Rattle.activate.specs.Handled.{Room};
-ghost use Rattle.wheel.specs.Tick.{Holds, Fires, tick_env};
+ghost use Rattle.wheel.specs.Tick.{Fires, tick_env};
 
+use crate::Env;
 use activate::{Handled, Mode, activate};
 use state::rules::is_enabled;
 use store::flat_part::{rule_own, rule_steps};
 
 pub fn activate_rule(
-    snapshot: &[u32],
-    image: &[u32],
-    store: &[u32],
+    env: &Env,
     outcomes: &mut [u32],
     effects: &mut [u32],
     v: &mut [u32],
@@ -23,15 +22,15 @@ pub fn activate_rule(
     i: u32,
     kind: u32,
 ) -> Handled
-    requires holds { Holds store.now image.now × (i < size_of image.now rules) }
+    requires rule { i < size_of env.now.image.now rules }
     requires room { Room 1 (carried v.old x) }
-    ensures { Fires 1 (model.activate (tick_env snapshot.now image.now) i kind model.Auto) (carried v.old x) outcomes.old effects.old (carried v.new result) outcomes.new effects.new }
+    ensures { Fires 1 (model.activate (tick_env env.now.snapshot.now env.now.image.now) i kind model.Auto) (carried v.old x) outcomes.old effects.old (carried v.new result) outcomes.new effects.new }
 {
-    let part = rule_steps(store, i);
-    let own = rule_own(store, i);
+    let part = rule_steps(env.store, i);
+    let own = rule_own(env.store, i);
     activate(
-        snapshot,
-        image,
+        env.snapshot,
+        env.image,
         part,
         own,
         outcomes,
@@ -46,9 +45,7 @@ pub fn activate_rule(
 
 // Whether a rule is enabled is asked when its turn comes.
 pub fn activate_if_enabled(
-    snapshot: &[u32],
-    image: &[u32],
-    store: &[u32],
+    env: &Env,
     outcomes: &mut [u32],
     effects: &mut [u32],
     v: &mut [u32],
@@ -56,12 +53,12 @@ pub fn activate_if_enabled(
     i: u32,
     kind: u32,
 ) -> Handled
-    requires holds { Holds store.now image.now × (i < size_of image.now rules) }
+    requires rule { i < size_of env.now.image.now rules }
     requires room { Room 1 (carried v.old x) }
-    ensures { Fires 1 (activate_if_enabled (tick_env snapshot.now image.now) kind i) (carried v.old x) outcomes.old effects.old (carried v.new result) outcomes.new effects.new }
+    ensures { Fires 1 (activate_if_enabled (tick_env env.now.snapshot.now env.now.image.now) kind i) (carried v.old x) outcomes.old effects.old (carried v.new result) outcomes.new effects.new }
 {
     if !is_enabled(v, i as usize) {
         return x;
     }
-    activate_rule(snapshot, image, store, outcomes, effects, v, x, i, kind)
+    activate_rule(env, outcomes, effects, v, x, i, kind)
 }

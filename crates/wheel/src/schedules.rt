@@ -7,14 +7,14 @@ ghost use Rattle.model.specs.Rows.{rules};
 ghost use Rattle.model.specs.Rules.{name_order};
 ghost use Rattle.model.specs.Snapshot.{snapshot_refusal};
 ghost use Rattle.model.specs.Wheel.{start_wall, fire_due_wall_rules, window_of, fire_window, is_set_back, fire_wall_at, fire_wall_schedules};
-ghost use Rattle.image.specs.Accepted.{Accepted};
 ghost use Rattle.state.specs.Meaning.{Sound, Means, meaning, base};
 ghost use Rattle.world.specs.Ranges.{WallInRange};
 ghost use Rattle.activate.specs.Carried.{carried};
 ghost use Rattle.activate.specs.Handled.{Room};
-ghost use Rattle.wheel.specs.Tick.{Holds, Ordered, Fires, tick_env, count_missed, remembering, without_wall};
+ghost use Rattle.wheel.specs.Tick.{Fires, tick_env, count_missed, remembering, without_wall};
 ghost use Rattle.wheel.specs.Turns.{Turns};
 
+use crate::Env;
 use crate::minutes::{WEEK_MINUTES, cyclic_dist, in_window, week_minute};
 use crate::rules::activate_rule;
 use crate::wall::{due_wall_kind, has_wall_triggers};
@@ -39,9 +39,7 @@ pub struct WallTurn {
 
 // A rule starts, where a trigger of it is due.
 fn start_wall(
-    snapshot: &[u32],
-    image: &[u32],
-    store: &[u32],
+    env: &Env,
     outcomes: &mut [u32],
     effects: &mut [u32],
     v: &mut [u32],
@@ -49,20 +47,18 @@ fn start_wall(
     i: u32,
     kind: Option<u32>,
 ) -> Handled
-    requires holds { Holds store.now image.now × (i < size_of image.now rules) }
+    requires rule { i < size_of env.now.image.now rules }
     requires room { Room 1 (carried v.old x) }
-    ensures { Fires 1 (start_wall kind (tick_env snapshot.now image.now) i) (carried v.old x) outcomes.old effects.old (carried v.new result) outcomes.new effects.new }
+    ensures { Fires 1 (start_wall kind (tick_env env.now.snapshot.now env.now.image.now) i) (carried v.old x) outcomes.old effects.old (carried v.new result) outcomes.new effects.new }
 {
     match kind {
-        Some(kind) => activate_rule(snapshot, image, store, outcomes, effects, v, x, i, kind),
+        Some(kind) => activate_rule(env, outcomes, effects, v, x, i, kind),
         None => x,
     }
 }
 
 fn wall_turn(
-    snapshot: &[u32],
-    image: &[u32],
-    store: &[u32],
+    env: &Env,
     outcomes: &mut [u32],
     effects: &mut [u32],
     v: &mut [u32],
@@ -72,16 +68,16 @@ fn wall_turn(
     window: u64,
     missed: bool,
 ) -> WallTurn
-    requires holds { Holds store.now image.now × (i < size_of image.now rules) }
+    requires rule { i < size_of env.now.image.now rules }
     requires room { Room 1 (carried v.old x) }
-    ensures { Turns (tick_env snapshot.now image.now) base window i missed (carried v.old x) outcomes.old effects.old v.new result outcomes.new effects.new }
+    ensures { Turns (tick_env env.now.snapshot.now env.now.image.now) base window i missed (carried v.old x) outcomes.old effects.old v.new result outcomes.new effects.new }
 {
     if !is_enabled(v, i as usize) {
         return WallTurn { handled: x, missed };
     }
-    let w = due_wall_kind(snapshot, image, base, window, i, missed);
+    let w = due_wall_kind(env, base, window, i, missed);
     let kind = w.kind;
-    let handled = start_wall(snapshot, image, store, outcomes, effects, v, x, i, kind);
+    let handled = start_wall(env, outcomes, effects, v, x, i, kind);
     WallTurn {
         handled,
         missed: w.unsynced,
@@ -99,26 +95,22 @@ fn count_missed(v: &mut [u32], missed: bool)
 }
 
 fn fire_due_wall_rules(
-    snapshot: &[u32],
-    image: &[u32],
-    store: &[u32],
+    env: &Env,
     outcomes: &mut [u32],
     effects: &mut [u32],
     v: &mut [u32],
     x: Handled,
-    order: &[u32],
     base: u64,
     window: u64,
 ) -> Handled
-    requires holds { Holds store.now image.now × Ordered image.now order.now }
-    requires room { Room 64 (carried v.old x) }
-    ensures { Fires 64 (fire_due_wall_rules (tick_env snapshot.now image.now) base window false (name_order image.now)) (carried v.old x) outcomes.old effects.old (carried v.new result) outcomes.new effects.new }
+    requires { Room 64 (carried v.old x) }
+    ensures { Fires 64 (fire_due_wall_rules (tick_env env.now.snapshot.now env.now.image.now) base window false (name_order env.now.image.now)) (carried v.old x) outcomes.old effects.old (carried v.new result) outcomes.new effects.new }
 {
     let mut h = x;
     let mut missed = false;
-    for i in order {
+    for i in env.order {
         let turn = wall_turn(
-            snapshot, image, store, outcomes, effects, v, h, *i, base, window, missed,
+            env, outcomes, effects, v, h, *i, base, window, missed,
         );
         h = turn.handled;
         missed = turn.missed;
@@ -147,22 +139,18 @@ fn is_set_back(prev: u32, minute: u64) -> bool
 }
 
 fn fire_window(
-    snapshot: &[u32],
-    image: &[u32],
-    store: &[u32],
+    env: &Env,
     outcomes: &mut [u32],
     effects: &mut [u32],
     v: &mut [u32],
     x: Handled,
-    order: &[u32],
     minute: u64,
     window: u64,
 ) -> Handled
-    requires holds { Holds store.now image.now × Ordered image.now order.now }
-    requires room { Room 64 (carried v.old x) × (minute < 10080) × (window ≤ 60) }
-    ensures { Fires 64 (fire_window (tick_env snapshot.now image.now) minute window) (carried v.old x) outcomes.old effects.old (carried v.new result) outcomes.new effects.new }
+    requires { Room 64 (carried v.old x) × (minute < 10080) × (window ≤ 60) }
+    ensures { Fires 64 (fire_window (tick_env env.now.snapshot.now env.now.image.now) minute window) (carried v.old x) outcomes.old effects.old (carried v.new result) outcomes.new effects.new }
 {
-    if !has_wall_triggers(image, v) {
+    if !has_wall_triggers(env.image, v) {
         return x;
     }
     if window == 0 {
@@ -170,7 +158,7 @@ fn fire_window(
     }
     let base = (minute + WEEK_MINUTES - window) % WEEK_MINUTES;
     fire_due_wall_rules(
-        snapshot, image, store, outcomes, effects, v, x, order, base, window,
+        env, outcomes, effects, v, x, base, window,
     )
 }
 
@@ -183,19 +171,15 @@ fn remember(v: &mut [u32], minute: u32)
 
 // The minute of this tick is remembered, and what has become due since the one before starts, unless the clock was set back.
 fn fire_wall_at(
-    snapshot: &[u32],
-    image: &[u32],
-    store: &[u32],
+    env: &Env,
     outcomes: &mut [u32],
     effects: &mut [u32],
     v: &mut [u32],
     x: Handled,
-    order: &[u32],
     w: WallTime,
 ) -> Handled
-    requires holds { Holds store.now image.now × Ordered image.now order.now }
-    requires room { Room 64 (carried v.old x) × WallInRange w }
-    ensures { Fires 64 (fire_wall_at (Some w) (tick_env snapshot.now image.now)) (carried v.old x) outcomes.old effects.old (carried v.new result) outcomes.new effects.new }
+    requires { Room 64 (carried v.old x) × WallInRange w }
+    ensures { Fires 64 (fire_wall_at (Some w) (tick_env env.now.snapshot.now env.now.image.now)) (carried v.old x) outcomes.old effects.old (carried v.new result) outcomes.new effects.new }
 {
     let prev = state::prev_week_min(v);
     let minute = week_minute(w);
@@ -207,38 +191,34 @@ fn fire_wall_at(
     }
     let window = window_of(before as u64, to);
     fire_window(
-        snapshot, image, store, outcomes, effects, v, x, order, to, window,
+        env, outcomes, effects, v, x, to, window,
     )
 }
 
 // Without a wall clock the minute before is forgotten.
-fn without_clock(image: &[u32], v: &mut [u32])
-    requires { Accepted image.now × Sound v.old }
-    ensures { Means v.new (base v.old) (without_wall image.now (meaning v.old)) }
+fn without_clock(env: &Env, v: &mut [u32])
+    requires { Sound v.old }
+    ensures { Means v.new (base v.old) (without_wall env.now.image.now (meaning v.old)) }
 {
-    let missed = has_wall_triggers(image, v);
+    let missed = has_wall_triggers(env.image, v);
     count_missed(v, missed);
     state::set_prev_week_min(v, None);
 }
 
 pub fn fire_wall_schedules(
-    snapshot: &[u32],
-    image: &[u32],
-    store: &[u32],
+    env: &Env,
     outcomes: &mut [u32],
     effects: &mut [u32],
     v: &mut [u32],
     x: Handled,
-    order: &[u32],
 ) -> Handled
-    requires holds { Holds store.now image.now × Ordered image.now order.now }
-    requires room { Room 64 (carried v.old x) × (snapshot_refusal snapshot.now ≡ 0) }
-    ensures { Fires 64 (fire_wall_schedules (tick_env snapshot.now image.now)) (carried v.old x) outcomes.old effects.old (carried v.new result) outcomes.new effects.new }
+    requires { Room 64 (carried v.old x) × (snapshot_refusal env.now.snapshot.now ≡ 0) }
+    ensures { Fires 64 (fire_wall_schedules (tick_env env.now.snapshot.now env.now.image.now)) (carried v.old x) outcomes.old effects.old (carried v.new result) outcomes.new effects.new }
 {
-    match world::wall(snapshot) {
-        Some(w) => fire_wall_at(snapshot, image, store, outcomes, effects, v, x, order, w),
+    match world::wall(env.snapshot) {
+        Some(w) => fire_wall_at(env, outcomes, effects, v, x, w),
         None => {
-            without_clock(image, v);
+            without_clock(env, v);
             x
         }
     }

@@ -3,8 +3,9 @@ ghost use Rattle.std.specs.Prelude.{◌≤◌, length};
 ghost use Rattle.model.specs.Wheel.{by_every, activate_each, fire_every};
 ghost use Rattle.activate.specs.Carried.{carried};
 ghost use Rattle.activate.specs.Handled.{Room};
-ghost use Rattle.wheel.specs.Tick.{Holds, Fires, tick_env, rules_of_slot, rules_of_slots};
+ghost use Rattle.wheel.specs.Tick.{Fires, tick_env, rules_of_slot, rules_of_slots};
 
+use crate::Env;
 use crate::rules::activate_if_enabled;
 use activate::Handled;
 use image::rule::rule_named;
@@ -15,69 +16,59 @@ use state::slots::{due_slots, move_slots};
 const BY_EVERY: u32 = 2;
 
 fn fire_slot(
-    snapshot: &[u32],
-    image: &[u32],
-    store: &[u32],
+    env: &Env,
     outcomes: &mut [u32],
     effects: &mut [u32],
     v: &mut [u32],
     x: Handled,
     slot: EverySlot,
 ) -> Handled
-    requires holds { Holds store.now image.now }
-    requires room { Room 1 (carried v.old x) }
-    ensures { Fires 1 (activate_each (tick_env snapshot.now image.now) by_every (rules_of_slot image.now slot)) (carried v.old x) outcomes.old effects.old (carried v.new result) outcomes.new effects.new }
+    requires { Room 1 (carried v.old x) }
+    ensures { Fires 1 (activate_each (tick_env env.now.snapshot.now env.now.image.now) by_every (rules_of_slot env.now.image.now slot)) (carried v.old x) outcomes.old effects.old (carried v.new result) outcomes.new effects.new }
 {
-    match rule_named(image, slot.rule) {
+    match rule_named(env.image, slot.rule) {
         Some(i) => activate_if_enabled(
-            snapshot, image, store, outcomes, effects, v, x, i, BY_EVERY,
+            env, outcomes, effects, v, x, i, BY_EVERY,
         ),
         None => x,
     }
 }
 
 fn fire_slots(
-    snapshot: &[u32],
-    image: &[u32],
-    store: &[u32],
+    env: &Env,
     outcomes: &mut [u32],
     effects: &mut [u32],
     v: &mut [u32],
     x: Handled,
     due: &[EverySlot],
 ) -> Handled
-    requires holds { Holds store.now image.now × (length due.now ≤ 64) }
+    requires few { length due.now ≤ 64 }
     requires room { Room 64 (carried v.old x) }
-    ensures { Fires 64 (activate_each (tick_env snapshot.now image.now) by_every (rules_of_slots image.now due.now)) (carried v.old x) outcomes.old effects.old (carried v.new result) outcomes.new effects.new }
+    ensures { Fires 64 (activate_each (tick_env env.now.snapshot.now env.now.image.now) by_every (rules_of_slots env.now.image.now due.now)) (carried v.old x) outcomes.old effects.old (carried v.new result) outcomes.new effects.new }
 {
     let mut h = x;
     for slot in due {
-        h = fire_slot(snapshot, image, store, outcomes, effects, v, h, *slot);
+        h = fire_slot(env, outcomes, effects, v, h, *slot);
     }
     h
 }
 
 // kept: see `fire_continuations`.
 pub fn fire_every(
-    snapshot: &[u32],
-    image: &[u32],
-    store: &[u32],
+    env: &Env,
     outcomes: &mut [u32],
     effects: &mut [u32],
     v: &mut [u32],
     x: Handled,
 ) -> Handled
-    requires holds { Holds store.now image.now }
-    requires room { Room 64 (carried v.old x) }
-    ensures { Fires 64 (fire_every (tick_env snapshot.now image.now)) (carried v.old x) outcomes.old effects.old (carried v.new result) outcomes.new effects.new }
+    requires { Room 64 (carried v.old x) }
+    ensures { Fires 64 (fire_every (tick_env env.now.snapshot.now env.now.image.now)) (carried v.old x) outcomes.old effects.old (carried v.new result) outcomes.new effects.new }
 {
-    let time = world::now_ms(snapshot);
+    let time = world::now_ms(env.snapshot);
     let due = due_slots(v, time);
     move_slots(v, time);
     fire_slots(
-        snapshot,
-        image,
-        store,
+        env,
         outcomes,
         effects,
         v,

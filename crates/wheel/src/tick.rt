@@ -3,6 +3,7 @@ ghost use Rattle.model.specs.Wheel.{service_tick};
 ghost use Rattle.activate.specs.Carried.{carried};
 ghost use Rattle.wheel.specs.Tick.{Ready, Fires, start, tick_env};
 
+use crate::Env;
 use crate::continuations::fire_continuations;
 use crate::schedules::fire_wall_schedules;
 use crate::slots::fire_every;
@@ -24,15 +25,18 @@ pub fn service_tick(
     ensures { Fires 1184 (service_tick (tick_env snapshot.now image.now)) (start v.old) outcomes.old effects.old (carried v.new result) outcomes.new effects.new }
 {
     let all = name_order(image);
-    let order = &all[..size_of(image, Table::Rules) as usize];
+    let env = Env {
+        snapshot,
+        image,
+        store,
+        order: &all[..size_of(image, Table::Rules) as usize],
+    };
     let x = Handled {
         outcomes: 0,
         effects: 0,
     };
-    let resumed = fire_continuations(snapshot, image, store, outcomes, effects, v, x);
-    let timed = fire_timers(snapshot, image, store, outcomes, effects, v, resumed, order);
-    let repeated = fire_every(snapshot, image, store, outcomes, effects, v, timed);
-    fire_wall_schedules(
-        snapshot, image, store, outcomes, effects, v, repeated, order,
-    )
+    let resumed = fire_continuations(&env, outcomes, effects, v, x);
+    let timed = fire_timers(&env, outcomes, effects, v, resumed);
+    let repeated = fire_every(&env, outcomes, effects, v, timed);
+    fire_wall_schedules(&env, outcomes, effects, v, repeated)
 }

@@ -5,11 +5,11 @@ ghost use Rattle.model.specs.Lists.{any, keep};
 ghost use Rattle.model.specs.Rows.{rules};
 ghost use Rattle.model.specs.Rules.{triggers_of};
 ghost use Rattle.model.specs.Wheel.{by_timer, fires_on, activate_each, rules_on_timer, fire_timers};
-ghost use Rattle.image.specs.Accepted.{Accepted};
 ghost use Rattle.activate.specs.Carried.{carried};
 ghost use Rattle.activate.specs.Handled.{Room};
-ghost use Rattle.wheel.specs.Tick.{Holds, Ordered, Fires, tick_env, on_timer, rules_of_timers};
+ghost use Rattle.wheel.specs.Tick.{Fires, tick_env, on_timer, rules_of_timers};
 
+use crate::Env;
 use crate::rules::activate_if_enabled;
 use activate::Handled;
 use image::rule::{trigger_at, trigger_count};
@@ -29,18 +29,16 @@ fn is_timer(trigger: Trigger, timer: u32) -> bool
 }
 
 // A trigger of rule i is this timer.
-fn fires_on(image: &[u32], i: u32, timer: u32) -> bool
-    requires { Accepted image.now × (i < size_of image.now rules) }
-    ensures { result ≡ any (fires_on timer) (triggers_of image.now i) }
+fn fires_on(env: &Env, i: u32, timer: u32) -> bool
+    requires { i < size_of env.now.image.now rules }
+    ensures { result ≡ any (fires_on timer) (triggers_of env.now.image.now i) }
 {
-    (0..trigger_count(image, i)).any(|k| is_timer(trigger_at(image, i, k), timer))
+    (0..trigger_count(env.image, i)).any(|k| is_timer(trigger_at(env.image, i, k), timer))
 }
 
 // Rule i, where it has the timer as a trigger.
 fn fire_rule(
-    snapshot: &[u32],
-    image: &[u32],
-    store: &[u32],
+    env: &Env,
     outcomes: &mut [u32],
     effects: &mut [u32],
     v: &mut [u32],
@@ -48,88 +46,74 @@ fn fire_rule(
     i: u32,
     timer: u32,
 ) -> Handled
-    requires holds { Holds store.now image.now × (i < size_of image.now rules) }
+    requires rule { i < size_of env.now.image.now rules }
     requires room { Room 1 (carried v.old x) }
-    ensures { Fires 1 (activate_each (tick_env snapshot.now image.now) by_timer (keep (on_timer image.now timer) (i ∷ []))) (carried v.old x) outcomes.old effects.old (carried v.new result) outcomes.new effects.new }
+    ensures { Fires 1 (activate_each (tick_env env.now.snapshot.now env.now.image.now) by_timer (keep (on_timer env.now.image.now timer) (i ∷ []))) (carried v.old x) outcomes.old effects.old (carried v.new result) outcomes.new effects.new }
 {
-    if !fires_on(image, i, timer) {
+    if !fires_on(env, i, timer) {
         return x;
     }
-    activate_if_enabled(snapshot, image, store, outcomes, effects, v, x, i, BY_TIMER)
+    activate_if_enabled(env, outcomes, effects, v, x, i, BY_TIMER)
 }
 
 fn fire_one_timer(
-    snapshot: &[u32],
-    image: &[u32],
-    store: &[u32],
+    env: &Env,
     outcomes: &mut [u32],
     effects: &mut [u32],
     v: &mut [u32],
     x: Handled,
-    order: &[u32],
     timer: u32,
 ) -> Handled
-    requires holds { Holds store.now image.now × Ordered image.now order.now }
-    requires room { Room 64 (carried v.old x) }
-    ensures { Fires 64 (activate_each (tick_env snapshot.now image.now) by_timer (rules_on_timer image.now timer)) (carried v.old x) outcomes.old effects.old (carried v.new result) outcomes.new effects.new }
+    requires { Room 64 (carried v.old x) }
+    ensures { Fires 64 (activate_each (tick_env env.now.snapshot.now env.now.image.now) by_timer (rules_on_timer env.now.image.now timer)) (carried v.old x) outcomes.old effects.old (carried v.new result) outcomes.new effects.new }
 {
     let mut h = x;
-    for i in order {
-        h = fire_rule(snapshot, image, store, outcomes, effects, v, h, *i, timer);
+    for i in env.order {
+        h = fire_rule(env, outcomes, effects, v, h, *i, timer);
     }
     h
 }
 
 fn fire_due_timers(
-    snapshot: &[u32],
-    image: &[u32],
-    store: &[u32],
+    env: &Env,
     outcomes: &mut [u32],
     effects: &mut [u32],
     v: &mut [u32],
     x: Handled,
-    order: &[u32],
     due: &[NamedTimer],
 ) -> Handled
-    requires holds { Holds store.now image.now × Ordered image.now order.now × (length due.now ≤ 16) }
+    requires few { length due.now ≤ 16 }
     requires room { Room 1024 (carried v.old x) }
-    ensures { Fires 1024 (activate_each (tick_env snapshot.now image.now) by_timer (rules_of_timers image.now due.now)) (carried v.old x) outcomes.old effects.old (carried v.new result) outcomes.new effects.new }
+    ensures { Fires 1024 (activate_each (tick_env env.now.snapshot.now env.now.image.now) by_timer (rules_of_timers env.now.image.now due.now)) (carried v.old x) outcomes.old effects.old (carried v.new result) outcomes.new effects.new }
 {
     let mut h = x;
     for t in due {
         h = fire_one_timer(
-            snapshot, image, store, outcomes, effects, v, h, order, t.name,
+            env, outcomes, effects, v, h, t.name,
         );
     }
     h
 }
 
 pub fn fire_timers(
-    snapshot: &[u32],
-    image: &[u32],
-    store: &[u32],
+    env: &Env,
     outcomes: &mut [u32],
     effects: &mut [u32],
     v: &mut [u32],
     x: Handled,
-    order: &[u32],
 ) -> Handled
-    requires holds { Holds store.now image.now × Ordered image.now order.now }
-    requires room { Room 1024 (carried v.old x) }
-    ensures { Fires 1024 (fire_timers (tick_env snapshot.now image.now)) (carried v.old x) outcomes.old effects.old (carried v.new result) outcomes.new effects.new }
+    requires { Room 1024 (carried v.old x) }
+    ensures { Fires 1024 (fire_timers (tick_env env.now.snapshot.now env.now.image.now)) (carried v.old x) outcomes.old effects.old (carried v.new result) outcomes.new effects.new }
 {
-    let time = world::now_ms(snapshot);
+    let time = world::now_ms(env.snapshot);
     let due = due_timers(v, time);
     without_due(v, time);
     fire_due_timers(
-        snapshot,
-        image,
-        store,
+        env,
         outcomes,
         effects,
         v,
         x,
-        order,
         due.as_slice(),
     )
 }

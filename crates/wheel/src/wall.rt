@@ -10,6 +10,7 @@ ghost use Rattle.image.specs.Accepted.{Accepted};
 ghost use Rattle.state.specs.Meaning.{Sound, meaning};
 ghost use Rattle.wheel.specs.Wall.{kind_if, Kind, KindAnywhere, enabled_wall};
 
+use crate::Env;
 use crate::minutes::minute_due;
 use image::layout::{Table, size_of};
 use image::rule::{trigger_at, trigger_count};
@@ -88,21 +89,14 @@ fn trigger_kind(
 }
 
 // What the triggers of rule i give.
-pub fn due_wall_kind(
-    snapshot: &[u32],
-    image: &[u32],
-    base: u64,
-    window: u64,
-    i: u32,
-    missed: bool,
-) -> WallKind
-    requires { Accepted image.now × (i < size_of image.now rules) }
-    ensures { Kind snapshot.now base window missed (triggers_of image.now i) result }
+pub fn due_wall_kind(env: &Env, base: u64, window: u64, i: u32, missed: bool) -> WallKind
+    requires { i < size_of env.now.image.now rules }
+    ensures { Kind env.now.snapshot.now base window missed (triggers_of env.now.image.now i) result }
 {
     let mut unsynced = missed;
-    for k in 0..trigger_count(image, i) {
-        let trigger = trigger_at(image, i, k);
-        let w = trigger_kind(snapshot, base, window, trigger, unsynced);
+    for k in 0..trigger_count(env.image, i) {
+        let trigger = trigger_at(env.image, i, k);
+        let w = trigger_kind(env.snapshot, base, window, trigger, unsynced);
         if w.kind.is_some() {
             return w;
         }

@@ -11,16 +11,16 @@ pub loop-i-init : goal.loop-i-init
 loop-i-init c = resuming-starts _ _ _ _ _ c.requires.room.sound
 
 pub pending_record-c-requires : goal.pending_record-c-requires
-pending_record-c-requires c = index-fits c.args.store.now _ _ c.loop-i-test.true c.requires.holds.2
+pending_record-c-requires c = index-fits c.args.env.now.store.now _ _ c.loop-i-test.true c.requires.records.1
 
-pub resume_one-h-requires-clause-holds : goal.resume_one-h-requires-clause-holds
-resume_one-h-requires-clause-holds c =
-    (c.requires.holds.0, record-fits _ _ _ c.loop-i-test.true (fits_set c.args.image.now) c.requires.holds.3 c.pending_record-c.ensures)
+pub resume_one-h-requires-clause-fits : goal.resume_one-h-requires-clause-fits
+resume_one-h-requires-clause-fits c =
+    record-fits _ _ _ c.loop-i-test.true (fits_set c.args.env.now.image.now) c.requires.records.2 c.pending_record-c.ensures
 
 pub loop-i-preserved : goal.loop-i-preserved
 loop-i-preserved c =
-    resuming-goes _ _ c.loop-i.invariant (record_in c.args.store.now 0) (simp length-map c.loop-i-test.true) (record-next c.args.store.now c.args.due.now c.loop-i.i-index c.pending_record-c.ensures) c.resume_one-h.ensures
+    resuming-goes _ _ c.loop-i.invariant (record_in c.args.env.now.store.now 0) (simp length-map c.loop-i-test.true) (record-next c.args.env.now.store.now c.args.due.now c.loop-i.i-index c.pending_record-c.ensures) c.resume_one-h.ensures
 
 pub returns : goal.returns
 returns c =
-    resuming-ends _ _ c.loop-i.invariant 32 (simp length-map c.loop-i-test.false) (omega (arith, c.loop-i.auto, c.requires.holds.1))
+    resuming-ends _ _ c.loop-i.invariant 32 (simp length-map c.loop-i-test.false) (omega (arith, c.loop-i.auto, c.requires.records.0))

@@ -6,4 +6,4 @@ use Rattle.wheel.proofs.continuations.resume_all.Given as goal
 
 abbrev pub invariant-loop-i : goal.invariant-loop-i
 invariant-loop-i l =
-    Resuming (tick_env l.snapshot l.image) (records_in l.store l.due) (carried l.initial.v l.initial.h) l.initial.outcomes l.initial.effects l.i-index (carried l.v l.h) l.outcomes l.effects
+    Resuming (tick_env l.env.snapshot.now l.env.image.now) (records_in l.env.store.now l.due) (carried l.initial.v l.initial.h) l.initial.outcomes l.initial.effects l.i-index (carried l.v l.h) l.outcomes l.effects

@@ -2,32 +2,26 @@
 use mathlib.Core.Path.{sym, ◌∙◌}
 use Rattle.image.proofs.Rules.{named_rule}
 use Rattle.activate.specs.Carried.{carried}
-use Rattle.activate.proofs.FlatRules.{image-accepted}
 use Rattle.wheel.proofs.Due.{small-budget, has-rule}
 use Rattle.wheel.proofs.Fires.{resumed}
 use Rattle.wheel.proofs.RuleParts.{part_says, part-fits}
 use Rattle.wheel.proofs.continuations.resume_one.Goals as goal
 
-pub rule_named-requires : goal.rule_named-requires
-rule_named-requires c =
-    let a = image-accepted _ c.requires.holds.0.accepted in
-    (a.least, a.most)
-
 pub resume-requires : goal.resume-requires
 resume-requires c =
-    let h = c.requires.holds.0 in
+    let h = c.args.env.now.holds in
     let n = sym c.rule_named.ensures ∙ c.in-Some.is in
     record {
-      accepted = (image-accepted _ h.accepted, part-fits _ _ _ h.kept _ (named_rule _ _ _ n).0 _ _ c.rule_steps-part.ensures c.rule_own-own.ensures h.accepted, n);
-      budget_bound = (small-budget _ _ c.requires.holds.1 h.accepted, c.requires.room);
+      accepted = (c.args.env.now.accepted, part-fits _ _ _ h.kept _ (named_rule _ _ _ n).0 _ _ c.rule_steps-part.ensures c.rule_own-own.ensures h.accepted, n);
+      budget_bound = (small-budget _ _ c.requires.fits h.accepted, c.requires.room);
     }
 
 pub returns-in-Some : goal.returns-in-Some
 returns-in-Some c =
     let n = sym c.rule_named.ensures ∙ c.in-Some.is in
-    let says = part_says _ _ _ c.requires.holds.0.kept _ (named_rule _ _ _ n).0 _ _ c.rule_steps-part.ensures c.rule_own-own.ensures in
-    resumed c.args.snapshot.now c.args.image.now _ _ _ (carried c.args.v.now c.args.x) _ _ _ _ _ says c.args.c c.resume.ensures
+    let says = part_says _ _ _ c.args.env.now.holds.kept _ (named_rule _ _ _ n).0 _ _ c.rule_steps-part.ensures c.rule_own-own.ensures in
+    resumed c.args.env.now.snapshot.now c.args.env.now.image.now _ _ _ (carried c.args.v.now c.args.x) _ _ _ _ _ says c.args.c c.resume.ensures
 
 pub returns-in-None : goal.returns-in-None
 returns-in-None c =
-    absurd (has-rule _ _ c.requires.holds.1 (sym c.rule_named.ensures ∙ c.in-None.is))
+    absurd (has-rule _ _ c.requires.fits (sym c.rule_named.ensures ∙ c.in-None.is))

@@ -8,23 +8,23 @@ use Rattle.wheel.proofs.Names.{order-at, order-few}
 use Rattle.wheel.proofs.schedules.fire_due_wall_rules.Goals as goal
 
 pub loop-i-init : goal.loop-i-init
-loop-i-init c = turning-starts _ _ _ _ _ _ _ c.requires.room.sound
+loop-i-init c = turning-starts _ _ _ _ _ _ _ c.requires.sound
 
 pub wall_turn-turn-requires : goal.wall_turn-turn-requires
 wall_turn-turn-requires c =
-    let f = order-few _ _ c.requires.holds.1 c.requires.holds.0.accepted in
+    let f = order-few _ _ c.args.env.now.ordered c.args.env.now.holds.accepted in
     record {
-      holds = (c.requires.holds.0, order-at _ _ c.requires.holds.1 _ c.loop-i-test.true);
-      room = room-here _ _ _ _ _ _ _ _ _ _ c.loop-i.invariant 64 (omega (arith, c.loop-i-test.true, f)) c.requires.room;
+      rule = order-at _ _ c.args.env.now.ordered _ c.loop-i-test.true;
+      room = room-here _ _ _ _ _ _ _ _ _ _ c.loop-i.invariant 64 (omega (arith, c.loop-i-test.true, f)) c.requires;
     }
 
 pub loop-i-preserved : goal.loop-i-preserved
 loop-i-preserved c = turning-goes _ _ _ _ _ c.loop-i.invariant 0 _ c.loop-i-test.true refl c.wall_turn-turn.ensures
 
 pub shape_of-v : goal.shape_of-v
-shape_of-v c = same-state c.requires.room.sound c.count_missed.ensures.sound
+shape_of-v c = same-state c.requires.sound c.count_missed.ensures.sound
 
 pub returns : goal.returns
 returns c =
-    let f = order-few _ _ c.requires.holds.1 c.requires.holds.0.accepted in
-    rw c.requires.holds.1 at (turning-ends _ _ _ _ _ c.loop-i.invariant 64 c.loop-i-test.false (omega (arith, c.loop-i.auto, f)) c.count_missed.ensures)
+    let f = order-few _ _ c.args.env.now.ordered c.args.env.now.holds.accepted in
+    rw c.args.env.now.ordered at (turning-ends _ _ _ _ _ c.loop-i.invariant 64 c.loop-i-test.false (omega (arith, c.loop-i.auto, f)) c.count_missed.ensures)

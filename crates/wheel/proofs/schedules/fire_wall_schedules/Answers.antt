@@ -4,7 +4,6 @@ use Rattle.std.specs.Prelude.{Some}
 use Rattle.model.specs.Wheel.{fire_wall_at, fire_wall_schedules}
 use Rattle.world.proofs.Laws.{wall-in-range}
 use Rattle.activate.specs.Carried.{carried}
-use Rattle.activate.proofs.FlatRules.{image-accepted}
 use Rattle.wheel.specs.Tick.{tick_env}
 use Rattle.wheel.proofs.Fires.{same-part}
 use Rattle.wheel.proofs.WallParts.{with-clock, without-clock}
@@ -12,20 +11,13 @@ use Rattle.wheel.proofs.schedules.fire_wall_schedules.Goals as goal
 
 pub fire_wall_at-requires : goal.fire_wall_at-requires
 fire_wall_at-requires c =
-    record {
-      holds = c.requires.holds;
-      room = (c.requires.room.0, wall-in-range _ c.requires.room.1 (sym c.wall.ensures ∙ c.in-Some.is));
-    }
-
-pub without_clock-requires : goal.without_clock-requires
-without_clock-requires c =
-    (image-accepted _ c.requires.holds.0.accepted, c.requires.room.0.sound)
+    (c.requires.0, wall-in-range _ c.requires.1 (sym c.wall.ensures ∙ c.in-Some.is))
 
 pub returns-in-Some : goal.returns-in-Some
 returns-in-Some c =
-    let e = tick_env c.args.snapshot.now c.args.image.now in
-    same-part 64 (fire_wall_at (Some _) e) (fire_wall_schedules e) (with-clock c.args.snapshot.now c.args.image.now c.wall.ensures _ _ c.in-Some.is) c.fire_wall_at.ensures
+    let e = tick_env c.args.env.now.snapshot.now c.args.env.now.image.now in
+    same-part 64 (fire_wall_at (Some _) e) (fire_wall_schedules e) (with-clock c.args.env.now.snapshot.now c.args.env.now.image.now c.wall.ensures _ _ c.in-Some.is) c.fire_wall_at.ensures
 
 pub returns-in-None : goal.returns-in-None
 returns-in-None c =
-    without-clock c.args.snapshot.now c.args.image.now c.wall.ensures (carried c.args.v.now c.args.x) _ _ c.in-None.is c.without_clock.ensures
+    without-clock c.args.env.now.snapshot.now c.args.env.now.image.now c.wall.ensures (carried c.args.v.now c.args.x) _ _ c.in-None.is c.without_clock.ensures

@@ -3,24 +3,19 @@ use mathlib.Core.Bool.{false}
 use Rattle.model.specs.Rules.{name_order}
 use Rattle.model.specs.Wheel.{fire_due_wall_rules, fire_window}
 use Rattle.activate.specs.Carried.{carried}
-use Rattle.activate.proofs.FlatRules.{image-accepted}
 use Rattle.wheel.specs.Tick.{tick_env}
 use Rattle.wheel.proofs.Fires.{same-part, skips}
 use Rattle.wheel.proofs.WallTurns.{no-triggers, no-window, opens}
 use Rattle.wheel.proofs.schedules.fire_window.Goals as goal
 
-pub has_wall_triggers-requires : goal.has_wall_triggers-requires
-has_wall_triggers-requires c =
-    (image-accepted _ c.requires.holds.0.accepted, c.requires.room.0.sound)
-
 pub returns-then-not-has_wall_triggers : goal.returns-then-not-has_wall_triggers
 returns-then-not-has_wall_triggers c =
-    skips 64 (fire_window (tick_env c.args.snapshot.now c.args.image.now) c.args.minute c.args.window) (carried c.args.v.now c.args.x) _ _ c.requires.room.0.sound (no-triggers c.args.snapshot.now c.args.image.now c.args.minute c.args.window _ c.has_wall_triggers.ensures c.if-not-has_wall_triggers.true-raw)
+    skips 64 (fire_window (tick_env c.args.env.now.snapshot.now c.args.env.now.image.now) c.args.minute c.args.window) (carried c.args.v.now c.args.x) _ _ c.requires.0.sound (no-triggers c.args.env.now.snapshot.now c.args.env.now.image.now c.args.minute c.args.window _ c.has_wall_triggers.ensures c.if-not-has_wall_triggers.true-raw)
 
 pub returns-then-window-eq0 : goal.returns-then-window-eq0
 returns-then-window-eq0 c =
-    skips 64 (fire_window (tick_env c.args.snapshot.now c.args.image.now) c.args.minute c.args.window) (carried c.args.v.now c.args.x) _ _ c.requires.room.0.sound (no-window c.args.snapshot.now c.args.image.now c.args.minute c.args.window _ c.has_wall_triggers.ensures c.if-not-has_wall_triggers.false-raw c.if-window-eq0.true)
+    skips 64 (fire_window (tick_env c.args.env.now.snapshot.now c.args.env.now.image.now) c.args.minute c.args.window) (carried c.args.v.now c.args.x) _ _ c.requires.0.sound (no-window c.args.env.now.snapshot.now c.args.env.now.image.now c.args.minute c.args.window _ c.has_wall_triggers.ensures c.if-not-has_wall_triggers.false-raw c.if-window-eq0.true)
 
 pub returns : goal.returns
 returns c =
-    same-part 64 (fire_due_wall_rules (tick_env c.args.snapshot.now c.args.image.now) _ c.args.window false (name_order c.args.image.now)) (fire_window (tick_env c.args.snapshot.now c.args.image.now) c.args.minute c.args.window) (opens c.args.snapshot.now c.args.image.now c.args.minute c.args.window _ c.has_wall_triggers.ensures c.if-not-has_wall_triggers.false-raw c.if-window-eq0.false) c.fire_due_wall_rules.ensures
+    same-part 64 (fire_due_wall_rules (tick_env c.args.env.now.snapshot.now c.args.env.now.image.now) _ c.args.window false (name_order c.args.env.now.image.now)) (fire_window (tick_env c.args.env.now.snapshot.now c.args.env.now.image.now) c.args.minute c.args.window) (opens c.args.env.now.snapshot.now c.args.env.now.image.now c.args.minute c.args.window _ c.has_wall_triggers.ensures c.if-not-has_wall_triggers.false-raw c.if-window-eq0.false) c.fire_due_wall_rules.ensures

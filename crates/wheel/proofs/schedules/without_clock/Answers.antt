@@ -4,4 +4,4 @@ use Rattle.wheel.proofs.schedules.without_clock.Goals as goal
 
 pub returns : goal.returns
 returns c =
-    forgets c.args.image.now c.args.v.now _ _ c.has_wall_triggers-missed.ensures c.count_missed.ensures c.set_prev_week_min.ensures
+    forgets c.args.env.now.image.now c.args.v.now _ _ c.has_wall_triggers-missed.ensures c.count_missed.ensures c.set_prev_week_min.ensures

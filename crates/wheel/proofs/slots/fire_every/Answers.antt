@@ -7,10 +7,10 @@ use Rattle.wheel.proofs.slots.fire_every.Goals as goal
 pub fire_slots-requires : goal.fire_slots-requires
 fire_slots-requires c =
     record {
-      holds = (c.requires.holds, c.as_slice.ensures.fits);
-      room = slots-room c.args.snapshot.now c.args.image.now _ c.now_ms-time.ensures (carried c.args.v.now c.args.x) _ c.move_slots.ensures 64 c.requires.room;
+      few = c.as_slice.ensures.fits;
+      room = slots-room c.args.env.now.snapshot.now c.args.env.now.image.now _ c.now_ms-time.ensures (carried c.args.v.now c.args.x) _ c.move_slots.ensures 64 c.requires;
     }
 
 pub returns : goal.returns
 returns c =
-    slots-fire c.args.snapshot.now c.args.image.now _ c.now_ms-time.ensures (carried c.args.v.now c.args.x) _ c.move_slots.ensures _ (c.as_slice.ensures.value ∙ c.due_slots-due.ensures) c.fire_slots.ensures
+    slots-fire c.args.env.now.snapshot.now c.args.env.now.image.now _ c.now_ms-time.ensures (carried c.args.v.now c.args.x) _ c.move_slots.ensures _ (c.as_slice.ensures.value ∙ c.due_slots-due.ensures) c.fire_slots.ensures

@@ -3,30 +3,24 @@ use mathlib.Core.Path.{sym, ◌∙◌}
 use Rattle.model.specs.Wheel.{by_every, activate_if_enabled, activate_each}
 use Rattle.image.proofs.Rules.{named_rule}
 use Rattle.activate.specs.Carried.{carried}
-use Rattle.activate.proofs.FlatRules.{image-accepted}
 use Rattle.wheel.specs.Tick.{tick_env, rules_of_slot}
 use Rattle.wheel.proofs.Each.{slot_of, slot-none}
 use Rattle.wheel.proofs.Fires.{same-part, skips}
 use Rattle.wheel.proofs.slots.fire_slot.Goals as goal
 
-pub rule_named-requires : goal.rule_named-requires
-rule_named-requires c =
-    let a = image-accepted _ c.requires.holds.accepted in
-    (a.least, a.most)
-
 pub activate_if_enabled-requires : goal.activate_if_enabled-requires
 activate_if_enabled-requires c =
     record {
-      holds = (c.requires.holds, (named_rule _ _ _ (sym c.rule_named.ensures ∙ c.in-Some.is)).0);
-      room = c.requires.room;
+      rule = (named_rule _ _ _ (sym c.rule_named.ensures ∙ c.in-Some.is)).0;
+      room = c.requires;
     }
 
 pub returns-in-Some : goal.returns-in-Some
 returns-in-Some c =
-    let e = tick_env c.args.snapshot.now c.args.image.now in
-    same-part 1 (activate_if_enabled e by_every _) (activate_each e by_every (rules_of_slot c.args.image.now c.args.slot)) (slot_of e c.args.image.now c.args.slot _ _ (sym c.rule_named.ensures ∙ c.in-Some.is)) c.activate_if_enabled.ensures
+    let e = tick_env c.args.env.now.snapshot.now c.args.env.now.image.now in
+    same-part 1 (activate_if_enabled e by_every _) (activate_each e by_every (rules_of_slot c.args.env.now.image.now c.args.slot)) (slot_of e c.args.env.now.image.now c.args.slot _ _ (sym c.rule_named.ensures ∙ c.in-Some.is)) c.activate_if_enabled.ensures
 
 pub returns-in-None : goal.returns-in-None
 returns-in-None c =
-    let e = tick_env c.args.snapshot.now c.args.image.now in
-    skips 1 (activate_each e by_every (rules_of_slot c.args.image.now c.args.slot)) (carried c.args.v.now c.args.x) _ _ c.requires.room.sound (slot-none e c.args.image.now c.args.slot _ (sym c.rule_named.ensures ∙ c.in-None.is))
+    let e = tick_env c.args.env.now.snapshot.now c.args.env.now.image.now in
+    skips 1 (activate_each e by_every (rules_of_slot c.args.env.now.image.now c.args.slot)) (carried c.args.v.now c.args.x) _ _ c.requires.sound (slot-none e c.args.env.now.image.now c.args.slot _ (sym c.rule_named.ensures ∙ c.in-None.is))

@@ -10,13 +10,10 @@ loop-slot-init c = starting-starts _ _ _ _ _ _ _ _ c.requires.room.sound
 
 pub fire_slot-h-requires : goal.fire_slot-h-requires
 fire_slot-h-requires c =
-    record {
-      holds = c.requires.holds.0;
-      room = room-here _ _ _ _ _ _ _ _ _ _ c.loop-slot.invariant 64 (omega (arith, c.loop-slot-test.true, c.requires.holds.1)) c.requires.room;
-    }
+    room-here _ _ _ _ _ _ _ _ _ _ c.loop-slot.invariant 64 (omega (arith, c.loop-slot-test.true, c.requires.few)) c.requires.room
 
 pub loop-slot-preserved : goal.loop-slot-preserved
 loop-slot-preserved c = starting-goes _ _ _ _ _ c.loop-slot.invariant _ _ c.loop-slot-test.true refl c.fire_slot-h.ensures
 
 pub returns : goal.returns
-returns c = starting-ends _ _ _ _ _ c.loop-slot.invariant 64 c.loop-slot-test.false (omega (arith, c.loop-slot.auto, c.requires.holds.1))
+returns c = starting-ends _ _ _ _ _ c.loop-slot.invariant 64 c.loop-slot-test.false (omega (arith, c.loop-slot.auto, c.requires.few))

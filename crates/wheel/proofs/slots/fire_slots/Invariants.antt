@@ -7,4 +7,4 @@ use Rattle.wheel.proofs.slots.fire_slots.Given as goal
 
 abbrev pub invariant-loop-slot : goal.invariant-loop-slot
 invariant-loop-slot l =
-    Starting 1 (tick_env l.snapshot l.image) by_every (rules_of_slot l.image) l.due (carried l.initial.v l.initial.h) l.initial.outcomes l.initial.effects l.slot-index (carried l.v l.h) l.outcomes l.effects
+    Starting 1 (tick_env l.env.snapshot.now l.env.image.now) by_every (rules_of_slot l.env.image.now) l.due (carried l.initial.v l.initial.h) l.initial.outcomes l.initial.effects l.slot-index (carried l.v l.h) l.outcomes l.effects

@@ -23,30 +23,32 @@ name_order-all-requires c =
 pub size_of-requires : goal.size_of-requires
 size_of-requires c = let a = image-accepted _ c.requires.holds.accepted in (a.least, a.most)
 
+pub invariant_of-env : goal.invariant_of-env
+invariant_of-env c =
+    record {
+      accepted = image-accepted _ c.requires.holds.accepted;
+      holds = c.requires.holds;
+      ordered = ap (λ (n : ℕ). take n c.name_order-all.result) c.size_of.ensures ∙ c.name_order-all.ensures;
+    }
+
 pub fire_continuations-resumed-requires : goal.fire_continuations-resumed-requires
 fire_continuations-resumed-requires c =
     record {
-      holds = (c.requires.holds, c.requires.pending, c.requires.records);
+      records = (c.requires.pending, c.requires.records);
       v_value = (c.requires.state.stored, room-less 32 1184 _ (omega arith) (first-room c.args.v.now c.requires.state));
     }
 
-pub fire_timers-timed-requires-clause-room : goal.fire_timers-timed-requires-clause-room
-fire_timers-timed-requires-clause-room c =
+pub fire_timers-timed-requires : goal.fire_timers-timed-requires
+fire_timers-timed-requires c =
     room-less 1024 1152 _ (omega arith) (room-for-timers (first-room c.args.v.now c.requires.state) c.fire_continuations-resumed.ensures.within)
 
 pub fire_every-repeated-requires : goal.fire_every-repeated-requires
 fire_every-repeated-requires c =
-    record {
-      holds = c.requires.holds;
-      room = room-less 64 128 _ (omega arith) (room-for-slots (first-room c.args.v.now c.requires.state) c.fire_continuations-resumed.ensures.within c.fire_timers-timed.ensures.within);
-    }
+    room-less 64 128 _ (omega arith) (room-for-slots (first-room c.args.v.now c.requires.state) c.fire_continuations-resumed.ensures.within c.fire_timers-timed.ensures.within)
 
 pub fire_wall_schedules-requires : goal.fire_wall_schedules-requires
 fire_wall_schedules-requires c =
-    record {
-      holds = (c.requires.holds, ap (λ (n : ℕ). take n c.name_order-all.result) c.size_of.ensures ∙ c.name_order-all.ensures);
-      room = (room-for-wall (first-room c.args.v.now c.requires.state) c.fire_continuations-resumed.ensures.within c.fire_timers-timed.ensures.within c.fire_every-repeated.ensures.within, c.requires.world);
-    }
+    (room-for-wall (first-room c.args.v.now c.requires.state) c.fire_continuations-resumed.ensures.within c.fire_timers-timed.ensures.within c.fire_every-repeated.ensures.within, c.requires.world)
 
 pub shape_of-outcomes : goal.shape_of-outcomes
 shape_of-outcomes c =

@@ -10,13 +10,10 @@ loop-t-init c = starting-starts _ _ _ _ _ _ _ _ c.requires.room.sound
 
 pub fire_one_timer-h-requires : goal.fire_one_timer-h-requires
 fire_one_timer-h-requires c =
-    record {
-      holds = (c.requires.holds.0, c.requires.holds.1);
-      room = room-here _ _ _ _ _ _ _ _ _ _ c.loop-t.invariant 1024 (omega (arith, c.loop-t-test.true, c.requires.holds.2)) c.requires.room;
-    }
+    room-here _ _ _ _ _ _ _ _ _ _ c.loop-t.invariant 1024 (omega (arith, c.loop-t-test.true, c.requires.few)) c.requires.room
 
 pub loop-t-preserved : goal.loop-t-preserved
 loop-t-preserved c = starting-goes _ _ _ _ _ c.loop-t.invariant _ _ c.loop-t-test.true refl c.fire_one_timer-h.ensures
 
 pub returns : goal.returns
-returns c = starting-ends _ _ _ _ _ c.loop-t.invariant 1024 c.loop-t-test.false (omega (arith, c.loop-t.auto, c.requires.holds.2))
+returns c = starting-ends _ _ _ _ _ c.loop-t.invariant 1024 c.loop-t-test.false (omega (arith, c.loop-t.auto, c.requires.few))

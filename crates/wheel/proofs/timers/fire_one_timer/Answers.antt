@@ -9,14 +9,14 @@ use Rattle.wheel.proofs.Names.{order-at, order-few}
 use Rattle.wheel.proofs.timers.fire_one_timer.Goals as goal
 
 pub loop-i-init : goal.loop-i-init
-loop-i-init c = starting-starts _ _ _ _ _ _ _ _ c.requires.room.sound
+loop-i-init c = starting-starts _ _ _ _ _ _ _ _ c.requires.sound
 
 pub fire_rule-h-requires : goal.fire_rule-h-requires
 fire_rule-h-requires c =
-    let f = order-few _ _ c.requires.holds.1 c.requires.holds.0.accepted in
+    let f = order-few _ _ c.args.env.now.ordered c.args.env.now.holds.accepted in
     record {
-      holds = (c.requires.holds.0, order-at _ _ c.requires.holds.1 _ c.loop-i-test.true);
-      room = room-here _ _ _ _ _ _ _ _ _ _ c.loop-i.invariant 64 (omega (arith, c.loop-i-test.true, f)) c.requires.room;
+      rule = order-at _ _ c.args.env.now.ordered _ c.loop-i-test.true;
+      room = room-here _ _ _ _ _ _ _ _ _ _ c.loop-i.invariant 64 (omega (arith, c.loop-i-test.true, f)) c.requires;
     }
 
 pub loop-i-preserved : goal.loop-i-preserved
@@ -24,5 +24,5 @@ loop-i-preserved c = starting-goes _ _ _ _ _ c.loop-i.invariant 0 _ c.loop-i-tes
 
 pub returns : goal.returns
 returns c =
-    let f = order-few _ _ c.requires.holds.1 c.requires.holds.0.accepted in
-    timer-rules (tick_env c.args.snapshot.now c.args.image.now) _ _ c.args.timer c.requires.holds.1 (starting-ends _ _ _ _ _ c.loop-i.invariant 64 c.loop-i-test.false (omega (arith, c.loop-i.auto, f)))
+    let f = order-few _ _ c.args.env.now.ordered c.args.env.now.holds.accepted in
+    timer-rules (tick_env c.args.env.now.snapshot.now c.args.env.now.image.now) _ _ c.args.timer c.args.env.now.ordered (starting-ends _ _ _ _ _ c.loop-i.invariant 64 c.loop-i-test.false (omega (arith, c.loop-i.auto, f)))

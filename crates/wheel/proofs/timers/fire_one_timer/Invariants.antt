@@ -9,4 +9,4 @@ use Rattle.wheel.proofs.timers.fire_one_timer.Given as goal
 
 abbrev pub invariant-loop-i : goal.invariant-loop-i
 invariant-loop-i l =
-    Starting 1 (tick_env l.snapshot l.image) by_timer (λ i. keep (on_timer l.image l.timer) (i ∷ [])) l.order (carried l.initial.v l.initial.h) l.initial.outcomes l.initial.effects l.i-index (carried l.v l.h) l.outcomes l.effects
+    Starting 1 (tick_env l.env.snapshot.now l.env.image.now) by_timer (λ i. keep (on_timer l.env.image.now l.timer) (i ∷ [])) l.env.order.now (carried l.initial.v l.initial.h) l.initial.outcomes l.initial.effects l.i-index (carried l.v l.h) l.outcomes l.effects

@@ -3,22 +3,17 @@ use mathlib.Core.List.{[], ◌∷◌}
 use Rattle.model.specs.Lists.{keep}
 use Rattle.model.specs.Wheel.{by_timer, activate_if_enabled, activate_each}
 use Rattle.activate.specs.Carried.{carried}
-use Rattle.activate.proofs.FlatRules.{image-accepted}
 use Rattle.wheel.specs.Tick.{tick_env, on_timer}
 use Rattle.wheel.proofs.Each.{fires-off, fires-on}
 use Rattle.wheel.proofs.Fires.{same-part, skips}
 use Rattle.wheel.proofs.timers.fire_rule.Goals as goal
 
-pub fires_on-requires : goal.fires_on-requires
-fires_on-requires c =
-    (image-accepted _ c.requires.holds.0.accepted, c.requires.holds.1)
-
 pub returns-then-not-fires_on : goal.returns-then-not-fires_on
 returns-then-not-fires_on c =
-    let e = tick_env c.args.snapshot.now c.args.image.now in
-    skips 1 (activate_each e by_timer (keep (on_timer c.args.image.now c.args.timer) (c.args.i ∷ []))) (carried c.args.v.now c.args.x) _ _ c.requires.room.sound (fires-off e c.args.image.now c.args.timer c.args.i _ c.fires_on.ensures c.if-not-fires_on.true-raw)
+    let e = tick_env c.args.env.now.snapshot.now c.args.env.now.image.now in
+    skips 1 (activate_each e by_timer (keep (on_timer c.args.env.now.image.now c.args.timer) (c.args.i ∷ []))) (carried c.args.v.now c.args.x) _ _ c.requires.room.sound (fires-off e c.args.env.now.image.now c.args.timer c.args.i _ c.fires_on.ensures c.if-not-fires_on.true-raw)
 
 pub returns : goal.returns
 returns c =
-    let e = tick_env c.args.snapshot.now c.args.image.now in
-    same-part 1 (activate_if_enabled e by_timer c.args.i) (activate_each e by_timer (keep (on_timer c.args.image.now c.args.timer) (c.args.i ∷ []))) (fires-on e c.args.image.now c.args.timer c.args.i _ c.fires_on.ensures c.if-not-fires_on.false-raw) c.activate_if_enabled.ensures
+    let e = tick_env c.args.env.now.snapshot.now c.args.env.now.image.now in
+    same-part 1 (activate_if_enabled e by_timer c.args.i) (activate_each e by_timer (keep (on_timer c.args.env.now.image.now c.args.timer) (c.args.i ∷ []))) (fires-on e c.args.env.now.image.now c.args.timer c.args.i _ c.fires_on.ensures c.if-not-fires_on.false-raw) c.activate_if_enabled.ensures

@@ -7,10 +7,10 @@ use Rattle.wheel.proofs.timers.fire_timers.Goals as goal
 pub fire_due_timers-requires : goal.fire_due_timers-requires
 fire_due_timers-requires c =
     record {
-      holds = (c.requires.holds.0, c.requires.holds.1, c.as_slice.ensures.fits);
-      room = timers-room c.args.snapshot.now c.args.image.now _ c.now_ms-time.ensures (carried c.args.v.now c.args.x) _ c.without_due.ensures 1024 c.requires.room;
+      few = c.as_slice.ensures.fits;
+      room = timers-room c.args.env.now.snapshot.now c.args.env.now.image.now _ c.now_ms-time.ensures (carried c.args.v.now c.args.x) _ c.without_due.ensures 1024 c.requires;
     }
 
 pub returns : goal.returns
 returns c =
-    timers-fire c.args.snapshot.now c.args.image.now _ c.now_ms-time.ensures (carried c.args.v.now c.args.x) _ c.without_due.ensures _ (c.as_slice.ensures.value ∙ c.due_timers-due.ensures) c.fire_due_timers.ensures
+    timers-fire c.args.env.now.snapshot.now c.args.env.now.image.now _ c.now_ms-time.ensures (carried c.args.v.now c.args.x) _ c.without_due.ensures _ (c.as_slice.ensures.value ∙ c.due_timers-due.ensures) c.fire_due_timers.ensures
