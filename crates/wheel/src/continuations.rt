@@ -35,7 +35,16 @@ fn resume_one(
             let part = rule_steps(env.store, i);
             let own = rule_own(env.store, i);
             resume(
-                env.snapshot, env.image, part, own, outcomes, effects, v, x, i, c,
+                env.snapshot,
+                env.image,
+                part,
+                own,
+                outcomes,
+                effects,
+                v,
+                x,
+                i,
+                c,
             )
         }
         None => x,
@@ -63,7 +72,8 @@ fn resume_all(
     h
 }
 
-// kept: `fire_every` has this shape and none of these calls; one function for both would take the four of them as closures over the same words.
+// kept: `fire_timers` and `fire_every` have this shape and none of these calls; one function for the three would take the four of them as closures
+// over the same words.
 pub fn fire_continuations(
     env: &Env,
     outcomes: &mut [u32],
@@ -78,12 +88,5 @@ pub fn fire_continuations(
     let time = world::now_ms(env.snapshot);
     let due = due_now(v, time);
     without_due(v, time);
-    resume_all(
-        env,
-        outcomes,
-        effects,
-        v,
-        x,
-        due.as_slice(),
-    )
+    resume_all(env, outcomes, effects, v, x, due.as_slice())
 }

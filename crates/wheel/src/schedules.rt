@@ -109,9 +109,7 @@ fn fire_due_wall_rules(
     let mut h = x;
     let mut missed = false;
     for i in env.order {
-        let turn = wall_turn(
-            env, outcomes, effects, v, h, *i, base, window, missed,
-        );
+        let turn = wall_turn(env, outcomes, effects, v, h, *i, base, window, missed);
         h = turn.handled;
         missed = turn.missed;
     }
@@ -157,9 +155,7 @@ fn fire_window(
         return x;
     }
     let base = (minute + WEEK_MINUTES - window) % WEEK_MINUTES;
-    fire_due_wall_rules(
-        env, outcomes, effects, v, x, base, window,
-    )
+    fire_due_wall_rules(env, outcomes, effects, v, x, base, window)
 }
 
 fn remember(v: &mut [u32], minute: u32)
@@ -190,9 +186,7 @@ fn fire_wall_at(
         return x;
     }
     let window = window_of(before as u64, to);
-    fire_window(
-        env, outcomes, effects, v, x, to, window,
-    )
+    fire_window(env, outcomes, effects, v, x, to, window)
 }
 
 // Without a wall clock the minute before is forgotten.

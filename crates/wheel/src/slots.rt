@@ -27,9 +27,7 @@ fn fire_slot(
     ensures { Fires 1 (activate_each (tick_env env.now.snapshot.now env.now.image.now) by_every (rules_of_slot env.now.image.now slot)) (carried v.old x) outcomes.old effects.old (carried v.new result) outcomes.new effects.new }
 {
     match rule_named(env.image, slot.rule) {
-        Some(i) => activate_if_enabled(
-            env, outcomes, effects, v, x, i, BY_EVERY,
-        ),
+        Some(i) => activate_if_enabled(env, outcomes, effects, v, x, i, BY_EVERY),
         None => x,
     }
 }
@@ -67,12 +65,5 @@ pub fn fire_every(
     let time = world::now_ms(env.snapshot);
     let due = due_slots(v, time);
     move_slots(v, time);
-    fire_slots(
-        env,
-        outcomes,
-        effects,
-        v,
-        x,
-        due.as_slice(),
-    )
+    fire_slots(env, outcomes, effects, v, x, due.as_slice())
 }

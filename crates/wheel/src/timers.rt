@@ -88,13 +88,12 @@ fn fire_due_timers(
 {
     let mut h = x;
     for t in due {
-        h = fire_one_timer(
-            env, outcomes, effects, v, h, t.name,
-        );
+        h = fire_one_timer(env, outcomes, effects, v, h, t.name);
     }
     h
 }
 
+// kept: see `fire_continuations`.
 pub fn fire_timers(
     env: &Env,
     outcomes: &mut [u32],
@@ -108,12 +107,5 @@ pub fn fire_timers(
     let time = world::now_ms(env.snapshot);
     let due = due_timers(v, time);
     without_due(v, time);
-    fire_due_timers(
-        env,
-        outcomes,
-        effects,
-        v,
-        x,
-        due.as_slice(),
-    )
+    fire_due_timers(env, outcomes, effects, v, x, due.as_slice())
 }
