@@ -1,2 +1,3 @@
 pub mod Programme
 pub mod Scanned
+pub mod Fields

@@ -14,12 +14,13 @@ ghost use Rattle.model.specs.Crontab.{crontab, field_fits, of_the_form, every_da
 ghost use Rattle.crontab.specs.Scanned.{form_refusal};
 
 use model::Refusal;
+use parts::Field;
 
 // Whether the five fields are patterns.
 fn fields_fit(line: &[u8]) -> bool
     ensures { result ≡ every 5 (field_fits line.now) }
 {
-    (0..5).all(|k| parts::fits(line, k))
+    Field::ALL.iter().all(|field| field.fits(line))
 }
 
 #[tactic(auto, unfolding(model::specs::Crontab::of_the_form))]
@@ -33,7 +34,7 @@ fn of_the_form(line: &[u8], sunday: u32) -> bool
 fn every_date(line: &[u8]) -> bool
     ensures { result ≡ every_date line.now }
 {
-    parts::is_free(line, 2) && parts::is_free(line, 3)
+    Field::Day.is_free(line) && Field::Month.is_free(line)
 }
 
 // Refusals 50 and 51.
@@ -57,8 +58,8 @@ pub fn read(line: &[u8], sunday: u32, triggers: &mut [u32]) -> Result<u32, Refus
 {
     lent_words::clear(triggers);
     check_form(line, sunday)?;
-    let hours = table::marks(line, 1, 24);
-    let minutes = table::marks(line, 0, 60);
+    let hours = table::marks(line, Field::Hour, 24);
+    let minutes = table::marks(line, Field::Minute, 60);
     let n = table::count(&hours, &minutes);
     if triggers.len() / 8 < n as usize {
         return Err(Refusal::TriggerStore);

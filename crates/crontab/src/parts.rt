@@ -1,64 +1,73 @@
 // The five fields of a line.
-ghost use Rattle.std.specs.Prelude.{◌≡◌, ◌<◌, get_or};
-ghost use Rattle.model.specs.Crontab.{field_fits, field_covers, field_free, lowest, highest};
-
 use crate::pattern::Bounds;
 use crate::{pattern, scan};
 
-const BOUNDS: [Bounds; 5] = [
-    Bounds {
-        lowest: 0,
-        highest: 59,
-    },
-    Bounds {
-        lowest: 0,
-        highest: 23,
-    },
-    Bounds {
-        lowest: 1,
-        highest: 31,
-    },
-    Bounds {
-        lowest: 1,
-        highest: 12,
-    },
-    Bounds {
-        lowest: 0,
-        highest: 6,
-    },
-];
-
-// The numbers that field k may have.
-fn bounds_of(k: usize) -> Bounds
-    requires { k < 5 }
-    ensures lowest { result.lowest ≡ get_or lowest k 0 }
-    ensures highest { result.highest ≡ get_or highest k 0 }
-{
-    BOUNDS[k]
+// In the order of a line.
+#[derive(Clone, Copy)]
+pub enum Field {
+    Minute,
+    Hour,
+    Day,
+    Month,
+    Weekday,
 }
 
-// Whether field k is a pattern.
-#[tactic(auto, unfolding(model::specs::Crontab::field_fits))]
-pub fn fits(line: &[u8], k: usize) -> bool
-    requires { k < 5 }
-    ensures { result ≡ field_fits line.now k }
-{
-    pattern::is_pattern(bounds_of(k), scan::field(line, k))
-}
+impl Field {
+    ghost use Rattle.std.specs.Prelude.{◌≡◌, get_or};
+    ghost use Rattle.model.specs.Crontab.{field, field_fits, field_covers, field_free, lowest, highest};
+    ghost use Rattle.crontab.specs.Fields.{number};
 
-// Whether the number v is one of field k's.
-#[tactic(auto, unfolding(model::specs::Crontab::field_covers))]
-pub fn covered(line: &[u8], k: usize, v: u32) -> bool
-    requires { k < 5 }
-    ensures { result ≡ field_covers line.now k v }
-{
-    pattern::covers(bounds_of(k), scan::field(line, k), v)
-}
+    pub const ALL: [Field; 5] = [
+        Field::Minute,
+        Field::Hour,
+        Field::Day,
+        Field::Month,
+        Field::Weekday,
+    ];
 
-// Whether field k is an asterisk.
-#[tactic(auto, unfolding(model::specs::Crontab::field_free))]
-pub fn is_free(line: &[u8], k: usize) -> bool
-    ensures { result ≡ field_free line.now k }
-{
-    pattern::is_asterisk(scan::field(line, k))
+    // The numbers that it may have.
+    fn bounds(self) -> Bounds
+        ensures lowest { result.lowest ≡ get_or lowest (number self) 0 }
+        ensures highest { result.highest ≡ get_or highest (number self) 0 }
+    {
+        let (lowest, highest) = match self {
+            Field::Minute => (0, 59),
+            Field::Hour => (0, 23),
+            Field::Day => (1, 31),
+            Field::Month => (1, 12),
+            Field::Weekday => (0, 6),
+        };
+        Bounds { lowest, highest }
+    }
+
+    // What the line has there.
+    fn text(self, line: &[u8]) -> &[u8]
+        ensures { result.now ≡ field (number self) line.now }
+    {
+        scan::field(line, self as usize)
+    }
+
+    // Whether it is a pattern.
+    #[tactic(auto, unfolding(model::specs::Crontab::field_fits))]
+    pub fn fits(self, line: &[u8]) -> bool
+        ensures { result ≡ field_fits line.now (number self) }
+    {
+        pattern::is_pattern(self.bounds(), self.text(line))
+    }
+
+    // Whether the number v is one of its.
+    #[tactic(auto, unfolding(model::specs::Crontab::field_covers))]
+    pub fn covers(self, line: &[u8], v: u32) -> bool
+        ensures { result ≡ field_covers line.now (number self) v }
+    {
+        pattern::covers(self.bounds(), self.text(line), v)
+    }
+
+    // Whether it is an asterisk.
+    #[tactic(auto, unfolding(model::specs::Crontab::field_free))]
+    pub fn is_free(self, line: &[u8]) -> bool
+        ensures { result ≡ field_free line.now (number self) }
+    {
+        pattern::is_asterisk(self.text(line))
+    }
 }

@@ -2,18 +2,19 @@
 ghost use Rattle.std.specs.Prelude.{◌≡◌, ◌+◌, ◌*◌, ◌≤◌, ◌<◌, length, [], ◌∷◌, ◌/◌, ◌%◌};
 ghost use Rattle.std.proofs.lemmas.List.Edits.{sets};
 ghost use Rattle.model.specs.Crontab.{field_covers, day_bit, days};
+ghost use Rattle.crontab.specs.Fields.{number};
 ghost use Rattle.crontab.specs.Scanned.{Marked, marked, marked_minutes, written};
 
-use crate::parts;
+use crate::parts::Field;
 
-// Which of the first n numbers field k of a line covers.
-pub fn marks(line: &[u8], k: usize, n: usize) -> [bool; 60]
-    requires { (k < 5) × (n ≤ 60) }
-    ensures { Marked (field_covers line.now k) n result }
+// Which of the first n numbers a field of a line covers.
+pub fn marks(line: &[u8], field: Field, n: usize) -> [bool; 60]
+    requires { n ≤ 60 }
+    ensures { Marked (field_covers line.now (number field)) n result }
 {
     let mut a = [false; 60];
     for v in 0..n {
-        a[v] = parts::covered(line, k, v as u32);
+        a[v] = field.covers(line, v as u32);
     }
     a
 }
@@ -39,7 +40,7 @@ fn day_bit(line: &[u8], sunday: u32, d: u32) -> u32
     requires { (sunday ≤ 6) × (d < 7) }
     ensures { (result ≡ day_bit line.now sunday d) × (result ≤ 64) }
 {
-    if !parts::covered(line, 4, d) {
+    if !Field::Weekday.covers(line, d) {
         return 0;
     }
     1 << ((sunday + d) % 7)

@@ -122,14 +122,18 @@ module _ (ws : List ℕ) where
 
 -- AGAIN
 
-module _ (ws : List ℕ) (k : ℕ) (x : Effect) (h : x ≡ effect_at ws k) (r : Bool) (e : r ≡ is_level x) where
-  pub never-again : r ≡ false → r ≡ set_again (effect_at ws k) (effects_from (suc k) ws)
+module _ (x : Effect) (xs : List Effect) (r : Bool) (e : r ≡ is_level x) where
+  pub never-again : r ≡ false → r ≡ set_again x xs
   unfolding set_again
-  never-again q = rw (← h, ← e, q)
+  never-again q = rw (← e, q)
 
-  pub level-again : r ≡ true → (s : Bool) → s ≡ is_set zero x.a (effects_from (k + 1) ws) → s ≡ set_again (effect_at ws k) (effects_from (suc k) ws)
+  pub level-again : r ≡ true → (s : Bool) → s ≡ is_set zero x.a xs → s ≡ set_again x xs
   unfolding set_again
-  level-again q s p = rw (← h, ← e, q) (p ∙ rw (add-one k))
+  level-again q s p = rw (← e, q) p
+
+-- of record k, read before
+pub again-here : (ws : List ℕ) (k : ℕ) (x : Effect) → x ≡ effect_at ws k → (r : Bool) → r ≡ set_again x (effects_from (k + 1) ws) → r ≡ set_again (effect_at ws k) (effects_from (suc k) ws)
+again-here ws k x h r e = rw (← h) (rw (add-one k) at e)
 
 -- THE ANSWER
 

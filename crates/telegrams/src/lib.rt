@@ -74,13 +74,12 @@ fn is_set_from(effects: &[u32], lamp: u32, k: usize) -> bool
     false
 }
 
-// Whether record k sets a lamp that is set again in its stretch.
-fn is_superseded(effects: &[u32], k: usize) -> bool
-    requires { k < length effects.now / 5 }
-    ensures { result ≡ set_again (effect_at effects.now k) (effects_from (suc k) effects.now) }
+// Whether x sets a lamp that is set again in its stretch, by the records from k on.
+fn is_superseded(x: Effect, effects: &[u32], k: usize) -> bool
+    requires { k ≤ length effects.now / 5 }
+    ensures { result ≡ set_again x (effects_from k effects.now) }
 {
-    let x = effect_at(effects, k);
-    is_level(x) && is_set_from(effects, x.a, k + 1)
+    is_level(x) && is_set_from(effects, x.a, k)
 }
 
 // Record k goes to place n of the list, unless it is superseded. The next place.
@@ -88,10 +87,11 @@ fn put_if_kept(list: &mut [u32], n: usize, effects: &[u32], k: usize) -> usize
     requires { (n ≤ k) × (k < length effects.now / 5) }
     ensures { (result ≡ n + length (kept_head (effect_at effects.now k) (effects_from (suc k) effects.now))) × (list.new ≡ put_effects list.old n (kept_head (effect_at effects.now k) (effects_from (suc k) effects.now))) }
 {
-    if is_superseded(effects, k) {
+    let x = effect_at(effects, k);
+    if is_superseded(x, effects, k + 1) {
         return n;
     }
-    lent_words::write_effect(list, n, effect_at(effects, k));
+    lent_words::write_effect(list, n, x);
     n + 1
 }
 

@@ -6,4 +6,4 @@ use Rattle.crontab.proofs.table.day_bit.Goals as goal
 pub returns : goal.returns
 returns c =
     let s = c.args in
-    bit-on s.line.now s.sunday s.d _ c.covered.ensures (search rules)
+    bit-on s.line.now s.sunday s.d _ c.covers.ensures (search rules)
