@@ -1,7 +1,6 @@
 // Where the words of a snapshot stand: 14 words before the rows, then the rows of five tables.
 ghost use Rattle.std.specs.Prelude.{◌≡◌, ◌+◌, ◌*◌, ◌<◌, ◌≤◌, ◌^◌};
 ghost use Rattle.model.specs.Snapshot.{row_width, key_of, count_of, start_of, cell_at};
-ghost use Rattle.world.specs.Limits.{Counted};
 ghost use Rattle.world.specs.Tables.{number};
 
 #[derive(Clone, Copy)]
@@ -69,14 +68,6 @@ impl Table {
             Table::Inputs => inputs,
             Table::HclTargets => hcl,
         }
-    }
-
-    // The same as a word, where the counts are in range.
-    pub fn start_word(self, s: &[u32]) -> u32
-        requires { Counted s.now }
-        ensures { result ≡ start_of s.now (number self) }
-    {
-        self.start(s) as u32
     }
 
     // Word j of row i; 0 past the end of the snapshot.

@@ -1,0 +1,6 @@
+-- `world::check::table_distinct` meets its contract. Assumes nothing.
+use Rattle.world.proofs.Counts.{start_word}
+use Rattle.world.proofs.check.table_distinct.Goals as goal
+
+pub overflow_cast-start : goal.overflow_cast-start
+overflow_cast-start c = record { fits = rw c.start.ensures.0 (start_word c.args.s.now c.requires c.args.t) }
