@@ -8,6 +8,7 @@ ghost use Rattle.model.specs.Calls.{kept, rest_with, rest_without};
 ghost use Rattle.state.specs.Meaning.{AllNumbered, Sound, Means, meaning, base, state_words};
 ghost use Rattle.engine.specs.Sets.{cleared, rule_of, rules_of};
 
+use every::kept::Slots;
 use image::layout::{Table, size_of};
 use rows::row::Row;
 use state::place::MAX_RULES;
@@ -71,7 +72,8 @@ pub fn with_set(store: &Checked, image: &[u32], time: u64, v: &mut [u32])
     let words = store.words();
     store.begin(v);
     let n = u32::at(words, table::SLOTS) as usize;
-    every::rebuild_every(image, words, table::SLOTS + 1, n, time, v);
+    let old = Slots::new(words, table::SLOTS + 1, n);
+    every::rebuild_every(image, &old, time, v);
     state::pending::drop_all(v);
     put_rules(store, image, v);
 }

@@ -12,6 +12,7 @@ use eval::conditions::condition_at;
 use eval::values::value_at;
 use image::layout::{Table, size_of};
 use state::place::WORDS;
+use store::checks::Rows;
 use store::table::VARIABLES;
 
 // Whether the words of a store fit its layout, and its texts are numbers of one word.
@@ -21,8 +22,12 @@ fn readable(store: &[u32]) -> bool
     if !store::shaped(store) {
         return false;
     }
-    let count = fields::word(store, VARIABLES) as usize;
-    store::checks::texts_short(store, VARIABLES + 1, count)
+    let variables = Rows {
+        words: store,
+        k: VARIABLES as u32 + 1,
+        n: fields::word(store, VARIABLES),
+    };
+    variables.texts_short()
 }
 
 // Whether nothing that is given is refused.

@@ -8,18 +8,19 @@ use Rattle.engine.proofs.WordLaws.{saying, old-slots}
 use Rattle.engine.proofs.SetLaws.{loadable, set-taken}
 use Rattle.engine.proofs.sets.with_set.Goals as goal
 
+pub new-old-requires : goal.new-old-requires
+new-old-requires c =
+    let k = saying _ _ c.words-words.ensures in
+    (omega arith, omega (arith, c.at-n.ensures, (counted _ k.reads.readable).slots))
+
 pub rebuild_every-requires : goal.rebuild_every-requires
 rebuild_every-requires c =
     let l = loadable c.args.image.now c.requires.0 in
-    let k = saying _ _ c.words-words.ensures in
-    record {
-      accepted = (l.accepted, l.few_enough);
-      k_bound = (omega arith, omega (arith, c.at-n.ensures, (counted _ k.reads.readable).slots), c.begin.ensures.sound);
-    }
+    record { accepted = (l.accepted, l.few_enough); sound = c.begin.ensures.sound }
 
 pub returns : goal.returns
 returns c =
     let s = c.args.store.now in
     let v = sym c.begin.ensures.says in
-    set-taken c.args.image.now c.args.time s _ _ _ _ _ (itself c.begin.ensures) v (old-slots _ s _ c.words-words.ensures c.at-n.ensures ∙ ap (λ (m : Volatile). m.rest.every) v)
+    set-taken c.args.image.now c.args.time s _ _ _ _ _ (itself c.begin.ensures) v (c.new-old.ensures ∙ old-slots _ s _ c.words-words.ensures c.at-n.ensures ∙ ap (λ (m : Volatile). m.rest.every) v)
     c.rebuild_every.ensures c.drop_all.ensures.0 c.put_rules.ensures

@@ -1,4 +1,4 @@
--- `every::join_all` meets its contract: the slots so far, and those of the rules that are left. Assumes nothing.
+-- `every::Loadable::join_all` meets its contract: the slots so far, and those of the rules that are left. Assumes nothing.
 use Rattle.std.proofs.Common.{arith, ◌<◌}
 use Rattle.model.specs.Image.{size_of}
 use Rattle.model.specs.Rows.{rules}
@@ -8,35 +8,35 @@ use Rattle.image.proofs.Accepted.{rules-few}
 use Rattle.image.proofs.Names.{name-order-length, order_same, order-at}
 use Rattle.image.proofs.Slots.{every-slots-few}
 use Rattle.every.proofs.Slots.{starts, room, joins-on, joined-all, rule-left, no-rule-left}
-use Rattle.every.proofs.join_all.Goals as goal
+use Rattle.every.proofs.Loadable.join_all.Goals as goal
 
 pub name_order-order-requires-clause-rules_bound : goal.name_order-order-requires-clause-rules_bound
-name_order-order-requires-clause-rules_bound c = rules-few _ c.requires.accepted.1
+name_order-order-requires-clause-rules_bound c = rules-few _ c.args.self.now.few
 
 pub loop-p-init : goal.loop-p-init
 unfolding rebuild_every
-loop-p-init c = starts _ _ c.requires.empty
+loop-p-init c = starts _ _ c.requires
 
 pub bounds-order-p : goal.bounds-order-p
-bounds-order-p c = omega (arith, rules-few _ c.requires.accepted.1)
+bounds-order-p c = omega (arith, rules-few _ c.args.self.now.few)
 
-pub join_rule-requires-clause-accepted : goal.join_rule-requires-clause-accepted
-join_rule-requires-clause-accepted c =
-    let img = c.args.image.now in
-    (c.requires.accepted.0, order-at img c.name_order-order.result c.name_order-order.ensures c.loop-p.p (omega arith))
+pub join_rule-requires-clause-in_image : goal.join_rule-requires-clause-in_image
+join_rule-requires-clause-in_image c =
+    let img = c.args.self.now.image.now in
+    order-at img c.name_order-order.result c.name_order-order.ensures c.loop-p.p (omega arith)
 
 pub join_rule-requires-clause-has_room : goal.join_rule-requires-clause-has_room
 join_rule-requires-clause-has_room c =
     let l = c.loop-p in
-    let img = c.args.image.now in
+    let img = c.args.self.now.image.now in
     let order = c.name_order-order in
     let h : l.p < size_of img rules = omega arith in
-    room _ _ _ _ _ l.invariant (rule-left _ (name_order img) l.p _ (rw (name-order-length img) h) (order_same img order.result order.ensures l.p h)) (every-slots-few img _ _ c.requires.accepted.1)
+    room _ _ _ _ _ l.invariant (rule-left _ (name_order img) l.p _ (rw (name-order-length img) h) (order_same img order.result order.ensures l.p h)) (every-slots-few img _ _ c.args.self.now.few)
 
 pub loop-p-preserved : goal.loop-p-preserved
 loop-p-preserved c =
     let l = c.loop-p in
-    let img = c.args.image.now in
+    let img = c.args.self.now.image.now in
     let order = c.name_order-order in
     let h : l.p < size_of img rules = omega arith in
     joins-on _ _ _ _ _ l.invariant (rule-left _ (name_order img) l.p _ (rw (name-order-length img) h) (order_same img order.result order.ensures l.p h)) _ c.join_rule.ensures
@@ -44,5 +44,5 @@ loop-p-preserved c =
 pub returns : goal.returns
 returns c =
     let l = c.loop-p in
-    let img = c.args.image.now in
+    let img = c.args.self.now.image.now in
     joined-all _ _ _ l.invariant (no-rule-left _ (name_order img) l.p (omega (arith, name-order-length img)))

@@ -1,10 +1,10 @@
--- `every::join_all` meets its contract: the slots so far, and those of the rules that are left. Assumes nothing.
+-- `every::Loadable::join_all` meets its contract: the slots so far, and those of the rules that are left. Assumes nothing.
 use Rattle.std.proofs.Common.{drop, map}
 use Rattle.model.specs.Lists.{flatten}
 use Rattle.model.specs.Rules.{name_order}
 use Rattle.model.specs.Slots.{rebuild_every}
 use Rattle.every.proofs.Slots.{rule_slots, Partial}
-use Rattle.every.proofs.join_all.Given as goal
+use Rattle.every.proofs.Loadable.join_all.Given as goal
 
 abbrev pub invariant-loop-p : goal.invariant-loop-p
-invariant-loop-p l = Partial l.t (flatten (map (rule_slots l.image l.old l.time) (drop l.p (name_order l.image)))) (rebuild_every l.image l.old l.time)
+invariant-loop-p l = Partial l.t (flatten (map (rule_slots l.self.image.now l.old l.time) (drop l.p (name_order l.self.image.now)))) (rebuild_every l.self.image.now l.old l.time)

@@ -1,12 +1,12 @@
--- `every::join_rule` meets its contract: the slots so far, and those of the triggers that are left. Assumes nothing.
+-- `every::Loadable::join_rule` meets its contract: the slots so far, and those of the triggers that are left. Assumes nothing.
 use Rattle.std.proofs.Common.{◌≤◌, ◌++◌, length, drop}
 use Rattle.model.specs.Rules.{triggers_of}
 use Rattle.model.specs.Slots.{slots_from}
 use Rattle.every.proofs.Slots.{get, Partial}
-use Rattle.every.proofs.join_rule.Given as goal
+use Rattle.every.proofs.Loadable.join_rule.Given as goal
 
 abbrev pub invariant-loop-p : goal.invariant-loop-p
 invariant-loop-p l =
-    let ts = triggers_of l.image l.i in
+    let ts = triggers_of l.self.image.now l.i in
     let whole = get l.initial.t ++ slots_from l.old l.time l.rule 0 ts in
     (length whole ≤ 64) × Partial l.t (slots_from l.old l.time l.rule l.p (drop l.p ts)) whole
