@@ -1,50 +1,48 @@
 -- The next deadline of a store that reads. Assumes nothing.
 use mathlib.Core.Path.{◌≡◌, refl, sym, ap, ◌∙◌}
-use mathlib.Core.Bool.{Bool, true, false}
 use mathlib.Core.List.{List, []}
-use Rattle.std.specs.Prelude.{Option, None, Some, Ok}
+use Rattle.std.specs.Prelude.{⊤, Option, None, Some, Ok, MatchOption, option_map}
+use Rattle.std.specs.Borrow.{Bor}
+use Rattle.std.proofs.lemmas.Option.{none-some, same_Some}
 use Prim.Native.Nat.{ℕ}
-use Rattle.model.specs.World.{is_one}
-use Rattle.model.specs.State.{Store}
+use Rattle.model.specs.Load.{image_refusal}
+use Rattle.model.specs.State.{RuleSet, Store}
 use Rattle.model.specs.Steps.{FlatStep}
-use Rattle.model.specs.Store.{read, write}
+use Rattle.model.specs.Store.{write}
 use Rattle.model.specs.Wheel.{next_deadline}
 use Rattle.model.specs.Calls.{deadline, due, call}
 use Rattle.model.specs.Answers as answers
 use Rattle.model.specs.OnWords.{call_on}
 use Rattle.state.specs.Meaning.{AllNumbered}
-use Rattle.store.specs.Set.{loaded_in}
-use Rattle.store.specs.Volatile.{Readable}
 use Rattle.wheel.specs.Deadline.{set_if, store_of, AcceptedIf}
 use Rattle.engine.specs.Seen.{seen}
 use Rattle.engine.specs.Answers.{due_values, shown}
 use Rattle.engine.proofs.Seeing.{Same, no-outcomes, no-effects, OnStore, call-seen}
 use Rattle.engine.proofs.WordLaws.{Said}
 use Rattle.engine.proofs.SetLaws.{loadable}
-use Rattle.engine.proofs.LoadedLaws.{no-set, loaded-image}
+use Rattle.engine.proofs.LoadedLaws.{none-given}
 
-module _ (w img : List ℕ) (s : Store) (e : read w ≡ Some s) (i : Readable w → img ≡ (loaded_in w).image) where
-  pub accepted-if : (b : Bool) → b ≡ is_one (loaded_in w).loaded → AcceptedIf b img
-  accepted-if false q = tt
-  accepted-if true q = (loadable img (loaded-image w img s e i (sym q)).passes).accepted
+pub accepted-if : (o : Option (Bor (List ℕ))) → MatchOption o ⊤ (λ img. image_refusal img.now ≡ 0) → AcceptedIf o
+accepted-if None a = tt
+accepted-if (Some img) a = (loadable img.now a).accepted
 
-  -- the loaded set, by the words of the image
-  pub record SetIs (b : Bool) : Type 0 where
-    pub flat : List (List FlatStep)
-    pub is : set_if b img flat ≡ s.loaded
+-- the loaded set, by the words of its image
+record SetIs (o : Option (Bor (List ℕ))) (set : Option RuleSet) : Type 0 where
+  flat : List (List FlatStep)
+  is : set_if o flat ≡ set
 
-  pub set_is : (b : Bool) → b ≡ is_one (loaded_in w).loaded → SetIs b
-  set_is false q = record { flat = []; is = sym (no-set w s e (sym q)) }
-  set_is true q =
-      let l = loaded-image w img s e i (sym q) in
-      record { flat = l.set.flat; is = ap (λ (x : List ℕ). Some (record { image = x; flat = l.set.flat })) (sym l.image) ∙ sym l.is }
+set_is : (o : Option (Bor (List ℕ))) (l : Option RuleSet) → option_map (λ (img : Bor (List ℕ)). img.now) o ≡ option_map (λ (set : RuleSet). set.image) l → SetIs o l
+set_is None l h = record { flat = []; is = sym (none-given l h) }
+set_is (Some img) None h = absurd (none-some img.now (sym h))
+set_is (Some img) (Some set) h = record { flat = set.flat; is = ap (λ (x : List ℕ). Some (record { image = x; flat = set.flat })) (same_Some img.now set.image h) }
 
-  pub deadline-is : (b : Bool) (v : List ℕ) (last : ℕ) (t : Option ℕ) → b ≡ is_one (loaded_in w).loaded → last ≡ s.now → AllNumbered v s.vol
-      → ((flat : List (List FlatStep)) → t ≡ next_deadline (store_of img b flat v last)) → t ≡ next_deadline s
-  deadline-is b v last t q l a h =
-      let k = set_is b q in
-      let r : store_of img b k.flat v last ≡ s = λ j. record { now = l j; loaded = k.is j; vol = a.says j } in
-      h k.flat ∙ ap next_deadline r
+pub deadline-is : (s : Store) (o : Option (Bor (List ℕ))) (v : List ℕ) (last : ℕ) (t : Option ℕ)
+    → option_map (λ (img : Bor (List ℕ)). img.now) o ≡ option_map (λ (set : RuleSet). set.image) s.loaded → last ≡ s.now → AllNumbered v s.vol
+    → ((flat : List (List FlatStep)) → t ≡ next_deadline (store_of o flat v last)) → t ≡ next_deadline s
+deadline-is s o v last t i l a h =
+    let k = set_is o s.loaded i in
+    let r : store_of o k.flat v last ≡ s = λ j. record { now = l j; loaded = k.is j; vol = a.says j } in
+    h k.flat ∙ ap next_deadline r
 
 same-due : (t : Option ℕ) → Same due_values (Ok t) (due t)
 unfolding answers.number_of answers.values_of

@@ -1,6 +1,5 @@
 -- The loaded set of a store that reads, as the code finds it: by the loaded word and the words of the image. Assumes nothing.
 use mathlib.Core.Path.{◌≡◌, refl, sym, ap, ◌∙◌, subst}
-use mathlib.Core.Bool.{true, false, false≢true}
 use mathlib.Core.List.{List}
 use Rattle.std.specs.Prelude.{Option, None, Some}
 use Rattle.std.specs.Prelude.{option_map}
@@ -9,11 +8,9 @@ use Prim.Native.Nat.{ℕ, ◌<◌}
 use native.Mathlib.Omega.{arith}
 use lib.ListN.{length, get_or, take, get_or-eq_default}
 use lib.Seq.{get_or-take}
-use Rattle.model.specs.Lists.{present}
 use Rattle.model.specs.Image.{size_of}
 use Rattle.model.specs.Rows.{rules}
 use Rattle.model.specs.Rules.{name_of, rule_named}
-use Rattle.model.specs.World.{is_one}
 use Rattle.model.specs.Flat.{flatten_rules, set_of}
 use Rattle.model.specs.Load.{image_refusal}
 use Rattle.model.specs.Codec.{word, wide, maybe}
@@ -28,17 +25,9 @@ use Rattle.store.specs.Places.{activations_place, positions_place}
 use Rattle.store.specs.Volatile.{Readable, changing_in}
 use Rattle.store.proofs.Parts.{activations-at, positions-at, table-long}
 use Rattle.store.proofs.Stored.{from-read, volatile-read}
-use Rattle.store.proofs.LoadedSet.{loaded-read, image-read, accepted-read, form-read, kept_read}
+use Rattle.store.proofs.LoadedSet.{image-read, accepted-read, form-read, kept_read}
 use Rattle.store.proofs.RecordRules.{found_none, found_at}
 use Rattle.engine.specs.Sets.{activation_of, position_of}
-
-module _ (w : List ℕ) (s : Store) (e : read w ≡ Some s) where
-  absent : (o : Option RuleSet) → present o ≡ false → o ≡ None
-  absent None p = refl
-  absent (Some set) p = absurd (false≢true (sym p))
-
-  pub no-set : is_one (loaded_in w).loaded ≡ false → s.loaded ≡ None
-  no-set p = absent s.loaded (sym (loaded-read w s (from-read w s e)) ∙ p)
 
 -- the set, by the words of its image
 pub record LoadedImage (w img : List ℕ) (s : Store) : Type 0 where
@@ -79,13 +68,6 @@ module _ (w img : List ℕ) (s : Store) (e : read w ≡ Some s) (i : Readable w 
   image-of set l =
       let r = from-read w s e in
       loaded-by w img s e set l (sym (i r.readable ∙ image-read w s r set l))
-
-  pub loaded-image : is_one (loaded_in w).loaded ≡ true → LoadedImage w img s
-  loaded-image p = go s.loaded refl (sym (loaded-read w s (from-read w s e)) ∙ p)
-    where
-      go : (o : Option RuleSet) → s.loaded ≡ o → present o ≡ true → LoadedImage w img s
-      go None l p = absurd (false≢true p)
-      go (Some set) l p = image-of set l
 
 module _ (w img : List ℕ) (s : Store) (l : LoadedImage w img s) where
   pub count-loaded : rule_count s.loaded ≡ size_of img rules

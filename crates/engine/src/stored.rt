@@ -6,18 +6,15 @@ ghost use Rattle.model.specs.Wheel.{next_deadline};
 use rows::row::Row;
 use state::place::WORDS;
 use store::checked::Checked;
-use store::set::{image_in, is_loaded};
 use store::table;
 
 // The next deadline.
 pub fn next_deadline(store: &Checked) -> Option<u64>
     ensures { result ≡ next_deadline store.now }
 {
-    let words = store.words();
     let mut v = [0u32; WORDS];
     store.begin(&mut v);
-    let loaded = is_loaded(words);
-    wheel::deadline::next_deadline(image_in(words), loaded, &v, store.last_at())
+    wheel::deadline::next_deadline(store.image(), &v, store.last_at())
 }
 
 // The 12 counters and the four gauges.

@@ -1,6 +1,7 @@
 -- The next deadline.
-use Rattle.std.specs.Prelude.{ℕ, ◌≡◌, Bool, true, false, List, map}
+use Rattle.std.specs.Prelude.{ℕ, ◌≡◌, List, map}
 use Rattle.std.specs.Prelude.{Option, None, Some}
+use Rattle.std.specs.Borrow.{Bor}
 use Rattle.model.specs.State.{RuleSet, Store}
 use Rattle.model.specs.Steps.{FlatStep}
 use Rattle.model.specs.Wheel.{least, wall_poll}
@@ -12,18 +13,18 @@ use Rattle.state.specs.Meaning.{meaning}
 abbrev pub row_times : ℕ → ℕ → List ℕ → List ℕ
 row_times width at p = map (wide_of at) (rows_in width p)
 
--- a store of these parts
-abbrev pub set_if : Bool → List ℕ → List (List FlatStep) → Option RuleSet
-set_if false image flat = None
-set_if true image flat = Some (record { image = image; flat = flat })
+-- a store of these parts; a set is loaded where there is an image
+abbrev pub set_if : Option (Bor (List ℕ)) → List (List FlatStep) → Option RuleSet
+set_if None flat = None
+set_if (Some image) flat = Some (record { image = image.now; flat = flat })
 
-abbrev pub store_of : List ℕ → Bool → List (List FlatStep) → List ℕ → ℕ → Store
-store_of image loaded flat v last = record { now = last; loaded = set_if loaded image flat; vol = meaning v }
+abbrev pub store_of : Option (Bor (List ℕ)) → List (List FlatStep) → List ℕ → ℕ → Store
+store_of image flat v last = record { now = last; loaded = set_if image flat; vol = meaning v }
 
-abbrev pub AcceptedIf : Bool → List ℕ → Type 0
-AcceptedIf false image = Unit
-AcceptedIf true image = Accepted image
+abbrev pub AcceptedIf : Option (Bor (List ℕ)) → Type 0
+AcceptedIf None = Unit
+AcceptedIf (Some image) = Accepted image.now
 
-abbrev pub Poll : List ℕ → Bool → List ℕ → ℕ → Option ℕ → Type 0
-Poll image loaded v last r =
-    (flat : List (List FlatStep)) → let s = store_of image loaded flat v last in r ≡ least (wall_poll s s.loaded)
+abbrev pub Poll : Option (Bor (List ℕ)) → List ℕ → ℕ → Option ℕ → Type 0
+Poll image v last r =
+    (flat : List (List FlatStep)) → let s = store_of image flat v last in r ≡ least (wall_poll s s.loaded)

@@ -32,22 +32,22 @@ fn earliest_of(times: &[Option<u64>]) -> Option<u64>
 }
 
 // A wall schedule is looked at again a second later.
-fn wall_poll(image: &[u32], loaded: bool, v: &[u32], last: u64) -> Option<u64>
-    requires { AcceptedIf loaded image.now × Sound v.now }
-    ensures { Poll image.now loaded v.now last result }
+fn wall_poll(image: Option<&[u32]>, v: &[u32], last: u64) -> Option<u64>
+    requires { AcceptedIf image × Sound v.now }
+    ensures { Poll image.entry v.now last result }
 {
-    if loaded && has_wall_triggers(image, v) {
+    if has_wall_triggers(image?, v) {
         return Some(last.saturating_add(WALL_POLL_MS));
     }
     None
 }
 
 // When a store that was last called at `last` next has something to do. `image` is the loaded one, where there is one.
-pub fn next_deadline(image: &[u32], loaded: bool, v: &[u32], last: u64) -> Option<u64>
-    requires { AcceptedIf loaded image.now × Sound v.now }
-    ensures { (flat : List (List FlatStep)) → result ≡ next_deadline (store_of image.now loaded flat v.now last) }
+pub fn next_deadline(image: Option<&[u32]>, v: &[u32], last: u64) -> Option<u64>
+    requires { AcceptedIf image × Sound v.now }
+    ensures { (flat : List (List FlatStep)) → result ≡ next_deadline (store_of image.entry flat v.now last) }
 {
-    let poll = wall_poll(image, loaded, v, last);
+    let poll = wall_poll(image, v, last);
     let slot = earliest(&v[place::SLOTS..place::PENDING], SLOT_WORDS, slots::DUE);
     let timer = earliest(&v[place::TIMERS..place::SLOTS], TIMER_WORDS, timers::DUE);
     let record = earliest(&v[place::PENDING..place::WEEK], PENDING_WORDS, pending::DUE);

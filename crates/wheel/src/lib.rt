@@ -1,6 +1,9 @@
 // The tick and the next deadline: wheel.rs.
 #![tactic(auto)]
 
+ghost use Rattle.std.specs.Prelude.{◌<◌};
+ghost use Rattle.model.specs.Image.{size_of};
+ghost use Rattle.model.specs.Rows.{rules};
 ghost use Rattle.image.specs.Accepted.{Accepted};
 ghost use Rattle.wheel.specs.Tick.{Holds, Ordered};
 
@@ -17,7 +20,8 @@ pub mod wall;
 // What a tick is given: the words of the snapshot, of the image and of the store that has its flat steps, and the image's rules in the order of
 // their names.
 // kept: the outcomes, the effects and the words of the state stand beside it, one by one as crate `activate` takes them: it ends with what those
-// words are then, and a struct of them would be taken apart and made anew at each of its calls
+// words are then, and a struct of them would be taken apart and made anew at each of its calls. `Room n` is said of those words and of `x`
+// together, and its n is what the function may start: 1, 32, 64 or 1024
 #[derive(Clone, Copy)]
 pub struct Env<'a> {
     pub snapshot: &'a [u32],
@@ -28,4 +32,13 @@ pub struct Env<'a> {
     ghost accepted: { Accepted image.now },
     ghost holds: { Holds store.now image.now },
     ghost ordered: { Ordered image.now order.now },
+}
+
+// One of the rules, by its place in the image.
+#[derive(Clone, Copy)]
+pub struct Rule<'a, 'w> {
+    pub env: &'a Env<'w>,
+    pub i: u32,
+
+    ghost inside: { i < size_of env.now.image.now rules },
 }

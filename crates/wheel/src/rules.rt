@@ -1,33 +1,29 @@
 // A rule starts, with the part of the flat steps that the store has for it.
-ghost use Rattle.std.specs.Prelude.{◌<◌};
 ghost use Rattle.model.specs.Activate as model;
-ghost use Rattle.model.specs.Image.{size_of};
-ghost use Rattle.model.specs.Rows.{rules};
 ghost use Rattle.model.specs.Wheel.{activate_if_enabled};
 ghost use Rattle.activate.specs.Carried.{carried};
 ghost use Rattle.activate.specs.Handled.{Room};
 ghost use Rattle.wheel.specs.Tick.{Fires, tick_env};
 
-use crate::Env;
+use crate::Rule;
 use activate::{Handled, Mode, activate};
 use state::rules::is_enabled;
 use store::flat_part::{rule_own, rule_steps};
 
 pub fn activate_rule(
-    env: &Env,
+    rule: &Rule,
     outcomes: &mut [u32],
     effects: &mut [u32],
     v: &mut [u32],
     x: Handled,
-    i: u32,
     kind: u32,
 ) -> Handled
-    requires rule { i < size_of env.now.image.now rules }
-    requires room { Room 1 (carried v.old x) }
-    ensures { Fires 1 (model.activate (tick_env env.now.snapshot.now env.now.image.now) i kind model.Auto) (carried v.old x) outcomes.old effects.old (carried v.new result) outcomes.new effects.new }
+    requires { Room 1 (carried v.old x) }
+    ensures { Fires 1 (model.activate (tick_env rule.now.env.now.snapshot.now rule.now.env.now.image.now) rule.now.i kind model.Auto) (carried v.old x) outcomes.old effects.old (carried v.new result) outcomes.new effects.new }
 {
-    let part = rule_steps(env.store, i);
-    let own = rule_own(env.store, i);
+    let env = rule.env;
+    let part = rule_steps(env.store, rule.i);
+    let own = rule_own(env.store, rule.i);
     activate(
         env.snapshot,
         env.image,
@@ -37,7 +33,7 @@ pub fn activate_rule(
         effects,
         v,
         x,
-        i,
+        rule.i,
         kind,
         Mode::Auto,
     )
@@ -45,20 +41,18 @@ pub fn activate_rule(
 
 // Whether a rule is enabled is asked when its turn comes.
 pub fn activate_if_enabled(
-    env: &Env,
+    rule: &Rule,
     outcomes: &mut [u32],
     effects: &mut [u32],
     v: &mut [u32],
     x: Handled,
-    i: u32,
     kind: u32,
 ) -> Handled
-    requires rule { i < size_of env.now.image.now rules }
-    requires room { Room 1 (carried v.old x) }
-    ensures { Fires 1 (activate_if_enabled (tick_env env.now.snapshot.now env.now.image.now) kind i) (carried v.old x) outcomes.old effects.old (carried v.new result) outcomes.new effects.new }
+    requires { Room 1 (carried v.old x) }
+    ensures { Fires 1 (activate_if_enabled (tick_env rule.now.env.now.snapshot.now rule.now.env.now.image.now) kind rule.now.i) (carried v.old x) outcomes.old effects.old (carried v.new result) outcomes.new effects.new }
 {
-    if !is_enabled(v, i as usize) {
+    if !is_enabled(v, rule.i as usize) {
         return x;
     }
-    activate_rule(env, outcomes, effects, v, x, i, kind)
+    activate_rule(rule, outcomes, effects, v, x, kind)
 }

@@ -2,8 +2,6 @@
 // up to two hours. Document 01, "Tick"; document 02, request 5.
 ghost use Rattle.std.specs.Prelude.{◌≡◌, false, ◌<◌, ◌≤◌};
 ghost use Rattle.std.specs.Prelude.{Some};
-ghost use Rattle.model.specs.Image.{size_of};
-ghost use Rattle.model.specs.Rows.{rules};
 ghost use Rattle.model.specs.Rules.{name_order};
 ghost use Rattle.model.specs.Snapshot.{snapshot_refusal};
 ghost use Rattle.model.specs.Wheel.{start_wall, fire_due_wall_rules, window_of, fire_window, is_set_back, fire_wall_at, fire_wall_schedules};
@@ -14,10 +12,10 @@ ghost use Rattle.activate.specs.Handled.{Room};
 ghost use Rattle.wheel.specs.Tick.{Fires, tick_env, count_missed, remembering, without_wall};
 ghost use Rattle.wheel.specs.Turns.{Turns};
 
-use crate::Env;
 use crate::minutes::{WEEK_MINUTES, cyclic_dist, in_window, week_minute};
 use crate::rules::activate_rule;
 use crate::wall::{due_wall_kind, has_wall_triggers};
+use crate::{Env, Rule};
 use activate::Handled;
 use counters::Counter;
 use model::WallTime;
@@ -39,45 +37,42 @@ pub struct WallTurn {
 
 // A rule starts, where a trigger of it is due.
 fn start_wall(
-    env: &Env,
+    rule: &Rule,
     outcomes: &mut [u32],
     effects: &mut [u32],
     v: &mut [u32],
     x: Handled,
-    i: u32,
     kind: Option<u32>,
 ) -> Handled
-    requires rule { i < size_of env.now.image.now rules }
-    requires room { Room 1 (carried v.old x) }
-    ensures { Fires 1 (start_wall kind (tick_env env.now.snapshot.now env.now.image.now) i) (carried v.old x) outcomes.old effects.old (carried v.new result) outcomes.new effects.new }
+    requires { Room 1 (carried v.old x) }
+    ensures { Fires 1 (start_wall kind (tick_env rule.now.env.now.snapshot.now rule.now.env.now.image.now) rule.now.i) (carried v.old x) outcomes.old effects.old (carried v.new result) outcomes.new effects.new }
 {
     match kind {
-        Some(kind) => activate_rule(env, outcomes, effects, v, x, i, kind),
+        Some(kind) => activate_rule(rule, outcomes, effects, v, x, kind),
         None => x,
     }
 }
 
 fn wall_turn(
-    env: &Env,
+    rule: &Rule,
     outcomes: &mut [u32],
     effects: &mut [u32],
     v: &mut [u32],
     x: Handled,
-    i: u32,
     base: u64,
     window: u64,
     missed: bool,
 ) -> WallTurn
-    requires rule { i < size_of env.now.image.now rules }
-    requires room { Room 1 (carried v.old x) }
-    ensures { Turns (tick_env env.now.snapshot.now env.now.image.now) base window i missed (carried v.old x) outcomes.old effects.old v.new result outcomes.new effects.new }
+    requires { Room 1 (carried v.old x) }
+    ensures { Turns (tick_env rule.now.env.now.snapshot.now rule.now.env.now.image.now) base window rule.now.i missed (carried v.old x) outcomes.old effects.old v.new result outcomes.new effects.new }
 {
-    if !is_enabled(v, i as usize) {
+    if !is_enabled(v, rule.i as usize) {
         return WallTurn { handled: x, missed };
     }
-    let w = due_wall_kind(env, base, window, i, missed);
+    let env = rule.env;
+    let w = due_wall_kind(env.snapshot, env.image, base, window, rule.i, missed);
     let kind = w.kind;
-    let handled = start_wall(env, outcomes, effects, v, x, i, kind);
+    let handled = start_wall(rule, outcomes, effects, v, x, kind);
     WallTurn {
         handled,
         missed: w.unsynced,
@@ -109,7 +104,8 @@ fn fire_due_wall_rules(
     let mut h = x;
     let mut missed = false;
     for i in env.order {
-        let turn = wall_turn(env, outcomes, effects, v, h, *i, base, window, missed);
+        let rule = Rule { env, i: *i };
+        let turn = wall_turn(&rule, outcomes, effects, v, h, base, window, missed);
         h = turn.handled;
         missed = turn.missed;
     }

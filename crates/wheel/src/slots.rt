@@ -5,8 +5,8 @@ ghost use Rattle.activate.specs.Carried.{carried};
 ghost use Rattle.activate.specs.Handled.{Room};
 ghost use Rattle.wheel.specs.Tick.{Fires, tick_env, rules_of_slot, rules_of_slots};
 
-use crate::Env;
 use crate::rules::activate_if_enabled;
+use crate::{Env, Rule};
 use activate::Handled;
 use image::rule::rule_named;
 use model::EverySlot;
@@ -27,7 +27,10 @@ fn fire_slot(
     ensures { Fires 1 (activate_each (tick_env env.now.snapshot.now env.now.image.now) by_every (rules_of_slot env.now.image.now slot)) (carried v.old x) outcomes.old effects.old (carried v.new result) outcomes.new effects.new }
 {
     match rule_named(env.image, slot.rule) {
-        Some(i) => activate_if_enabled(env, outcomes, effects, v, x, i, BY_EVERY),
+        Some(i) => {
+            let rule = Rule { env, i };
+            activate_if_enabled(&rule, outcomes, effects, v, x, BY_EVERY)
+        }
         None => x,
     }
 }

@@ -1,16 +1,14 @@
 // The timers that are due: all of them leave, and then each starts the rules that have it as a trigger, in the order of their names.
-ghost use Rattle.std.specs.Prelude.{◌≡◌, [], ◌∷◌, ◌<◌, ◌≤◌, length};
-ghost use Rattle.model.specs.Image.{size_of};
+ghost use Rattle.std.specs.Prelude.{◌≡◌, [], ◌∷◌, ◌≤◌, length};
 ghost use Rattle.model.specs.Lists.{any, keep};
-ghost use Rattle.model.specs.Rows.{rules};
 ghost use Rattle.model.specs.Rules.{triggers_of};
 ghost use Rattle.model.specs.Wheel.{by_timer, fires_on, activate_each, rules_on_timer, fire_timers};
 ghost use Rattle.activate.specs.Carried.{carried};
 ghost use Rattle.activate.specs.Handled.{Room};
 ghost use Rattle.wheel.specs.Tick.{Fires, tick_env, on_timer, rules_of_timers};
 
-use crate::Env;
 use crate::rules::activate_if_enabled;
+use crate::{Env, Rule};
 use activate::Handled;
 use image::rule::{trigger_at, trigger_count};
 use model::{NamedTimer, Trigger};
@@ -28,32 +26,31 @@ fn is_timer(trigger: Trigger, timer: u32) -> bool
     }
 }
 
-// A trigger of rule i is this timer.
-fn fires_on(env: &Env, i: u32, timer: u32) -> bool
-    requires { i < size_of env.now.image.now rules }
-    ensures { result ≡ any (fires_on timer) (triggers_of env.now.image.now i) }
+// A trigger of the rule is this timer.
+fn fires_on(rule: &Rule, timer: u32) -> bool
+    ensures { result ≡ any (fires_on timer) (triggers_of rule.now.env.now.image.now rule.now.i) }
 {
-    (0..trigger_count(env.image, i)).any(|k| is_timer(trigger_at(env.image, i, k), timer))
+    let image = rule.env.image;
+    let i = rule.i;
+    (0..trigger_count(image, i)).any(|k| is_timer(trigger_at(image, i, k), timer))
 }
 
-// Rule i, where it has the timer as a trigger.
+// The rule, where it has the timer as a trigger.
 fn fire_rule(
-    env: &Env,
+    rule: &Rule,
     outcomes: &mut [u32],
     effects: &mut [u32],
     v: &mut [u32],
     x: Handled,
-    i: u32,
     timer: u32,
 ) -> Handled
-    requires rule { i < size_of env.now.image.now rules }
-    requires room { Room 1 (carried v.old x) }
-    ensures { Fires 1 (activate_each (tick_env env.now.snapshot.now env.now.image.now) by_timer (keep (on_timer env.now.image.now timer) (i ∷ []))) (carried v.old x) outcomes.old effects.old (carried v.new result) outcomes.new effects.new }
+    requires { Room 1 (carried v.old x) }
+    ensures { Fires 1 (activate_each (tick_env rule.now.env.now.snapshot.now rule.now.env.now.image.now) by_timer (keep (on_timer rule.now.env.now.image.now timer) (rule.now.i ∷ []))) (carried v.old x) outcomes.old effects.old (carried v.new result) outcomes.new effects.new }
 {
-    if !fires_on(env, i, timer) {
+    if !fires_on(rule, timer) {
         return x;
     }
-    activate_if_enabled(env, outcomes, effects, v, x, i, BY_TIMER)
+    activate_if_enabled(rule, outcomes, effects, v, x, BY_TIMER)
 }
 
 fn fire_one_timer(
@@ -69,7 +66,8 @@ fn fire_one_timer(
 {
     let mut h = x;
     for i in env.order {
-        h = fire_rule(env, outcomes, effects, v, h, *i, timer);
+        let rule = Rule { env, i: *i };
+        h = fire_rule(&rule, outcomes, effects, v, h, timer);
     }
     h
 }

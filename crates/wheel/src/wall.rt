@@ -1,7 +1,6 @@
 // Wall schedules: which trigger of a rule is due, and whether a rule has one.
 ghost use Rattle.std.specs.Prelude.{◌≡◌, [], ◌∷◌, ◌<◌};
 ghost use Rattle.model.specs.Image.{size_of};
-ghost use Rattle.model.specs.Lists.{any};
 ghost use Rattle.model.specs.Rows.{rules};
 ghost use Rattle.model.specs.Rules.{triggers_of};
 ghost use Rattle.model.specs.Wheel.{is_wall_trigger, has_wall_triggers};
@@ -10,7 +9,6 @@ ghost use Rattle.image.specs.Accepted.{Accepted};
 ghost use Rattle.state.specs.Meaning.{Sound, meaning};
 ghost use Rattle.wheel.specs.Wall.{kind_if, Kind, KindAnywhere, enabled_wall};
 
-use crate::Env;
 use crate::minutes::minute_due;
 use image::layout::{Table, size_of};
 use image::rule::{trigger_at, trigger_count};
@@ -89,14 +87,21 @@ fn trigger_kind(
 }
 
 // What the triggers of rule i give.
-pub fn due_wall_kind(env: &Env, base: u64, window: u64, i: u32, missed: bool) -> WallKind
-    requires { i < size_of env.now.image.now rules }
-    ensures { Kind env.now.snapshot.now base window missed (triggers_of env.now.image.now i) result }
+pub fn due_wall_kind(
+    snapshot: &[u32],
+    image: &[u32],
+    base: u64,
+    window: u64,
+    i: u32,
+    missed: bool,
+) -> WallKind
+    requires { Accepted image.now × (i < size_of image.now rules) }
+    ensures { Kind snapshot.now base window missed (triggers_of image.now i) result }
 {
     let mut unsynced = missed;
-    for k in 0..trigger_count(env.image, i) {
-        let trigger = trigger_at(env.image, i, k);
-        let w = trigger_kind(env.snapshot, base, window, trigger, unsynced);
+    for k in 0..trigger_count(image, i) {
+        let trigger = trigger_at(image, i, k);
+        let w = trigger_kind(snapshot, base, window, trigger, unsynced);
         if w.kind.is_some() {
             return w;
         }
@@ -111,20 +116,14 @@ fn is_wall_trigger(trigger: Trigger) -> bool
     matches!(trigger, Trigger::AtTime { .. } | Trigger::AtSolar { .. })
 }
 
-// Rule i has a wall trigger.
-fn has_wall_trigger(image: &[u32], i: u32) -> bool
-    requires { Accepted image.now × (i < size_of image.now rules) }
-    ensures { result ≡ any is_wall_trigger (triggers_of image.now i) }
-{
-    (0..trigger_count(image, i)).any(|k| is_wall_trigger(trigger_at(image, i, k)))
-}
-
-// Rule i is enabled and has one.
+// Rule i is enabled and has a wall trigger.
+// kept: this, `has_wall_triggers` and `due_wall_kind` ask themselves that the image is accepted: the other two are public and take any such image.
 fn enabled_wall(image: &[u32], v: &[u32], i: u32) -> bool
     requires { Accepted image.now × (i < size_of image.now rules) × Sound v.now }
     ensures { result ≡ enabled_wall image.now (meaning v.now).rest i }
 {
-    is_enabled(v, i as usize) && has_wall_trigger(image, i)
+    is_enabled(v, i as usize)
+        && (0..trigger_count(image, i)).any(|k| is_wall_trigger(trigger_at(image, i, k)))
 }
 
 // An enabled rule has a wall trigger.

@@ -15,4 +15,4 @@ earliest-record-requires c = (records-fit _ c.requires.1, omega arith)
 
 pub returns : goal.returns
 returns c flat =
-    c.earliest_of.ensures ∙ next-is _ c.requires.1 c.args.image.now c.args.loaded c.args.last _ _ _ _ c.wall_poll-poll.ensures c.earliest-slot.ensures c.earliest-timer.ensures c.earliest-record.ensures flat
+    c.earliest_of.ensures ∙ next-is _ c.requires.1 c.args.image c.args.last _ _ _ _ c.wall_poll-poll.ensures c.earliest-slot.ensures c.earliest-timer.ensures c.earliest-record.ensures flat

@@ -9,10 +9,10 @@ use Rattle.wheel.proofs.rules.activate_if_enabled.Goals as goal
 
 pub returns-then-not-is_enabled : goal.returns-then-not-is_enabled
 returns-then-not-is_enabled c =
-    let e = tick_env c.args.env.now.snapshot.now c.args.env.now.image.now in
-    skips 1 (activate_if_enabled e c.args.kind c.args.i) (carried c.args.v.now c.args.x) _ _ c.requires.room.sound (is-off e c.args.kind c.args.i _ c.is_enabled.ensures c.if-not-is_enabled.true-raw)
+    let e = tick_env c.args.rule.now.env.now.snapshot.now c.args.rule.now.env.now.image.now in
+    skips 1 (activate_if_enabled e c.args.kind c.args.rule.now.i) (carried c.args.v.now c.args.x) _ _ c.requires.sound (is-off e c.args.kind c.args.rule.now.i _ c.is_enabled.ensures c.if-not-is_enabled.true-raw)
 
 pub returns : goal.returns
 returns c =
-    let e = tick_env c.args.env.now.snapshot.now c.args.env.now.image.now in
-    same-part 1 (model.activate e c.args.i c.args.kind model.Auto) (activate_if_enabled e c.args.kind c.args.i) (is-on e c.args.kind c.args.i _ c.is_enabled.ensures c.if-not-is_enabled.false-raw) c.activate_rule.ensures
+    let e = tick_env c.args.rule.now.env.now.snapshot.now c.args.rule.now.env.now.image.now in
+    same-part 1 (model.activate e c.args.rule.now.i c.args.kind model.Auto) (activate_if_enabled e c.args.kind c.args.rule.now.i) (is-on e c.args.kind c.args.rule.now.i _ c.is_enabled.ensures c.if-not-is_enabled.false-raw) c.activate_rule.ensures

@@ -10,13 +10,13 @@ use Rattle.wheel.proofs.schedules.fire_due_wall_rules.Goals as goal
 pub loop-i-init : goal.loop-i-init
 loop-i-init c = turning-starts _ _ _ _ _ _ _ c.requires.sound
 
+pub invariant_of-rule : goal.invariant_of-rule
+invariant_of-rule c = record { inside = order-at _ _ c.args.env.now.ordered _ c.loop-i-test.true }
+
 pub wall_turn-turn-requires : goal.wall_turn-turn-requires
 wall_turn-turn-requires c =
     let f = order-few _ _ c.args.env.now.ordered c.args.env.now.holds.accepted in
-    record {
-      rule = order-at _ _ c.args.env.now.ordered _ c.loop-i-test.true;
-      room = room-here _ _ _ _ _ _ _ _ _ _ c.loop-i.invariant 64 (omega (arith, c.loop-i-test.true, f)) c.requires;
-    }
+    room-here _ _ _ _ _ _ _ _ _ _ c.loop-i.invariant 64 (omega (arith, c.loop-i-test.true, f)) c.requires
 
 pub loop-i-preserved : goal.loop-i-preserved
 loop-i-preserved c = turning-goes _ _ _ _ _ c.loop-i.invariant 0 _ c.loop-i-test.true refl c.wall_turn-turn.ensures

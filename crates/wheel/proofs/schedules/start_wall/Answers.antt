@@ -8,10 +8,10 @@ use Rattle.wheel.proofs.schedules.start_wall.Goals as goal
 
 pub returns-in-Some : goal.returns-in-Some
 returns-in-Some c =
-    let e = tick_env c.args.env.now.snapshot.now c.args.env.now.image.now in
-    same-part 1 (model.activate e c.args.i c.in-Some.kind model.Auto) (start_wall c.args.kind e c.args.i) (rw c.in-Some.is) c.activate_rule.ensures
+    let e = tick_env c.args.rule.now.env.now.snapshot.now c.args.rule.now.env.now.image.now in
+    same-part 1 (model.activate e c.args.rule.now.i c.in-Some.kind model.Auto) (start_wall c.args.kind e c.args.rule.now.i) (rw c.in-Some.is) c.activate_rule.ensures
 
 pub returns-in-None : goal.returns-in-None
 returns-in-None c =
-    let e = tick_env c.args.env.now.snapshot.now c.args.env.now.image.now in
-    skips 1 (start_wall c.args.kind e c.args.i) (carried c.args.v.now c.args.x) _ _ c.requires.room.sound (rw c.in-None.is)
+    let e = tick_env c.args.rule.now.env.now.snapshot.now c.args.rule.now.env.now.image.now in
+    skips 1 (start_wall c.args.kind e c.args.rule.now.i) (carried c.args.v.now c.args.x) _ _ c.requires.sound (rw c.in-None.is)

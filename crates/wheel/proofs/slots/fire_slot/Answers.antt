@@ -8,12 +8,8 @@ use Rattle.wheel.proofs.Each.{slot_of, slot-none}
 use Rattle.wheel.proofs.Fires.{same-part, skips}
 use Rattle.wheel.proofs.slots.fire_slot.Goals as goal
 
-pub activate_if_enabled-requires : goal.activate_if_enabled-requires
-activate_if_enabled-requires c =
-    record {
-      rule = (named_rule _ _ _ (sym c.rule_named.ensures ∙ c.in-Some.is)).0;
-      room = c.requires;
-    }
+pub invariant_of-rule : goal.invariant_of-rule
+invariant_of-rule c = record { inside = (named_rule _ _ _ (sym c.rule_named.ensures ∙ c.in-Some.is)).0 }
 
 pub returns-in-Some : goal.returns-in-Some
 returns-in-Some c =

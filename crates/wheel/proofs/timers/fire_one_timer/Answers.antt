@@ -11,13 +11,13 @@ use Rattle.wheel.proofs.timers.fire_one_timer.Goals as goal
 pub loop-i-init : goal.loop-i-init
 loop-i-init c = starting-starts _ _ _ _ _ _ _ _ c.requires.sound
 
+pub invariant_of-rule : goal.invariant_of-rule
+invariant_of-rule c = record { inside = order-at _ _ c.args.env.now.ordered _ c.loop-i-test.true }
+
 pub fire_rule-h-requires : goal.fire_rule-h-requires
 fire_rule-h-requires c =
     let f = order-few _ _ c.args.env.now.ordered c.args.env.now.holds.accepted in
-    record {
-      rule = order-at _ _ c.args.env.now.ordered _ c.loop-i-test.true;
-      room = room-here _ _ _ _ _ _ _ _ _ _ c.loop-i.invariant 64 (omega (arith, c.loop-i-test.true, f)) c.requires;
-    }
+    room-here _ _ _ _ _ _ _ _ _ _ c.loop-i.invariant 64 (omega (arith, c.loop-i-test.true, f)) c.requires
 
 pub loop-i-preserved : goal.loop-i-preserved
 loop-i-preserved c = starting-goes _ _ _ _ _ c.loop-i.invariant 0 _ c.loop-i-test.true refl c.fire_rule-h.ensures

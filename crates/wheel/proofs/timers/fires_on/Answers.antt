@@ -13,7 +13,7 @@ use Rattle.wheel.proofs.timers.fires_on.Goals as goal
 
 pub returns : goal.returns
 returns c =
-    let ts = triggers_of c.args.env.now.image.now c.args.i in
+    let ts = triggers_of c.args.rule.now.env.now.image.now c.args.rule.now.i in
     let n = c.trigger_count.result in
     any_from_yields_List (λ k. fires_on c.args.timer (get_or ts k Other)) _ _ _ c.any.ensures.ran (YieldsList-from_range 0 n n refl (sub-zero n)) (λ k b q h. search rules)
     ∙ any-places (fires_on c.args.timer) ts Other n c.trigger_count.ensures
