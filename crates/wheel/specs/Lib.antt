@@ -2,4 +2,5 @@
 pub mod Wall
 pub mod Deadline
 pub mod Tick
+pub mod Given
 pub mod Turns

@@ -7,7 +7,8 @@ ghost use Rattle.model.specs.Wheel.{resume_all, fire_continuations};
 ghost use Rattle.state.specs.Meaning.{meaning, stored_count, pending_count};
 ghost use Rattle.activate.specs.Carried.{carried};
 ghost use Rattle.activate.specs.Handled.{Room};
-ghost use Rattle.wheel.specs.Tick.{HasRecords, Fires, fits_set, are_indices, records_in, tick_env};
+ghost use Rattle.wheel.specs.Given.{env_of};
+ghost use Rattle.wheel.specs.Tick.{HasRecords, Fires, fits_set, are_indices, records_in};
 
 use crate::Env;
 use activate::{Handled, resume};
@@ -28,7 +29,7 @@ fn resume_one(
 ) -> Handled
     requires fits { fits_set env.now.image.now c ≡ true }
     requires room { Room 1 (carried v.old x) }
-    ensures { Fires 1 (model.resume (tick_env env.now.snapshot.now env.now.image.now) c) (carried v.old x) outcomes.old effects.old (carried v.new result) outcomes.new effects.new }
+    ensures { Fires 1 (model.resume (env_of env.now) c) (carried v.old x) outcomes.old effects.old (carried v.new result) outcomes.new effects.new }
 {
     match rule_named(env.image, c.rule) {
         Some(i) => {
@@ -62,7 +63,7 @@ fn resume_all(
 ) -> Handled
     requires records { (length due.now ≤ 32) × (are_indices due.now ≡ true) × (all (fits_set env.now.image.now) (records_in env.now.store.now due.now) ≡ true) }
     requires room { Room 32 (carried v.old x) }
-    ensures { Fires 32 (resume_all (tick_env env.now.snapshot.now env.now.image.now) (records_in env.now.store.now due.now)) (carried v.old x) outcomes.old effects.old (carried v.new result) outcomes.new effects.new }
+    ensures { Fires 32 (resume_all (env_of env.now) (records_in env.now.store.now due.now)) (carried v.old x) outcomes.old effects.old (carried v.new result) outcomes.new effects.new }
 {
     let mut h = x;
     for i in due {
@@ -83,7 +84,7 @@ pub fn fire_continuations(
 ) -> Handled
     requires records { (all (fits_set env.now.image.now) (meaning v.old).pending ≡ true) × HasRecords env.now.store.now v.old }
     requires v_value { (stored_count v.old ≡ pending_count v.old) × Room 32 (carried v.old x) }
-    ensures { Fires 32 (fire_continuations (tick_env env.now.snapshot.now env.now.image.now)) (carried v.old x) outcomes.old effects.old (carried v.new result) outcomes.new effects.new }
+    ensures { Fires 32 (fire_continuations (env_of env.now)) (carried v.old x) outcomes.old effects.old (carried v.new result) outcomes.new effects.new }
 {
     let time = world::now_ms(env.snapshot);
     let due = due_now(v, time);

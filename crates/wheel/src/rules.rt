@@ -3,7 +3,8 @@ ghost use Rattle.model.specs.Activate as model;
 ghost use Rattle.model.specs.Wheel.{activate_if_enabled};
 ghost use Rattle.activate.specs.Carried.{carried};
 ghost use Rattle.activate.specs.Handled.{Room};
-ghost use Rattle.wheel.specs.Tick.{Fires, tick_env};
+ghost use Rattle.wheel.specs.Given.{env_of};
+ghost use Rattle.wheel.specs.Tick.{Fires};
 
 use crate::Rule;
 use activate::{Handled, Mode, activate};
@@ -19,7 +20,7 @@ pub fn activate_rule(
     kind: u32,
 ) -> Handled
     requires { Room 1 (carried v.old x) }
-    ensures { Fires 1 (model.activate (tick_env rule.now.env.now.snapshot.now rule.now.env.now.image.now) rule.now.i kind model.Auto) (carried v.old x) outcomes.old effects.old (carried v.new result) outcomes.new effects.new }
+    ensures { Fires 1 (model.activate (env_of rule.now.env.now) rule.now.i kind model.Auto) (carried v.old x) outcomes.old effects.old (carried v.new result) outcomes.new effects.new }
 {
     let env = rule.env;
     let part = rule_steps(env.store, rule.i);
@@ -49,7 +50,7 @@ pub fn activate_if_enabled(
     kind: u32,
 ) -> Handled
     requires { Room 1 (carried v.old x) }
-    ensures { Fires 1 (activate_if_enabled (tick_env rule.now.env.now.snapshot.now rule.now.env.now.image.now) kind rule.now.i) (carried v.old x) outcomes.old effects.old (carried v.new result) outcomes.new effects.new }
+    ensures { Fires 1 (activate_if_enabled (env_of rule.now.env.now) kind rule.now.i) (carried v.old x) outcomes.old effects.old (carried v.new result) outcomes.new effects.new }
 {
     if !is_enabled(v, rule.i as usize) {
         return x;

@@ -9,7 +9,8 @@ ghost use Rattle.state.specs.Meaning.{Sound, Means, meaning, base};
 ghost use Rattle.world.specs.Ranges.{WallInRange};
 ghost use Rattle.activate.specs.Carried.{carried};
 ghost use Rattle.activate.specs.Handled.{Room};
-ghost use Rattle.wheel.specs.Tick.{Fires, tick_env, count_missed, remembering, without_wall};
+ghost use Rattle.wheel.specs.Given.{env_of};
+ghost use Rattle.wheel.specs.Tick.{Fires, count_missed, remembering, without_wall};
 ghost use Rattle.wheel.specs.Turns.{Turns};
 
 use crate::minutes::{WEEK_MINUTES, cyclic_dist, in_window, week_minute};
@@ -45,7 +46,7 @@ fn start_wall(
     kind: Option<u32>,
 ) -> Handled
     requires { Room 1 (carried v.old x) }
-    ensures { Fires 1 (start_wall kind (tick_env rule.now.env.now.snapshot.now rule.now.env.now.image.now) rule.now.i) (carried v.old x) outcomes.old effects.old (carried v.new result) outcomes.new effects.new }
+    ensures { Fires 1 (start_wall kind (env_of rule.now.env.now) rule.now.i) (carried v.old x) outcomes.old effects.old (carried v.new result) outcomes.new effects.new }
 {
     match kind {
         Some(kind) => activate_rule(rule, outcomes, effects, v, x, kind),
@@ -64,7 +65,7 @@ fn wall_turn(
     missed: bool,
 ) -> WallTurn
     requires { Room 1 (carried v.old x) }
-    ensures { Turns (tick_env rule.now.env.now.snapshot.now rule.now.env.now.image.now) base window rule.now.i missed (carried v.old x) outcomes.old effects.old v.new result outcomes.new effects.new }
+    ensures { Turns (env_of rule.now.env.now) base window rule.now.i missed (carried v.old x) outcomes.old effects.old v.new result outcomes.new effects.new }
 {
     if !is_enabled(v, rule.i as usize) {
         return WallTurn { handled: x, missed };
@@ -99,7 +100,7 @@ fn fire_due_wall_rules(
     window: u64,
 ) -> Handled
     requires { Room 64 (carried v.old x) }
-    ensures { Fires 64 (fire_due_wall_rules (tick_env env.now.snapshot.now env.now.image.now) base window false (name_order env.now.image.now)) (carried v.old x) outcomes.old effects.old (carried v.new result) outcomes.new effects.new }
+    ensures { Fires 64 (fire_due_wall_rules (env_of env.now) base window false (name_order env.now.image.now)) (carried v.old x) outcomes.old effects.old (carried v.new result) outcomes.new effects.new }
 {
     let mut h = x;
     let mut missed = false;
@@ -142,7 +143,7 @@ fn fire_window(
     window: u64,
 ) -> Handled
     requires { Room 64 (carried v.old x) × (minute < 10080) × (window ≤ 60) }
-    ensures { Fires 64 (fire_window (tick_env env.now.snapshot.now env.now.image.now) minute window) (carried v.old x) outcomes.old effects.old (carried v.new result) outcomes.new effects.new }
+    ensures { Fires 64 (fire_window (env_of env.now) minute window) (carried v.old x) outcomes.old effects.old (carried v.new result) outcomes.new effects.new }
 {
     if !has_wall_triggers(env.image, v) {
         return x;
@@ -171,7 +172,7 @@ fn fire_wall_at(
     w: WallTime,
 ) -> Handled
     requires { Room 64 (carried v.old x) × WallInRange w }
-    ensures { Fires 64 (fire_wall_at (Some w) (tick_env env.now.snapshot.now env.now.image.now)) (carried v.old x) outcomes.old effects.old (carried v.new result) outcomes.new effects.new }
+    ensures { Fires 64 (fire_wall_at (Some w) (env_of env.now)) (carried v.old x) outcomes.old effects.old (carried v.new result) outcomes.new effects.new }
 {
     let prev = state::prev_week_min(v);
     let minute = week_minute(w);
@@ -203,7 +204,7 @@ pub fn fire_wall_schedules(
     x: Handled,
 ) -> Handled
     requires { Room 64 (carried v.old x) × (snapshot_refusal env.now.snapshot.now ≡ 0) }
-    ensures { Fires 64 (fire_wall_schedules (tick_env env.now.snapshot.now env.now.image.now)) (carried v.old x) outcomes.old effects.old (carried v.new result) outcomes.new effects.new }
+    ensures { Fires 64 (fire_wall_schedules (env_of env.now)) (carried v.old x) outcomes.old effects.old (carried v.new result) outcomes.new effects.new }
 {
     match world::wall(env.snapshot) {
         Some(w) => fire_wall_at(env, outcomes, effects, v, x, w),

@@ -3,7 +3,8 @@ ghost use Rattle.std.specs.Prelude.{◌≤◌, length};
 ghost use Rattle.model.specs.Wheel.{by_every, activate_each, fire_every};
 ghost use Rattle.activate.specs.Carried.{carried};
 ghost use Rattle.activate.specs.Handled.{Room};
-ghost use Rattle.wheel.specs.Tick.{Fires, tick_env, rules_of_slot, rules_of_slots};
+ghost use Rattle.wheel.specs.Given.{env_of};
+ghost use Rattle.wheel.specs.Tick.{Fires, rules_of_slot, rules_of_slots};
 
 use crate::rules::activate_if_enabled;
 use crate::{Env, Rule};
@@ -24,7 +25,7 @@ fn fire_slot(
     slot: EverySlot,
 ) -> Handled
     requires { Room 1 (carried v.old x) }
-    ensures { Fires 1 (activate_each (tick_env env.now.snapshot.now env.now.image.now) by_every (rules_of_slot env.now.image.now slot)) (carried v.old x) outcomes.old effects.old (carried v.new result) outcomes.new effects.new }
+    ensures { Fires 1 (activate_each (env_of env.now) by_every (rules_of_slot env.now.image.now slot)) (carried v.old x) outcomes.old effects.old (carried v.new result) outcomes.new effects.new }
 {
     match rule_named(env.image, slot.rule) {
         Some(i) => {
@@ -45,7 +46,7 @@ fn fire_slots(
 ) -> Handled
     requires few { length due.now ≤ 64 }
     requires room { Room 64 (carried v.old x) }
-    ensures { Fires 64 (activate_each (tick_env env.now.snapshot.now env.now.image.now) by_every (rules_of_slots env.now.image.now due.now)) (carried v.old x) outcomes.old effects.old (carried v.new result) outcomes.new effects.new }
+    ensures { Fires 64 (activate_each (env_of env.now) by_every (rules_of_slots env.now.image.now due.now)) (carried v.old x) outcomes.old effects.old (carried v.new result) outcomes.new effects.new }
 {
     let mut h = x;
     for slot in due {
@@ -63,7 +64,7 @@ pub fn fire_every(
     x: Handled,
 ) -> Handled
     requires { Room 64 (carried v.old x) }
-    ensures { Fires 64 (fire_every (tick_env env.now.snapshot.now env.now.image.now)) (carried v.old x) outcomes.old effects.old (carried v.new result) outcomes.new effects.new }
+    ensures { Fires 64 (fire_every (env_of env.now)) (carried v.old x) outcomes.old effects.old (carried v.new result) outcomes.new effects.new }
 {
     let time = world::now_ms(env.snapshot);
     let due = due_slots(v, time);

@@ -5,7 +5,8 @@ ghost use Rattle.model.specs.Rules.{triggers_of};
 ghost use Rattle.model.specs.Wheel.{by_timer, fires_on, activate_each, rules_on_timer, fire_timers};
 ghost use Rattle.activate.specs.Carried.{carried};
 ghost use Rattle.activate.specs.Handled.{Room};
-ghost use Rattle.wheel.specs.Tick.{Fires, tick_env, on_timer, rules_of_timers};
+ghost use Rattle.wheel.specs.Given.{env_of};
+ghost use Rattle.wheel.specs.Tick.{Fires, on_timer, rules_of_timers};
 
 use crate::rules::activate_if_enabled;
 use crate::{Env, Rule};
@@ -45,7 +46,7 @@ fn fire_rule(
     timer: u32,
 ) -> Handled
     requires { Room 1 (carried v.old x) }
-    ensures { Fires 1 (activate_each (tick_env rule.now.env.now.snapshot.now rule.now.env.now.image.now) by_timer (keep (on_timer rule.now.env.now.image.now timer) (rule.now.i ∷ []))) (carried v.old x) outcomes.old effects.old (carried v.new result) outcomes.new effects.new }
+    ensures { Fires 1 (activate_each (env_of rule.now.env.now) by_timer (keep (on_timer rule.now.env.now.image.now timer) (rule.now.i ∷ []))) (carried v.old x) outcomes.old effects.old (carried v.new result) outcomes.new effects.new }
 {
     if !fires_on(rule, timer) {
         return x;
@@ -62,7 +63,7 @@ fn fire_one_timer(
     timer: u32,
 ) -> Handled
     requires { Room 64 (carried v.old x) }
-    ensures { Fires 64 (activate_each (tick_env env.now.snapshot.now env.now.image.now) by_timer (rules_on_timer env.now.image.now timer)) (carried v.old x) outcomes.old effects.old (carried v.new result) outcomes.new effects.new }
+    ensures { Fires 64 (activate_each (env_of env.now) by_timer (rules_on_timer env.now.image.now timer)) (carried v.old x) outcomes.old effects.old (carried v.new result) outcomes.new effects.new }
 {
     let mut h = x;
     for i in env.order {
@@ -82,7 +83,7 @@ fn fire_due_timers(
 ) -> Handled
     requires few { length due.now ≤ 16 }
     requires room { Room 1024 (carried v.old x) }
-    ensures { Fires 1024 (activate_each (tick_env env.now.snapshot.now env.now.image.now) by_timer (rules_of_timers env.now.image.now due.now)) (carried v.old x) outcomes.old effects.old (carried v.new result) outcomes.new effects.new }
+    ensures { Fires 1024 (activate_each (env_of env.now) by_timer (rules_of_timers env.now.image.now due.now)) (carried v.old x) outcomes.old effects.old (carried v.new result) outcomes.new effects.new }
 {
     let mut h = x;
     for t in due {
@@ -100,7 +101,7 @@ pub fn fire_timers(
     x: Handled,
 ) -> Handled
     requires { Room 1024 (carried v.old x) }
-    ensures { Fires 1024 (fire_timers (tick_env env.now.snapshot.now env.now.image.now)) (carried v.old x) outcomes.old effects.old (carried v.new result) outcomes.new effects.new }
+    ensures { Fires 1024 (fire_timers (env_of env.now)) (carried v.old x) outcomes.old effects.old (carried v.new result) outcomes.new effects.new }
 {
     let time = world::now_ms(env.snapshot);
     let due = due_timers(v, time);
