@@ -44,7 +44,11 @@ pub fn flatten_list(
             left: q.left - 1,
             ..q
         };
-        q = flatten_action(t, list, body, bodies, seen, i, at, here)?;
+        // Field by field: copied as one value, the padding behind `same` goes in overlapping halves, and a list takes three times as long.
+        let Progress { n, m, left, same } = flatten_action(
+            t, list, body, bodies, seen, i, at, here,
+        )?;
+        q = Progress { n, m, left, same };
     }
     Ok(q)
 }

@@ -184,16 +184,16 @@ flatten_list-flatten_action-requires t c =
       ),
     )
 
-pub flatten_list-returns-in_err-q : goal.flatten_list-returns-in_err-q
-flatten_list-returns-in_err-q t c =
+pub flatten_list-returns-in_err-n : goal.flatten_list-returns-in_err-n
+flatten_list-returns-in_err-n t c =
     let p = err_from_is_err_and c.from_residual.result c.from_residual.ensures.1 in
-    let r = rw c.in_err-q.was at c.flatten_action.ensures in
+    let r = rw c.in_err-n.was at c.flatten_action.ensures in
     rw (p.1, p.2, r.0) (refused c.loop-i.invariant.0 c.requires.count_in_bounds c.loop-i-test.true c.if-q-ge256.false [] [] (omega (arith, r.1, c.if-q-eq0.false)))
 
 pub flatten_list-loop-i-preserved : goal.flatten_list-loop-i-preserved
 flatten_list-loop-i-preserved t c =
     let f = c.flatten_action in (
-      next c.loop-i.invariant.0 c.requires.count_in_bounds c.loop-i-test.true c.if-q-ge256.false c.if-q-eq0.false f.auto.list f.auto.bodies (rw c.in_ok-q.was at f.ensures),
+      next c.loop-i.invariant.0 c.requires.count_in_bounds c.loop-i-test.true c.if-q-ge256.false c.if-q-eq0.false f.auto.list f.auto.bodies (rw c.in_ok-n.was at f.ensures),
       f.auto.body ∙ c.loop-i.invariant.1,
     )
 
