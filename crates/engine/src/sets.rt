@@ -45,8 +45,7 @@ fn put_rule(store: &Checked, image: &[u32], i: u32, v: &mut [u32])
     let words = store.words();
     let k = old_place(store, image::rule::name_of(image, i));
     let on = image::rule::enabled_of(image, i);
-    let activation = store::volatile::last_activation(words, k);
-    let position = store::volatile::cycle_pos(words, k);
+    let (activation, position) = store::volatile::kept_of_rule(words, k);
     state::rules::put_bit(v, i as usize, on);
     state::rules::put_last_activation(v, i as usize, activation);
     state::rules::put_cycle_pos(v, i as usize, position);
