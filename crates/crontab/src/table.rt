@@ -68,6 +68,8 @@ pub fn write(hours: &[bool; 60], minutes: &[bool; 60], ds: u32, store: &mut [u32
     requires { 8 * length (marked_minutes hours.now minutes.now) ≤ length store.old }
     ensures { store.new ≡ written ds store.old 0 (marked_minutes hours.now minutes.now) }
 {
+    // kept: the place is counted beside the loop. A `for` over `filter` and `enumerate` was begun: its proof has to say what such an
+    // iterator still yields, where here `t` says which minutes are left.
     let mut n: u32 = 0;
     for t in 0..1440 {
         if is_marked(hours, minutes, t) {

@@ -3,10 +3,9 @@ use mathlib.Core.Path.{◌≡◌, refl, sym, ap, ◌∙◌}
 use mathlib.Core.Bool.{Bool, true, false, ◌&&◌}
 use mathlib.Core.List.{List}
 use Prim.Native.Nat.{ℕ, ◌+◌, ◌≤◌}
-use native.Mathlib.Omega.{arith}
-use lib.Dec.{leb, eqb}
+use lib.Dec.{eqb}
 use lib.ListN.{length, get_or}
-use borrow.Author.Tests.{leb-true, eqb-true, ne_eqb, eq-eqb}
+use borrow.Author.Tests.{eqb-true, ne_eqb}
 use Rattle.model.specs.Lists.{all}
 use Rattle.model.specs.Image.{size_of}
 use Rattle.model.specs.Rows.{rules}
@@ -14,17 +13,15 @@ use Rattle.model.specs.Load.{image_refusal}
 use Rattle.model.specs.Flat.{flatten_rules}
 use Rattle.model.specs.Snapshot.{snapshot_refusal}
 use Rattle.model.specs.Layout.{parts_fit}
-use Rattle.model.specs.Codec.{word, wide, maybe, all_good}
-use Rattle.model.specs.Parts.{any, bit, variable_row, Changing, changing_part, layout}
+use Rattle.model.specs.Parts.{variable_row, layout}
 use Rattle.model.specs.Store.{text_short}
 use Rattle.model.proofs.Bools.{both}
-use Rattle.model.proofs.PartsLaws.{variable-laws}
 use Rattle.image.specs.Sized.{Sized}
 use Rattle.image.proofs.Accepted.{sized, tables-accepted, few-accepted, rules-few}
-use Rattle.rows.specs.Places.{row_at, table_at}
+use Rattle.rows.specs.Places.{table_at}
 use Rattle.store.specs.Places.{variables_place}
-use Rattle.store.specs.Volatile.{changing_in, Readable}
-use Rattle.store.proofs.Parts.{variables-at, good-changing, table-long}
+use Rattle.store.specs.Volatile.{Readable}
+use Rattle.store.proofs.Parts.{variables-at}
 use Rattle.rows.proofs.Reading.{word-is}
 use Rattle.std.specs.Prelude.{Result, Ok, Err, ⊤}
 use Rattle.std.specs.Result.{is_ok}
@@ -34,15 +31,6 @@ use Rattle.model.proofs.RefusalLaws.{refusal-some}
 use Rattle.exports.specs.Answers.{readable, given}
 
 -- THE STORE -----------------------------------------------------------------------------------------------------------------------
-few-good : (m : Changing) → changing_part.good m ≡ true → length m.variables ≤ 16
-unfolding changing_part
-few-good m g =
-    let (_, a) = both (eqb (length m.bits) 64 && all_good bit m.bits) _ g in
-    let (_, b) = both (eqb (length m.activations) 64 && all_good (maybe wide) m.activations) _ a in
-    let (_, c) = both (eqb (length m.positions) 64 && all_good (maybe (word 15)) m.positions) _ b in
-    let (v, _) = both (leb (length m.variables) 16 && all_good variable_row m.variables) _ c in
-    leb-true _ _ (both (leb (length m.variables) 16) (all_good variable_row m.variables) v).0
-
 module _ (w : List ℕ) (a : Bool) (e : a ≡ eqb (length w) 16384 && parts_fit layout.parts w) where
   module _ (t : a ≡ true) where
     long : length w ≡ 16384
@@ -50,11 +38,6 @@ module _ (w : List ℕ) (a : Bool) (e : a ≡ eqb (length w) 16384 && parts_fit 
 
     fit : parts_fit layout.parts w ≡ true
     fit = (both (eqb (length w) 16384) (parts_fit layout.parts w) (sym e ∙ t)).1
-
-    pub few-variables : (n : ℕ) → n ≡ get_or w variables_place 0 → n ≤ 16
-    few-variables n h =
-        let l = ap length (variables-at w) ∙ table-long variable_row variable-laws (row_at any w variables_place) w (variables_place + 1) in
-        omega (arith, l, word-is w variables_place n h, few-good (changing_in w) (good-changing w fit))
 
     pub texts-decide : (n : ℕ) (b : Bool) → n ≡ get_or w variables_place 0 → b ≡ all text_short (table_at variable_row n w (variables_place + 1)) → b ≡ readable w
     unfolding readable

@@ -20,6 +20,6 @@ returns c =
     let p = c.old_place-k.ensures in
     let n = c.name_of.ensures in
     rule-put img s a.i a.v.now _ _ _ _ _ _ c.enabled_of-on.ensures
-    (activation-kept w s e _ _ img a.i _ n c.kept_of_rule.ensures.activation (p (changing_in w).activations (activations-all w)))
-    (position-kept w s e _ _ img a.i _ n c.kept_of_rule.ensures.position (p (changing_in w).positions (positions-all w)))
+    (activation-kept w s e _ _ img a.i _ n c.kept_of_rule-activation.ensures.activation (p (changing_in w).activations (activations-all w)))
+    (position-kept w s e _ _ img a.i _ n c.kept_of_rule-activation.ensures.position (p (changing_in w).positions (positions-all w)))
     c.put_bit.ensures c.put_last_activation.ensures c.put_cycle_pos.ensures
