@@ -53,9 +53,6 @@ all-due p now ps a = all-sort p due_before (keep (λ (c : Pending). leb c.due no
 
 -- ---- the records at indices, as the store has them
 module _ (w due : List ℕ) (j : ℕ) (inside : j < length due) where
-  pub index-fits : are_indices due ≡ true → get_or due j 0 < 32
-  index-fits a = ltb-true (get_or due j 0) 32 (all-at (λ i. ltb i 32) due j 0 a inside)
-
   pub record-fits : (p : Pending → Bool) {c : Pending} → all p (records_in w due) ≡ true → c ≡ record_in w (get_or due j 0) → p c ≡ true
   record-fits p a e = ap p e ∙ all-at (λ i. p (record_in w i)) due j 0 (sym (all_map (record_in w) p due) ∙ a) inside
 

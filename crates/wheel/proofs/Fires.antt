@@ -28,9 +28,6 @@ module _ {x : Carried} {ow ew : List ℕ} {h : model.Handled} {r : Carried} {ow'
   pub same-effects : length ew' ≡ length ew
   same-effects = ap length c.effect_words ∙ lent_written.puts-length ew x.effects (all_effects h.outcomes)
 
-pub same-state : {w w' : List ℕ} → Sound w → Sound w' → length w' ≡ length w
-same-state s s' = s'.long ∙ sym s.long
-
 -- ONE RULE ----------------------------------------------------------------------------------------------------------------------------------
 module _ (snapshot image part : List ℕ) (own i : ℕ) (x : Carried) (ow ew : List ℕ) (r : Carried) (ow' ew' : List ℕ) (s : Says part own (get_or (set_of image (flatten_rules image)).flat i [])) where
   pub activated : (kind : ℕ) → Activates snapshot image part own i kind Auto x ow ew r ow' ew' → Fires 1 (model.activate (tick_env snapshot image) i kind model.Auto) x ow ew r ow' ew'

@@ -3,15 +3,12 @@ use native.Mathlib.Omega.{arith}
 use lib.ListN.{length-map}
 use Rattle.store.specs.Volatile.{record_in}
 use Rattle.wheel.specs.Tick.{fits_set}
-use Rattle.wheel.proofs.Due.{index-fits, record-fits, record-next}
+use Rattle.wheel.proofs.Due.{record-fits, record-next}
 use Rattle.wheel.proofs.Loops.{resuming-starts, resuming-goes, resuming-ends}
 use Rattle.wheel.proofs.continuations.resume_all.Goals as goal
 
 pub loop-i-init : goal.loop-i-init
 loop-i-init c = resuming-starts _ _ _ _ _ c.requires.room.sound
-
-pub pending_record-c-requires : goal.pending_record-c-requires
-pending_record-c-requires c = index-fits c.args.env.now.store.now _ _ c.loop-i-test.true c.requires.records.1
 
 pub resume_one-h-requires-clause-fits : goal.resume_one-h-requires-clause-fits
 resume_one-h-requires-clause-fits c =

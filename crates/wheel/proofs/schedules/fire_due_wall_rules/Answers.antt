@@ -1,7 +1,6 @@
 -- `wheel::schedules::fire_due_wall_rules` meets its contract. Assumes nothing.
 use native.Mathlib.Omega.{arith}
 use mathlib.Core.Path.{refl}
-use Rattle.wheel.proofs.Fires.{same-state}
 use Rattle.wheel.proofs.Going.{room-here}
 use Rattle.wheel.proofs.Loops.{turning-starts, turning-goes, turning-ends}
 use Rattle.wheel.proofs.Names.{order-at, order-few}
@@ -20,9 +19,6 @@ wall_turn-turn-requires c =
 
 pub loop-i-preserved : goal.loop-i-preserved
 loop-i-preserved c = turning-goes _ _ _ _ _ c.loop-i.invariant 0 _ c.loop-i-test.true refl c.wall_turn-turn.ensures
-
-pub shape_of-v : goal.shape_of-v
-shape_of-v c = same-state c.requires.sound c.count_missed.ensures.sound
 
 pub returns : goal.returns
 returns c =

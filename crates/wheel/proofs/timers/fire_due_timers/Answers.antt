@@ -1,16 +1,11 @@
 -- `wheel::timers::fire_due_timers` meets its contract. Assumes nothing.
 use native.Mathlib.Omega.{arith}
 use mathlib.Core.Path.{refl}
-use Rattle.wheel.proofs.Going.{room-here}
 use Rattle.wheel.proofs.Loops.{starting-starts, starting-goes, starting-ends}
 use Rattle.wheel.proofs.timers.fire_due_timers.Goals as goal
 
 pub loop-t-init : goal.loop-t-init
 loop-t-init c = starting-starts _ _ _ _ _ _ _ _ c.requires.room.sound
-
-pub fire_one_timer-h-requires : goal.fire_one_timer-h-requires
-fire_one_timer-h-requires c =
-    room-here _ _ _ _ _ _ _ _ _ _ c.loop-t.invariant 1024 (omega (arith, c.loop-t-test.true, c.requires.few)) c.requires.room
 
 pub loop-t-preserved : goal.loop-t-preserved
 loop-t-preserved c = starting-goes _ _ _ _ _ c.loop-t.invariant _ _ c.loop-t-test.true refl c.fire_one_timer-h.ensures
