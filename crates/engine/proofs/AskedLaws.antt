@@ -13,7 +13,7 @@ use Rattle.model.specs.Answers as answers
 use Rattle.model.specs.OnWords.{result, store_refusal, store_after, outcome_words_of, effect_words_of, on_store, call_on}
 use Rattle.model.proofs.StoreLaws.{write_read}
 use Rattle.engine.specs.Seen.{seen, refusal_of}
-use Rattle.std.specs.Prelude.{Err}
+use Rattle.std.specs.Prelude.{Err, replicate}
 use Rattle.model.specs.Refusals.{refusal_code}
 use Rattle.model.specs.declared.Refusal.{Refusal}
 use Rattle.model.proofs.RefusalLaws.{refusal-some}
@@ -40,10 +40,11 @@ module _ (w : List ℕ) (n other : ℕ) (q : n ≡ lowest_of (read w) w other) w
       go (Some s) zero e = absurd (z e)
       go (Some s) (suc m) e = ap (declined k) (sym e)
 
-pub asked-refused : {A : Type 0} (f : A → List ℕ) (w : List ℕ) (r : Refusal) (other : ℕ) (answer : Store → Asked) → refusal_code r ≡ lowest_of (read w) w other
-    → shown_result f (Err r) [] ≡ asked w other 0 answer
+pub asked-refused : {A : Type 0} (f : A → List ℕ) (w : List ℕ) (r : Refusal) (other k : ℕ) (answer : Store → Asked) (lent : List ℕ) → lent ≡ replicate k 0
+    → refusal_code r ≡ lowest_of (read w) w other → shown_result f (Err r) lent ≡ asked w other k answer
 unfolding shown_result declined
-asked-refused f w r other answer q = sym (asked-declined w (refusal_code r) other q (refusal-some r) 0 answer)
+asked-refused f w r other k answer lent e q =
+    (λ i. record { number = refusal_code r; values = []; lent = e i }) ∙ sym (asked-declined w (refusal_code r) other q (refusal-some r) k answer)
 
 pub asked-answered : (w : List ℕ) (s : Store) (k other : ℕ) (answer : Store → Asked) → read w ≡ Some s → other ≡ 0 → asked w other k answer ≡ answer s
 unfolding asked

@@ -92,4 +92,4 @@ start-shown snap w s r i z e =
 
 pub start-refused : (snap w : List ℕ) (r : Refusal) → refusal_code r ≡ lowest_of (read w) w (snapshot_refusal snap) → shown_result start_values (Err r) [] ≡ next_start_on snap w
 unfolding next_start_on
-start-refused snap w r q = asked-refused start_values w r (snapshot_refusal snap) _ q
+start-refused snap w r q = asked-refused start_values w r (snapshot_refusal snap) 0 _ [] refl q
