@@ -12,7 +12,7 @@ use Rattle.model.specs.Calls.{effects_of}
 use Rattle.model.specs.Outcome.{Outcome}
 use Rattle.model.specs.State as model-state
 use Rattle.model.specs.declared.Effect.{Effect}
-use Rattle.state.specs.Meaning.{Sound, Means, meaning, base, accepted}
+use Rattle.state.specs.Meaning.{Means, meaning, base, accepted}
 use Rattle.state.proofs.Follows.{next-is, accepted-by-next}
 use Rattle.lent_words.specs.PutEffects.{put_effects}
 use Rattle.lent_words.proofs.Written as lent_written
@@ -40,7 +40,7 @@ then-continues x ow ew h r ow' ew' k s ow'' ew'' a b =
     let os = h.outcomes in
     let ps = y.outcomes in
     record {
-      state = record { says = b.state.says; sound = b.state.sound; based = b.state.based ∙ a.state.based };
+      state = record { says = b.state.says; based = b.state.based ∙ a.state.based };
       outcomes = omega (arith, a.outcomes, b.outcomes, length-append os ps);
       effects = omega (arith, a.effects, b.effects, effects-append os ps);
       outcome_words = b.outcome_words ∙ rw (a.outcomes, a.effects, a.outcome_words) (sym (put-append ow x.outcomes x.effects os ps));
@@ -53,17 +53,16 @@ unfolding put_outcomes put_effects
 no-outcome x ow ew v r m a b = record { state = m; outcomes = a ∙ omega arith; effects = b ∙ omega arith; outcome_words = refl; effect_words = refl }
 
 -- nothing happens
-pub nothing-done : (x : Carried) (ow ew : List ℕ) → Sound x.vol → Continues x ow ew (no_outcome (meaning x.vol)) x ow ew
-nothing-done x ow ew s = no-outcome x ow ew (meaning x.vol) x (record { says = refl; sound = s; based = refl }) refl refl
+pub nothing-done : (x : Carried) (ow ew : List ℕ) → Continues x ow ew (no_outcome (meaning x.vol)) x ow ew
+nothing-done x ow ew = no-outcome x ow ew (meaning x.vol) x (record { says = refl; based = refl }) refl refl
 
 -- ---- room
-pub within_none : (x r : Carried) → Sound r.vol → accepted r.vol ≡ accepted x.vol → (meaning r.vol).last_number ≡ (meaning x.vol).last_number → r.outcomes ≡ x.outcomes → r.effects ≡ x.effects → Within 0 x r
-within_none x r s a n b c = record { sound = s; accepted = omega (arith, a); outcomes = omega (arith, b); effects = omega (arith, c); numbers = omega (arith, n) }
+pub within_none : (x r : Carried) → accepted r.vol ≡ accepted x.vol → (meaning r.vol).last_number ≡ (meaning x.vol).last_number → r.outcomes ≡ x.outcomes → r.effects ≡ x.effects → Within 0 x r
+within_none x r a n b c = record { accepted = omega (arith, a); outcomes = omega (arith, b); effects = omega (arith, c); numbers = omega (arith, n) }
 
 pub within-then : (n m : ℕ) (x r s : Carried) → Within n x r → Within m r s → Within (n + m) x s
 within-then n m x r s a b =
     record {
-      sound = b.sound;
       accepted = omega (arith, a.accepted, b.accepted);
       outcomes = omega (arith, a.outcomes, b.outcomes);
       effects = omega (arith, a.effects, b.effects);
@@ -73,7 +72,6 @@ within-then n m x r s a b =
 pub within_more : (n m : ℕ) (x r : Carried) → n ≤ m → Within n x r → Within m x r
 within_more n m x r h a =
     record {
-      sound = a.sound;
       accepted = omega (arith, a.accepted);
       outcomes = omega (arith, a.outcomes);
       effects = omega (arith, a.effects);
@@ -83,7 +81,6 @@ within_more n m x r h a =
 pub room-left : (n m : ℕ) (x r : Carried) → Room (n + m) x → Within n x r → Room m r
 room-left n m x r a b =
     record {
-      sound = b.sound;
       accepted = omega (arith, a.accepted, b.accepted);
       outcomes = omega (arith, a.outcomes, b.outcomes);
       effects = omega (arith, a.effects, b.effects);
@@ -91,14 +88,13 @@ room-left n m x r a b =
     }
 
 pub room-less : (n m : ℕ) (x : Carried) → n ≤ m → Room m x → Room n x
-room-less n m x h a = record { sound = a.sound; accepted = omega (arith, a.accepted); outcomes = omega (arith, a.outcomes); effects = omega (arith, a.effects); numbers = omega (arith, a.numbers) }
+room-less n m x h a = record { accepted = omega (arith, a.accepted); outcomes = omega (arith, a.outcomes); effects = omega (arith, a.effects); numbers = omega (arith, a.numbers) }
 
 -- what the specification's parts bound, the code's do
 pub within_by : (n : ℕ) (x : Carried) (ow ew : List ℕ) (h : model.Handled) (r : Carried) (ow' ew' : List ℕ) → Continues x ow ew h r ow' ew'
     → h.vol.next ≤ (meaning x.vol).next + n * 256 → length h.outcomes ≤ n → effects_of h.outcomes ≤ n * 256 → h.vol.last_number ≤ (meaning x.vol).last_number + n → Within n x r
 within_by n x ow ew h r ow' ew' c next os es last =
     record {
-      sound = c.state.sound;
       accepted = omega (arith, accepted-by-next r.vol (base x.vol) h.vol c.state, next-is x.vol, next);
       outcomes = omega (arith, c.outcomes, os);
       effects = omega (arith, c.effects, es);

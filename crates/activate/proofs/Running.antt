@@ -93,7 +93,7 @@ module _ (x : Carried) (w : List ℕ) (m : model-state.Volatile) (c : Means w (b
   same-accepted = omega (arith, accepted-by-next w (base x.vol) m c, next-is x.vol, next)
 
   pub start-room : Room 1 x → RunRoom (with_vol w x)
-  start-room h = record { sound = c.sound; accepted = omega (arith, same-accepted, h.accepted); outcomes = h.outcomes; effects = omega (arith, h.effects) }
+  start-room h = record { accepted = omega (arith, same-accepted, h.accepted); outcomes = h.outcomes; effects = omega (arith, h.effects) }
 
   pub after-start : (part : List ℕ) (own i : ℕ) (k : List (List FlatStep) → model-state.Volatile → model.Handled) (ow ew : List ℕ) (r : Carried) (ow' ew' : List ℕ)
       → Handles part own i (λ flat. k flat (meaning w)) (with_vol w x) ow ew r ow' ew' → (meaning r.vol).last_number ≡ (meaning w).last_number → Handles part own i (λ flat. k flat m) x ow ew r ow' ew'
@@ -105,7 +105,6 @@ module _ (x : Carried) (w : List ℕ) (m : model-state.Volatile) (c : Means w (b
             then-continues x ow ew (no_outcome m) y ow ew (k flat) r ow' ew' (no-outcome x ow ew m y c refl refl) b;
         within =
             record {
-              sound = h.within.sound;
               accepted = omega (arith, h.within.accepted, same-accepted);
               outcomes = h.within.outcomes;
               effects = h.within.effects;
@@ -114,7 +113,7 @@ module _ (x : Carried) (w : List ℕ) (m : model-state.Volatile) (c : Means w (b
       }
 
 pub run_room : (x : Carried) → Room 1 x → RunRoom x
-run_room x h = record { sound = h.sound; accepted = omega (arith, h.accepted); outcomes = h.outcomes; effects = omega (arith, h.effects) }
+run_room x h = record { accepted = omega (arith, h.accepted); outcomes = h.outcomes; effects = omega (arith, h.effects) }
 
 -- and an outcome without effects
 pub refuses : (part : List ℕ) (own i : ℕ) (w : List ℕ) (x : Handled) (ow ew : List ℕ) (v : List ℕ) (s : Rest) (j : Job) (reason : ℕ) (trace : List Item) (r : Handled) (ow' : List ℕ)
@@ -169,10 +168,10 @@ no-reason (Some r) h = cc
 -- ---- runs
 module _ (x : Carried) (b : ℕ) (few : b ≤ 256) where
   pub ready : RunRoom x → exec.Ready x.vol b x.effects
-  ready room = record { sound = room.sound; accepts = omega (arith, room.accepted, few); counts = omega (arith, room.effects, few) }
+  ready room = record { accepts = omega (arith, room.accepted, few); counts = omega (arith, room.effects, few) }
 
   pub ready-dry : Room 1 x → exec-dry.DryReady x.vol b x.effects
-  ready-dry room = record { sound = room.sound; most = few; counts = omega (arith, room.effects, few) }
+  ready-dry room = record { most = few; counts = omega (arith, room.effects, few) }
 
 -- some effects, so many
 some_effects : ℕ → List Effect
@@ -197,7 +196,7 @@ module _ (snapshot image part : List ℕ) (own : ℕ) (j : Job) (v : List ℕ) (
           let s = k.says flat q in
           let m = f o.effects (let l : n ≡ length o.effects = omega (arith, e, s.2) in l) in
           let finish : Means w (base v) (model.finish_wet o.effects o.reason o.vol) =
-          record { says = m.says ∙ ap (λ (m : model-state.Volatile). model.finish_wet o.effects run.reason m) s.0.says ∙ ap (λ (z : ℕ). model.finish_wet o.effects z o.vol) s.1; sound = m.sound; based = m.based ∙ s.0.based } in
+          record { says = m.says ∙ ap (λ (m : model-state.Volatile). model.finish_wet o.effects run.reason m) s.0.says ∙ ap (λ (z : ℕ). model.finish_wet o.effects z o.vol) s.1; based = m.based ∙ s.0.based } in
           pushed v h ow ew w j run.reason run.count r ow' ew' p (model.finish_wet o.effects o.reason o.vol) o.effects o.reason (item ∷ o.trace) finish s.1 s.2 s.3
 
       finished-means : Means w (base run.vol) (model.finish_wet (some_effects n) run.reason (meaning run.vol))
@@ -218,7 +217,6 @@ module _ (snapshot image part : List ℕ) (own : ℕ) (j : Job) (v : List ℕ) (
               says = wet-says item;
               within =
                   record {
-                    sound = finished-means.sound;
                     accepted = omega (arith, same-next, k.accepted, few);
                     outcomes = omega (arith, p.outcomes);
                     effects = omega (arith, p.effects, k.counted, few);
@@ -245,7 +243,6 @@ module _ (snapshot image part : List ℕ) (own : ℕ) (j : Job) (v : List ℕ) (
           says = λ flat q. rw e at (dry-says ow r ow' p flat q);
           within =
               record {
-                sound = k.sound;
                 accepted = omega (arith, k.accepted);
                 outcomes = omega (arith, p.outcomes);
                 effects = omega (arith, p.effects, k.counted, few);

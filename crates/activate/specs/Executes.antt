@@ -15,7 +15,7 @@ use Rattle.model.specs.Steps.{start}
 use Rattle.model.specs.World.{world_of}
 use Rattle.model.specs.declared.Effect.{Effect}
 use Rattle.model.specs.declared.Point.{Point}
-use Rattle.state.specs.Meaning.{Sound, Means, meaning, base, accepted}
+use Rattle.state.specs.Meaning.{Means, meaning, base, accepted}
 use Rattle.eval.specs.Answers.{env_of}
 use Rattle.exec.specs.Results.{job_of}
 use Rattle.exec.specs.declared.Job.{Job}
@@ -42,9 +42,8 @@ begun_in snapshot j v =
 abbrev pub Starts : List ℕ → Job → List ℕ → List ℕ → Job → Type 0
 Starts snapshot j w r begun = Means r (base w) (begun_in snapshot j (meaning w)) × (begun ≡ numbered_job (next_number (meaning w).last_number) j)
 
--- a sound state, and numbers that have room for one run
+-- numbers that have room for one run
 pub record RunRoom (x : Carried) : Type 0 where
-  pub sound : Sound x.vol
   pub accepted : accepted x.vol + 256 ≤ max32
   pub outcomes : x.outcomes + 1 ≤ max32
   pub effects : x.effects + 256 ≤ max32

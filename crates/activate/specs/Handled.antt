@@ -9,7 +9,7 @@ use Rattle.model.specs.declared.Effect.{Effect}
 use Rattle.model.specs.declared.Pending.{Pending}
 use Rattle.model.specs.Steps.{FlatStep}
 use Rattle.flat.specs.Words.{Says}
-use Rattle.state.specs.Meaning.{Sound, Means, meaning, base, accepted}
+use Rattle.state.specs.Meaning.{Means, meaning, base, accepted}
 use Rattle.eval.specs.Answers.{env_of}
 use Rattle.lent_words.specs.PutEffects.{put_effects}
 use Rattle.activate.specs.Carried.{Carried}
@@ -47,17 +47,15 @@ pub record Continues (x : Carried) (ow ew : List ℕ) (h : model.Handled) (r : C
   pub outcome_words : ow' ≡ put_outcomes ow x.outcomes x.effects h.outcomes
   pub effect_words : ew' ≡ put_effects ew x.effects (all_effects h.outcomes)
 
--- a sound state, and no more than n activations or resumptions add: each has one outcome, a budget of 256 steps and one number at most
+-- no more than n activations or resumptions add: each has one outcome, a budget of 256 steps and one number at most
 pub record Within (n : ℕ) (x r : Carried) : Type 0 where
-  pub sound : Sound r.vol
   pub accepted : accepted r.vol ≤ accepted x.vol + n * 256
   pub outcomes : r.outcomes ≤ x.outcomes + n
   pub effects : r.effects ≤ x.effects + n * 256
   pub numbers : (meaning r.vol).last_number ≤ (meaning x.vol).last_number + n
 
--- a sound state, and numbers that have room for n activations or resumptions
+-- numbers that have room for n activations or resumptions
 pub record Room (n : ℕ) (x : Carried) : Type 0 where
-  pub sound : Sound x.vol
   pub accepted : accepted x.vol + n * 256 ≤ max32
   pub outcomes : x.outcomes + n ≤ max32
   pub effects : x.effects + n * 256 ≤ max32

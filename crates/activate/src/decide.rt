@@ -19,7 +19,7 @@ pub enum Decision {
     Unevaluable,
 }
 
-#[tactic(auto, using(eval::proofs::Kept::open_sound), unfolding(model::specs::Activate::in_cooldown, words::specs::Saturating::saturating_sub))]
+#[tactic(auto, unfolding(model::specs::Activate::in_cooldown, words::specs::Saturating::saturating_sub))]
 fn in_cooldown(env: &Env, i: u32) -> bool
     ensures { InCooldownIs env.now.snapshot.now env.now.image.now i (meaning env.now.state.now).rest result }
 {
@@ -27,7 +27,7 @@ fn in_cooldown(env: &Env, i: u32) -> bool
         return false;
     };
     let age = world::now_ms(env.snapshot).saturating_sub(last);
-    age < image::rule::cooldown_of(env.image, i) as u64
+    age < env.image.cooldown_of(i) as u64
 }
 
 // Only an automatic activation waits for the cooldown.

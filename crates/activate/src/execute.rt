@@ -2,7 +2,7 @@
 ghost use Rattle.std.specs.Prelude.{◌≡◌, true, ◌+◌, ◌≤◌, ◌<◌};
 ghost use Rattle.words.specs.Saturating.{max64};
 ghost use Rattle.image.specs.Accepted.{Accepted};
-ghost use Rattle.state.specs.Meaning.{Sound, meaning};
+ghost use Rattle.state.specs.Meaning.{meaning};
 ghost use Rattle.state.specs.Reasons.{reason_number};
 ghost use Rattle.activate.specs.Carried.{carried};
 ghost use Rattle.activate.specs.Handled.{Room};
@@ -13,8 +13,8 @@ use counters::Counter;
 use exec::dry::run_steps_dry;
 use exec::runs::run_steps;
 use exec::{Env, FlatRule, Job};
-use image::layout::budget;
 use model::Point;
+use state::State;
 use state::reasons::{Reason, reason_word};
 
 // Where a rule's own list begins.
@@ -24,8 +24,7 @@ const START: Point = Point {
     jump: None,
 };
 
-pub fn note_wet_partial(v: &mut [u32], dry: bool)
-    requires { Sound v.old }
+pub fn note_wet_partial(v: &mut State, dry: bool)
     ensures { NotesPartial dry v.old v.new }
 {
     if !dry {
@@ -34,8 +33,8 @@ pub fn note_wet_partial(v: &mut [u32], dry: bool)
 }
 
 // A wet activation is counted, its time is kept before its steps run, and it takes the next number: its job under that.
-fn start(snapshot: &[u32], v: &mut [u32], job: Job) -> Job
-    requires { Sound v.old × ((meaning v.old).last_number < max64 + max64) }
+fn start(snapshot: &[u32], v: &mut State, job: Job) -> Job
+    requires { (meaning v.old).last_number < max64 + max64 }
     ensures { Starts snapshot.now job v.old v.new result }
 {
     let time = world::now_ms(snapshot);
@@ -46,8 +45,7 @@ fn start(snapshot: &[u32], v: &mut [u32], job: Job) -> Job
 }
 
 // A wet run had so many effects, and this reason.
-fn finish_wet(v: &mut [u32], effects: u32, reason: Option<Reason>)
-    requires { Sound v.old }
+fn finish_wet(v: &mut State, effects: u32, reason: Option<Reason>)
     ensures { FinishesWet v.old effects (reason_number reason) v.new }
 {
     state::bump(v, Counter::EffectsEmitted, effects);
@@ -62,7 +60,7 @@ pub fn run_wet(
     rule: &FlatRule,
     outcomes: &mut [u32],
     effects: &mut [u32],
-    v: &mut [u32],
+    v: &mut State,
     x: Handled,
     from: Point,
     most: u32,
@@ -81,13 +79,13 @@ fn run_dry(
     rule: &FlatRule,
     outcomes: &mut [u32],
     effects: &mut [u32],
-    v: &mut [u32],
+    v: &mut State,
     x: Handled,
 ) -> Handled
     requires { Accepted env.now.image.now × (env.now.job.dry ≡ true) × Room 1 (carried v.old x) }
     ensures { RunsDry env.now.snapshot.now env.now.image.now rule.now.part.now rule.now.own env.now.job (carried v.old x) outcomes.old effects.old (carried v.new result) outcomes.new effects.new }
 {
-    let most = budget(env.image);
+    let most = env.image.budget();
     let run = run_steps_dry(env, rule, effects, v, START, most, x.effects);
     x.push_outcome(outcomes, env.job, reason_word(run.reason), run.count)
 }
@@ -98,7 +96,7 @@ pub fn execute(
     rule: &FlatRule,
     outcomes: &mut [u32],
     effects: &mut [u32],
-    v: &mut [u32],
+    v: &mut State,
     x: Handled,
 ) -> Handled
     requires { Accepted env.now.image.now × Room 1 (carried v.old x) }
@@ -114,6 +112,6 @@ pub fn execute(
         image: env.image,
         job,
     };
-    let most = budget(env.image);
+    let most = env.image.budget();
     run_wet(&begun, rule, outcomes, effects, v, x, START, most)
 }

@@ -12,7 +12,6 @@ ghost use Rattle.model.specs.Image.{size_of};
 ghost use Rattle.model.specs.Rows.{rules};
 ghost use Rattle.model.specs.Rules.{rule_named, hold_hcl_of};
 ghost use Rattle.image.specs.Accepted.{Accepted};
-ghost use Rattle.image.specs.Sized.{Sized};
 ghost use Rattle.exec.specs.Lists.{FlatWords};
 ghost use Rattle.activate.specs.Carried.{carried};
 ghost use Rattle.activate.specs.Decisions.{is_auto, is_dry};
@@ -21,7 +20,9 @@ ghost use Rattle.activate.specs.Handled.{Room, Activates, Resumes};
 use crate::decide::Decision;
 use counters::Counter;
 use exec::{Env, FlatRule, Job};
+use image::layout::Image;
 use model::Pending;
+use state::State;
 use state::reasons::Reason;
 
 // What activations and resumptions did so far: how many outcomes and effects are written, or would be. They stand beside the words that
@@ -59,14 +60,13 @@ impl Mode {
 pub const OUTCOME_WORDS: usize = 8;
 
 // Rule `name`, at place i of the image, under an activation number.
-fn job_of(image: &[u32], name: u32, i: u32, kind: u32, dry: bool, number: u64) -> Job
-    requires { Sized image.now }
+fn job_of(image: &Image, name: u32, i: u32, kind: u32, dry: bool, number: u64) -> Job
     ensures { result ≡ record { rule = name; index = i; hold = hold_hcl_of image.now i; trigger = kind; dry = dry; number = number } }
 {
     Job {
         rule: name,
         index: i,
-        hold: image::rule::hold_hcl_of(image, i),
+        hold: image.hold_hcl_of(i),
         trigger: kind,
         dry,
         number,
@@ -76,12 +76,12 @@ fn job_of(image: &[u32], name: u32, i: u32, kind: u32, dry: bool, number: u64) -
 // Rule i, by a trigger kind of an outcome. `part` is its part of the flat steps, where its own list stands behind `own` steps.
 pub fn activate(
     snapshot: &[u32],
-    image: &[u32],
+    image: &Image,
     part: &[u32],
     own: usize,
     outcomes: &mut [u32],
     effects: &mut [u32],
-    v: &mut [u32],
+    v: &mut State,
     x: Handled,
     i: u32,
     kind: u32,
@@ -93,7 +93,7 @@ pub fn activate(
 {
     let rule = FlatRule { part, own };
     let dry = mode.is_dry();
-    let job = job_of(image, image::rule::name_of(image, i), i, kind, dry, 0);
+    let job = job_of(image, image.name_of(i), i, kind, dry, 0);
     let env = Env {
         snapshot,
         image,
@@ -129,12 +129,12 @@ pub fn activate(
 // A continuation of rule i goes on where it stood, under its own number. `part` and `own` as for `activate`.
 pub fn resume(
     snapshot: &[u32],
-    image: &[u32],
+    image: &Image,
     part: &[u32],
     own: usize,
     outcomes: &mut [u32],
     effects: &mut [u32],
-    v: &mut [u32],
+    v: &mut State,
     x: Handled,
     i: u32,
     c: Pending,

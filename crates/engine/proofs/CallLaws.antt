@@ -27,7 +27,7 @@ use Rattle.model.specs.OnWords.{call_on}
 use Rattle.ledger.specs.Demand3.{is_word, in_words}
 use Rattle.ledger.proofs.CallRules.{call-keeps}
 use Rattle.state.specs.Cuts.{cut}
-use Rattle.state.specs.Meaning.{pending_row, part_sizes, part, pending_part, stored_in, records_in, Means, AllNumbered, Below, meaning, base, accepted, stored_count, pending_count}
+use Rattle.state.specs.Meaning.{pending_row, part_sizes, part, pending_part, stored_in, records_in, Sound, Means, AllNumbered, Below, meaning, base, accepted, stored_count, pending_count}
 use Rattle.state.proofs.Follows.{accepted-by-next}
 use Rattle.state.proofs.Frame.{table-part}
 use Rattle.state.proofs.Records.{pending-laws}
@@ -136,15 +136,15 @@ none_left : (ps : List Pending) → Below 0 ps → length ps ≡ 0
 none_left [] b = refl
 none_left (p ∷ ps) b = absurd (omega (arith, b.0))
 
-pub same_numbers : (v : List ℕ) (b : ℕ) (m : model.Volatile) → Means v b m → m.next ≡ b → m.last_number ≤ max64 → AllNumbered v m
+pub same_numbers : (v : List ℕ) (b : ℕ) (m : model.Volatile) → Sound v → Means v b m → m.next ≡ b → m.last_number ≤ max64 → AllNumbered v m
 unfolding accepted stored_count pending_count
-same_numbers v b m h e f =
+same_numbers v b m q h e f =
     let l = records_in (cut part_sizes v) in
     let k = stored_in (cut part_sizes v) in
     let z : accepted v ≡ 0 = omega (arith, accepted-by-next v b m h, e) in
-    let n = none_left (drop k l) (subst (λ (x : ℕ). Below x (drop k l)) z h.sound.parts.offsets) in
-    let c = holds-count pending_row pending-laws 32 (part pending_part v) l (table-part pending_row pending-laws pending_part 32 (omega arith) refl v h.sound) in
-    record { says = h.says; sound = h.sound; stored = omega (arith, h.sound.parts.stored, c, n, length-drop k l); none_accepted = z; last_fits = f }
+    let n = none_left (drop k l) (subst (λ (x : ℕ). Below x (drop k l)) z q.parts.offsets) in
+    let c = holds-count pending_row pending-laws 32 (part pending_part v) l (table-part pending_row pending-laws pending_part 32 (omega arith) refl v q) in
+    record { says = h.says; sound = q; stored = omega (arith, q.parts.stored, c, n, length-drop k l); none_accepted = z; last_fits = f }
 
 flipped-next : (rule i : ℕ) (on : Bool) (m : model.Volatile) → (flipped rule i on m).next ≡ m.next
 unfolding strike
@@ -158,14 +158,14 @@ flipped-last rule i false m = refl
 
 pub next-is : (v : List ℕ) (m : model.Volatile) → AllNumbered v m → m.next ≡ base v
 next-is v m a =
-    let e = accepted-by-next v (base v) m (record { says = a.says; sound = a.sound; based = refl }) in
+    let e = accepted-by-next v (base v) m (record { says = a.says; based = refl }) in
     omega (arith, e, a.none_accepted)
 
-pub flipped-numbers : (v u : List ℕ) (s : Store) (rule i : ℕ) (on : Bool) → AllNumbered v s.vol → Means u (base v) (flipped rule i on (meaning v))
+pub flipped-numbers : (v u : List ℕ) (s : Store) (rule i : ℕ) (on : Bool) → Sound u → AllNumbered v s.vol → Means u (base v) (flipped rule i on (meaning v))
     → AllNumbered u (flipped rule i on s.vol)
-flipped-numbers v u s rule i on a h =
+flipped-numbers v u s rule i on q a h =
     let h' : Means u (base v) (flipped rule i on s.vol) = subst (λ (m : model.Volatile). Means u (base v) (flipped rule i on m)) a.says h in
-    same_numbers u (base v) (flipped rule i on s.vol) h' (flipped-next rule i on s.vol ∙ next-is v s.vol a) (omega (arith, flipped-last rule i on s.vol, a.last_fits))
+    same_numbers u (base v) (flipped rule i on s.vol) q h' (flipped-next rule i on s.vol ∙ next-is v s.vol a) (omega (arith, flipped-last rule i on s.vol, a.last_fits))
 
 pub enable-on : (rule : ℕ) (on : Bool) (w : List ℕ) → OnStore (enable rule on) w
 unfolding call_on

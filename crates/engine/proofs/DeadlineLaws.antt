@@ -2,7 +2,6 @@
 use mathlib.Core.Path.{◌≡◌, refl, sym, ap, ◌∙◌}
 use mathlib.Core.List.{List, []}
 use Rattle.std.specs.Prelude.{⊤, Option, None, Some, Ok, MatchOption, option_map}
-use Rattle.std.specs.Borrow.{Bor}
 use Rattle.std.proofs.lemmas.Option.{none-some, same_Some}
 use Prim.Native.Nat.{ℕ}
 use Rattle.model.specs.Load.{image_refusal}
@@ -22,22 +21,22 @@ use Rattle.engine.proofs.WordLaws.{Said}
 use Rattle.engine.proofs.SetLaws.{loadable}
 use Rattle.engine.proofs.LoadedLaws.{none-given}
 
-pub accepted-if : (o : Option (Bor (List ℕ))) → MatchOption o ⊤ (λ img. image_refusal img.now ≡ 0) → AcceptedIf o
+pub accepted-if : (o : Option (List ℕ)) → MatchOption o ⊤ (λ img. image_refusal img ≡ 0) → AcceptedIf o
 accepted-if None a = tt
-accepted-if (Some img) a = (loadable img.now a).accepted
+accepted-if (Some img) a = (loadable img a).accepted
 
 -- the loaded set, by the words of its image
-record SetIs (o : Option (Bor (List ℕ))) (set : Option RuleSet) : Type 0 where
+record SetIs (o : Option (List ℕ)) (set : Option RuleSet) : Type 0 where
   flat : List (List FlatStep)
   is : set_if o flat ≡ set
 
-set_is : (o : Option (Bor (List ℕ))) (l : Option RuleSet) → option_map (λ (img : Bor (List ℕ)). img.now) o ≡ option_map (λ (set : RuleSet). set.image) l → SetIs o l
+set_is : (o : Option (List ℕ)) (l : Option RuleSet) → o ≡ option_map (λ (set : RuleSet). set.image) l → SetIs o l
 set_is None l h = record { flat = []; is = sym (none-given l h) }
-set_is (Some img) None h = absurd (none-some img.now (sym h))
-set_is (Some img) (Some set) h = record { flat = set.flat; is = ap (λ (x : List ℕ). Some (record { image = x; flat = set.flat })) (same_Some img.now set.image h) }
+set_is (Some img) None h = absurd (none-some img (sym h))
+set_is (Some img) (Some set) h = record { flat = set.flat; is = ap (λ (x : List ℕ). Some (record { image = x; flat = set.flat })) (same_Some img set.image h) }
 
-pub deadline-is : (s : Store) (o : Option (Bor (List ℕ))) (v : List ℕ) (last : ℕ) (t : Option ℕ)
-    → option_map (λ (img : Bor (List ℕ)). img.now) o ≡ option_map (λ (set : RuleSet). set.image) s.loaded → last ≡ s.now → AllNumbered v s.vol
+pub deadline-is : (s : Store) (o : Option (List ℕ)) (v : List ℕ) (last : ℕ) (t : Option ℕ)
+    → o ≡ option_map (λ (set : RuleSet). set.image) s.loaded → last ≡ s.now → AllNumbered v s.vol
     → ((flat : List (List FlatStep)) → t ≡ next_deadline (store_of o flat v last)) → t ≡ next_deadline s
 deadline-is s o v last t i l a h =
     let k = set_is o s.loaded i in

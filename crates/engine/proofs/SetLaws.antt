@@ -21,7 +21,7 @@ use Rattle.model.specs.Calls.{rest_with, rest_without}
 use Rattle.image.specs.Accepted.{Accepted}
 use Rattle.image.specs.Sized.{Sized}
 use Rattle.image.proofs.Accepted.{tables-accepted, few-accepted, rules-few, accepted, sized}
-use Rattle.state.specs.Meaning.{AllNumbered, Means, meaning, base}
+use Rattle.state.specs.Meaning.{Sound, AllNumbered, Means, meaning, base}
 use Rattle.state.specs.Named.{unset_rules}
 use Rattle.state.specs.Pending.{emptied}
 use Rattle.state.proofs.Follows.{follows}
@@ -100,7 +100,7 @@ module _ (img : List ℕ) (s : Store) (n : ℕ) where
         let m = meaning e in
         let same : with_rest (unset_rules n m.rest) m ≡ with_rest (rules_to 0 (unset_rules n m.rest)) m =
         λ i. with_rest (with_enabled (none-set (enabled_of img) false n i) (with_last_activation (none-set (activation_of img s) None n i) (with_cycle_pos (none-set (position_of img s) None n i) m.rest))) m in
-        record { says = subst (λ (x : model.Volatile). x ≡ with_rest (rules_to 0 x.rest) x) (sym h.says) same; sound = h.sound; based = refl }
+        record { says = subst (λ (x : model.Volatile). x ≡ with_rest (rules_to 0 x.rest) x) (sym h.says) same; based = refl }
 
     pub rules-go : (u w : List ℕ) (i : ℕ) → i < n → Means u (base v) (said (rules_to i (meaning v).rest))
         → Means w (base u) (with_rest (rule_of img s i (meaning u).rest) (meaning u)) → Means w (base v) (said (rules_to (i + 1) (meaning v).rest))
@@ -135,25 +135,25 @@ rule-put img s i v v₁ v₂ v₃ on a p e f g m₁ m₂ m₃ =
     (λ j. with_rest (with_enabled (set (meaning v).rest.enabled i (e j)) (with_last_activation (set (meaning v).rest.last_activation i (f j)) (with_cycle_pos (set (meaning v).rest.cycle_pos i (g j)) (meaning v).rest))) (meaning v)) l
 
 -- THE WHOLE ---------------------------------------------------------------------------------------------------------------------------------------
-pub set-taken : (img : List ℕ) (t : ℕ) (s : Store) (v v₁ v₂ v₃ : List ℕ) (old : List EverySlot) → AllNumbered v (meaning v) → s.vol ≡ meaning v
+pub set-taken : (img : List ℕ) (t : ℕ) (s : Store) (v v₁ v₂ v₃ : List ℕ) (old : List EverySlot) → Sound v₃ → AllNumbered v (meaning v) → s.vol ≡ meaning v
     → old ≡ (meaning v).rest.every
     → Means v₁ (base v) (with_rest (with_every (rebuild_every img old t) (meaning v).rest) (meaning v)) → Means v₂ (base v₁) (emptied (meaning v₁))
     → Means v₃ (base v₂) (with_rest (rules_of img s (meaning v₂).rest) (meaning v₂)) → AllNumbered v₃ (cleared (rest_with img t s) s.vol)
 unfolding rules_of rest_with bump_by
-set-taken img t s v v₁ v₂ v₃ old n q o m₁ m₂ m₃ =
+set-taken img t s v v₁ v₂ v₃ old y n q o m₁ m₂ m₃ =
     let k = follows emptied v₁ v₂ (base v) _ m₁ m₂ in
     let l = follows (λ (m : model.Volatile). with_rest (rules_of img s m.rest) m) v₂ v₃ (base v) _ k m₃ in
     let z : model.Volatile → List EverySlot → model.Volatile = λ (m : model.Volatile) (x : List EverySlot). with_rest (rules_of img s (emptied (with_rest (with_every (rebuild_every img x t) m.rest) m)).rest) (emptied (with_rest (with_every (rebuild_every img x t) m.rest) m)) in
     let r : Means v₃ (base v) (cleared (rest_with img t s) s.vol) = subst (Means v₃ (base v)) (ap (z (meaning v)) o ∙ ap (λ (m : model.Volatile). z m m.rest.every) (sym q)) l in
-    same_numbers v₃ (base v) (cleared (rest_with img t s) s.vol) r (ap (λ (m : model.Volatile). m.next) q ∙ next-is v (meaning v) n) (omega (arith, ap (λ (m : model.Volatile). m.last_number) q, n.last_fits))
+    same_numbers v₃ (base v) (cleared (rest_with img t s) s.vol) y r (ap (λ (m : model.Volatile). m.next) q ∙ next-is v (meaning v) n) (omega (arith, ap (λ (m : model.Volatile). m.last_number) q, n.last_fits))
 
-pub set-left : (s : Store) (v v₁ v₂ v₃ : List ℕ) → AllNumbered v (meaning v) → s.vol ≡ meaning v
+pub set-left : (s : Store) (v v₁ v₂ v₃ : List ℕ) → Sound v₃ → AllNumbered v (meaning v) → s.vol ≡ meaning v
     → Means v₁ (base v) (emptied (meaning v)) → Means v₂ (base v₁) (with_rest (with_every [] (meaning v₁).rest) (meaning v₁))
     → Means v₃ (base v₂) (with_rest (unset_rules 0 (meaning v₂).rest) (meaning v₂)) → AllNumbered v₃ (cleared (rest_without s) s.vol)
 unfolding rest_without bump_by
-set-left s v v₁ v₂ v₃ n q m₁ m₂ m₃ =
+set-left s v v₁ v₂ v₃ y n q m₁ m₂ m₃ =
     let k = follows (λ (m : model.Volatile). with_rest (with_every [] m.rest) m) v₁ v₂ (base v) _ m₁ m₂ in
     let l = follows (λ (m : model.Volatile). with_rest (unset_rules 0 m.rest) m) v₂ v₃ (base v) _ k m₃ in
     let z : model.Volatile → model.Volatile = λ (m : model.Volatile). with_rest (unset_rules 0 (with_every [] (emptied m).rest)) (emptied m) in
     let r : Means v₃ (base v) (cleared (rest_without s) s.vol) = subst (Means v₃ (base v)) (ap z (sym q)) l in
-    same_numbers v₃ (base v) (cleared (rest_without s) s.vol) r (ap (λ (m : model.Volatile). m.next) q ∙ next-is v (meaning v) n) (omega (arith, ap (λ (m : model.Volatile). m.last_number) q, n.last_fits))
+    same_numbers v₃ (base v) (cleared (rest_without s) s.vol) y r (ap (λ (m : model.Volatile). m.next) q ∙ next-is v (meaning v) n) (omega (arith, ap (λ (m : model.Volatile). m.last_number) q, n.last_fits))

@@ -7,14 +7,16 @@ ghost use Rattle.model.specs.Store.{read};
 ghost use Rattle.model.specs.Snapshot.{snapshot_refusal};
 ghost use Rattle.model.specs.World.{world_of};
 ghost use Rattle.model.specs.Calls.{rule_in, run_rule};
-ghost use Rattle.state.specs.Meaning.{Sound, AllNumbered, meaning};
+ghost use Rattle.state.specs.Meaning.{AllNumbered, meaning};
 ghost use Rattle.activate.specs.Carried.{carried};
 ghost use Rattle.activate.specs.Handled.{Continues, Room};
 ghost use Rattle.engine.specs.Handling.{begun, ran_in, ticked_in, Commits};
 
 use activate::{Handled, Mode};
 use counters::Counter;
+use image::layout::Image;
 use model::Refusal;
+use state::State;
 use store::checked::Checked;
 use store::set::image_in;
 
@@ -39,10 +41,10 @@ pub fn commit(
     outcomes: &mut [u32],
     effects: &mut [u32],
     time: u64,
-    v: &mut [u32],
+    v: &mut State,
     x: Handled,
 ) -> Result<Handled, Refusal>
-    requires { (present (read store.old) ≡ true) × Sound v.old }
+    requires { present (read store.old) ≡ true }
     ensures { Commits (carried v.old x) time store.old outcomes.old effects.old result store.new outcomes.new effects.new }
 {
     if outcomes.len() / activate::OUTCOME_WORDS < x.outcomes as usize {
@@ -64,8 +66,7 @@ pub fn commit(
 }
 
 // A wet run asks whether the rule is enabled, a dry one does not.
-fn starts(v: &[u32], i: u32, dry: bool) -> bool
-    requires { Sound v.now }
+fn starts(v: &State, i: u32, dry: bool) -> bool
     ensures { result ≡ (dry || is_enabled (meaning v.now).rest i) }
 {
     dry || state::rules::is_enabled(v, i as usize)
@@ -78,7 +79,7 @@ fn run_at(
     snapshot: &[u32],
     outcomes: &mut [u32],
     effects: &mut [u32],
-    v: &mut [u32],
+    v: &mut State,
     x: Handled,
     rule: u32,
     i: u32,
@@ -94,11 +95,11 @@ fn run_at(
     }
     let mode = if dry { Mode::Dry } else { Mode::Manual };
     let words = store.words();
-    let image = image_in(words);
+    let image = Image::new(image_in(words));
     let part = store::flat_part::rule_steps(words, i);
     let own = store::flat_part::rule_own(words, i);
     activate::activate(
-        snapshot, image, part, own, outcomes, effects, v, x, i, 0, mode,
+        snapshot, &image, part, own, outcomes, effects, v, x, i, 0, mode,
     )
 }
 
@@ -108,7 +109,7 @@ pub fn run_rule(
     snapshot: &[u32],
     outcomes: &mut [u32],
     effects: &mut [u32],
-    v: &mut [u32],
+    v: &mut State,
     rule: u32,
     dry: bool,
 ) -> Handled
@@ -127,7 +128,7 @@ pub fn service(
     snapshot: &[u32],
     outcomes: &mut [u32],
     effects: &mut [u32],
-    v: &mut [u32],
+    v: &mut State,
 ) -> Handled
     requires { (snapshot_refusal snapshot.now ≡ 0) × AllNumbered v.old store.now.vol }
     ensures { Continues (begun v.old) outcomes.old effects.old (ticked_in store.now.loaded snapshot.now (meaning v.old)) (carried v.new result) outcomes.new effects.new }
@@ -136,7 +137,7 @@ pub fn service(
         None => NOTHING,
         Some(image) => wheel::tick::service_tick(
             snapshot,
-            image,
+            &image,
             store.words(),
             outcomes,
             effects,

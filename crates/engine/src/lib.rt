@@ -14,9 +14,10 @@ ghost use Rattle.engine.specs.Asked.{next_start_on};
 
 use activate::Handled;
 use asked::{opened, opened_with};
+use image::layout::Image;
 use model::Refusal;
 use next::NextStart;
-use state::place::WORDS;
+use state::State;
 
 pub mod asked;
 mod handle;
@@ -41,8 +42,8 @@ pub fn load(store: &mut [u32], time: u64, image: &[u32]) -> Result<(), Refusal>
 {
     let checked = opened(store)?;
     load::refusal(image)?;
-    let mut v = [0u32; WORDS];
-    sets::with_set(&checked, image, time, &mut v);
+    let mut v = State::new();
+    sets::with_set(&checked, &Image::new(image), time, &mut v);
     store::put_set::put_loaded(store, image);
     store::volatile::put_state(store, &v);
     store::set::put_last(store, time);
@@ -54,7 +55,7 @@ pub fn unload(store: &mut [u32], time: u64) -> Result<(), Refusal>
     ensures { shown no_values result store.new [] [] ≡ seen (call_on (unload time) store.old) }
 {
     let checked = opened(store)?;
-    let mut v = [0u32; WORDS];
+    let mut v = State::new();
     sets::without_set(&checked, &mut v);
     store::set::put_unloaded(store);
     store::volatile::put_state(store, &v);
@@ -70,9 +71,10 @@ pub fn enable(store: &mut [u32], rule: u32, on: bool) -> Result<bool, Refusal>
     let Some(i) = checked.rule_in(rule) else {
         return Ok(false);
     };
-    let mut v = [0u32; WORDS];
+    let mut v = State::new();
     checked.begin(&mut v);
     state::rules::set_enabled(&mut v, rule, i as usize, on);
+    let _ = &v.words;
     store::volatile::put_state(store, &v);
     Ok(true)
 }
@@ -89,7 +91,7 @@ pub fn tick(
     lent_words::clear(outcomes);
     lent_words::clear(effects);
     let checked = opened_with(store, snapshot)?;
-    let mut v = [0u32; WORDS];
+    let mut v = State::new();
     checked.begin(&mut v);
     let x = handle::service(&checked, snapshot, outcomes, effects, &mut v);
     handle::commit(store, outcomes, effects, world::now_ms(snapshot), &mut v, x)
@@ -109,7 +111,7 @@ pub fn run(
     lent_words::clear(outcomes);
     lent_words::clear(effects);
     let checked = opened_with(store, snapshot)?;
-    let mut v = [0u32; WORDS];
+    let mut v = State::new();
     checked.begin(&mut v);
     let x = handle::run_rule(&checked, snapshot, outcomes, effects, &mut v, rule, dry);
     handle::commit(store, outcomes, effects, world::now_ms(snapshot), &mut v, x)

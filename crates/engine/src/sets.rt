@@ -5,25 +5,26 @@ ghost use Rattle.model.specs.Load.{image_refusal};
 ghost use Rattle.model.specs.State.{with_rest};
 ghost use Rattle.model.specs.Store.{rule_count};
 ghost use Rattle.model.specs.Calls.{kept, rest_with, rest_without};
-ghost use Rattle.state.specs.Meaning.{AllNumbered, Sound, Means, meaning, base, state_words};
+ghost use Rattle.state.specs.Meaning.{AllNumbered, Means, meaning, base};
 ghost use Rattle.engine.specs.Sets.{cleared, rule_of, rules_of};
 
 use every::kept::Slots;
-use image::layout::{Table, size_of};
+use image::layout::{Image, Table};
 use rows::row::Row;
+use state::State;
 use state::place::MAX_RULES;
 use store::checked::Checked;
 use store::table;
 
 // The state without a set.
-pub fn without_set(store: &Checked, v: &mut [u32])
-    requires { length v.old ≡ state_words }
+pub fn without_set(store: &Checked, v: &mut State)
     ensures { AllNumbered v.new (cleared (rest_without store.now) store.now.vol) }
 {
     store.begin(v);
     state::pending::drop_all(v);
     state::slots::drop_every(v);
     state::rules::unset_rules(v, 0);
+    let _ = &v.words;
 }
 
 // Where the store has what it keeps for the rule of a name; past the last rule where it has nothing.
@@ -37,14 +38,14 @@ fn old_place(store: &Checked, name: u32) -> usize
 }
 
 // Rule i of a set: its bit, and what the store keeps for its name.
-// kept: that load accepts the image is found once, by `load::refusal`, and said here alone; `Sound` is a fact of crate `state`, whose functions take the words `v`
-fn put_rule(store: &Checked, image: &[u32], i: u32, v: &mut [u32])
-    requires { (image_refusal image.now ≡ 0) × Sound v.old }
+// kept: that load accepts the image is found once, by `load::refusal`, and said here alone
+fn put_rule(store: &Checked, image: &Image, i: u32, v: &mut State)
+    requires { image_refusal image.now ≡ 0 }
     ensures { Means v.new (base v.old) (with_rest (rule_of image.now store.now i (meaning v.old).rest) (meaning v.old)) }
 {
     let words = store.words();
-    let k = old_place(store, image::rule::name_of(image, i));
-    let on = image::rule::enabled_of(image, i);
+    let k = old_place(store, image.name_of(i));
+    let on = image.enabled_of(i);
     let (activation, position) = store::volatile::kept_of_rule(words, k);
     state::rules::put_bit(v, i as usize, on);
     state::rules::put_last_activation(v, i as usize, activation);
@@ -52,11 +53,11 @@ fn put_rule(store: &Checked, image: &[u32], i: u32, v: &mut [u32])
 }
 
 // The rules of a set.
-fn put_rules(store: &Checked, image: &[u32], v: &mut [u32])
-    requires { (image_refusal image.now ≡ 0) × Sound v.old }
+fn put_rules(store: &Checked, image: &Image, v: &mut State)
+    requires { image_refusal image.now ≡ 0 }
     ensures { Means v.new (base v.old) (with_rest (rules_of image.now store.now (meaning v.old).rest) (meaning v.old)) }
 {
-    let n = size_of(image, Table::Rules);
+    let n = image.size_of(Table::Rules);
     state::rules::unset_rules(v, n as usize);
     for i in 0..n {
         put_rule(store, image, i, v);
@@ -64,8 +65,8 @@ fn put_rules(store: &Checked, image: &[u32], v: &mut [u32])
 }
 
 // The state with the set of an image that load accepts.
-pub fn with_set(store: &Checked, image: &[u32], time: u64, v: &mut [u32])
-    requires { (image_refusal image.now ≡ 0) × (length v.old ≡ state_words) }
+pub fn with_set(store: &Checked, image: &Image, time: u64, v: &mut State)
+    requires { image_refusal image.now ≡ 0 }
     ensures { AllNumbered v.new (cleared (rest_with image.now time store.now) store.now.vol) }
 {
     let words = store.words();
@@ -75,4 +76,5 @@ pub fn with_set(store: &Checked, image: &[u32], time: u64, v: &mut [u32])
     every::rebuild_every(image, &old, time, v);
     state::pending::drop_all(v);
     put_rules(store, image, v);
+    let _ = &v.words;
 }

@@ -23,7 +23,7 @@ fn next_from(store: &Checked, sun: Option<model::SunTimes>, t: u32) -> NextStart
     ensures { result ≡ next_of_set store.now.loaded store.now.vol.rest.enabled sun t }
 {
     match store.image() {
-        Some(image) => next::next_from(image, bits_in(store), sun, t),
+        Some(image) => next::next_from(&image, bits_in(store), sun, t),
         None => NextStart::NoStart,
     }
 }

@@ -4,7 +4,7 @@ ghost use Rattle.model.specs.Calls.{counters_of};
 ghost use Rattle.model.specs.Wheel.{next_deadline};
 
 use rows::row::Row;
-use state::place::WORDS;
+use state::State;
 use store::checked::Checked;
 use store::table;
 
@@ -12,7 +12,7 @@ use store::table;
 pub fn next_deadline(store: &Checked) -> Option<u64>
     ensures { result ≡ next_deadline store.now }
 {
-    let mut v = [0u32; WORDS];
+    let mut v = State::new();
     store.begin(&mut v);
     wheel::deadline::next_deadline(store.image(), &v, store.last_at())
 }

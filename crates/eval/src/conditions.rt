@@ -12,7 +12,7 @@ use crate::world_conditions::{
     input_occupancy, lamp_cct_is, lamp_is, lamp_level_is, sun_is, time_in_range,
 };
 use image::layout::Table;
-use image::record::{condition_of, record_at};
+use image::record::condition_of;
 use model::Condition;
 
 // One arm for each kind.
@@ -82,7 +82,7 @@ pub fn eval_condition(env: &Env, condition: Condition) -> Option<bool>
 pub fn condition_at(env: &Env, i: u32) -> Option<bool>
     ensures { ConditionAt env.now i result }
 {
-    let condition = condition_of(record_at(env.image, Table::Conditions, i));
+    let condition = condition_of(env.image.record_at(Table::Conditions, i));
     eval_condition(env, condition)
 }
 
@@ -92,9 +92,9 @@ pub fn conditions_hold(env: &Env, rule: u32) -> Option<bool>
     requires { Accepted env.now.image.now × (rule < size_of env.now.image.now rules) }
     ensures { RuleHolds env.now rule result }
 {
-    let n = image::rule::condition_count(env.image, rule);
+    let n = env.image.condition_count(rule);
     for k in 0..n {
-        let condition = image::rule::condition_at(env.image, rule, k);
+        let condition = env.image.condition_at(rule, k);
         let holds = eval_condition(env, condition)?;
         if !holds {
             return Some(false);

@@ -2,9 +2,6 @@
 // the specification's own option: `None` is Rust's `Err(Unevaluable)`.
 #![tactic(auto)]
 
-ghost use Rattle.image.specs.Sized.{Sized};
-ghost use Rattle.state.specs.Meaning.{Sound};
-
 mod compare;
 pub mod conditions;
 mod state_conditions;
@@ -12,13 +9,13 @@ pub mod time;
 pub mod values;
 mod world_conditions;
 
-// What conditions and values are evaluated in: the words of the snapshot, of the image and of the state.
+use image::layout::Image;
+use state::State;
+
+// What conditions and values are evaluated in: the words of the snapshot, those of the image, and the state.
 #[derive(Clone, Copy)]
 pub struct Env<'a> {
     pub snapshot: &'a [u32],
-    pub image: &'a [u32],
-    pub state: &'a [u32],
-
-    ghost sized: { Sized image.now },
-    ghost sound: { ∥ Sound state.now ∥₁ },
+    pub image: &'a Image<'a>,
+    pub state: &'a State,
 }

@@ -9,20 +9,20 @@ use crate::values::value_at;
 use model::VarValue;
 
 // False for a rule that is not loaded.
-#[tactic(auto, using(crate::proofs::Kept::open_sound), unfolding(model::specs::Eval::eval_condition))]
+#[tactic(auto, unfolding(model::specs::Eval::eval_condition))]
 pub fn rule_enabled(env: &Env, rule: u32) -> Option<bool>
     ensures { Evaluates env.now (condition.RuleEnabled rule) result }
 {
-    let place = image::rule::rule_named(env.image, rule);
+    let place = env.image.rule_named(rule);
     Some(place.is_some_and(|i| state::rules::is_enabled(env.state, i as usize)))
 }
 
 // True for a rule that is not loaded, and for one that never fired.
-#[tactic(auto, using(crate::proofs::Kept::open_sound), unfolding(words::specs::Saturating::saturating_sub, model::specs::Eval::last_fired_older, model::specs::Eval::eval_condition))]
+#[tactic(auto, unfolding(words::specs::Saturating::saturating_sub, model::specs::Eval::last_fired_older, model::specs::Eval::eval_condition))]
 pub fn last_fired_older_than(env: &Env, rule: u32, ms: u32) -> Option<bool>
     ensures { Evaluates env.now (condition.LastFiredOlderThan rule ms) result }
 {
-    let Some(i) = image::rule::rule_named(env.image, rule) else {
+    let Some(i) = env.image.rule_named(rule) else {
         return Some(true);
     };
     let last = state::rules::last_activation(env.state, i as usize);
@@ -30,7 +30,7 @@ pub fn last_fired_older_than(env: &Env, rule: u32, ms: u32) -> Option<bool>
     Some(last.is_none_or(|at| u64::from(ms) < now.saturating_sub(at)))
 }
 
-#[tactic(auto, using(crate::proofs::Kept::open_sound), unfolding(model::specs::Eval::eval_condition))]
+#[tactic(auto, unfolding(model::specs::Eval::eval_condition))]
 pub fn timer_running(env: &Env, timer: u32) -> Option<bool>
     ensures { Evaluates env.now (condition.TimerRunning timer) result }
 {
@@ -39,7 +39,7 @@ pub fn timer_running(env: &Env, timer: u32) -> Option<bool>
 
 // An integer is compared with a value (tag 0), a text with a text (tag 1). Any other pairing differs, and so does a variable that is
 // not there.
-#[tactic(auto, using(crate::proofs::Kept::open_sound), unfolding(model::specs::Eval::eval_condition))]
+#[tactic(auto, unfolding(model::specs::Eval::eval_condition))]
 pub fn compare_var(env: &Env, name: u32, cmp: u32, tag: u32, operand: u32) -> Option<bool>
     ensures { Evaluates env.now (condition.VarCompare name cmp tag operand) result }
 {

@@ -2,11 +2,10 @@
 ghost use Rattle.std.specs.Prelude.{◌≡◌};
 ghost use Rattle.model.specs.Arith.{has_day};
 ghost use Rattle.model.specs.Eval.{solar_of, minute_in_range};
-ghost use Rattle.image.specs.Sized.{Sized};
 ghost use Rattle.eval.specs.Equals.{SunIsUp, Resolves, BoundAt};
 
-use image::layout::Table;
-use image::record::{bound_of, record_at};
+use image::layout::{Image, Table};
+use image::record::bound_of;
 use model::{SunTimes, TimeBound};
 
 // From sunrise on, and before sunset.
@@ -67,10 +66,9 @@ pub fn resolve_time_bound(snapshot: &[u32], bound: TimeBound) -> Option<u64>
 }
 
 // Time bound i of the image.
-pub fn bound_at(snapshot: &[u32], image: &[u32], i: u32) -> Option<u64>
-    requires { Sized image.now }
+pub fn bound_at(snapshot: &[u32], image: &Image, i: u32) -> Option<u64>
     ensures { BoundAt snapshot.now image.now i result }
 {
-    let bound = bound_of(record_at(image, Table::Bounds, i));
+    let bound = bound_of(image.record_at(Table::Bounds, i));
     resolve_time_bound(snapshot, bound)
 }

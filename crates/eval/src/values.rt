@@ -1,14 +1,15 @@
 // Readings and values.
 ghost use Rattle.std.specs.Prelude.{◌≡◌};
 ghost use Rattle.model.specs.Eval.{number};
-ghost use Rattle.state.specs.Meaning.{Sound, meaning};
+ghost use Rattle.state.specs.Meaning.{meaning};
 ghost use Rattle.eval.specs.Equals.{ReadsIn, ValueIn, ValueAt};
 
 use crate::Env;
 use crate::time::sun_is_up;
 use image::layout::Table;
-use image::record::{record_at, value_of};
+use image::record::value_of;
 use model::{Reading, Value, VarValue};
+use state::State;
 
 // A word that may be missing, as a number.
 fn number(w: Option<u32>) -> Option<i64>
@@ -20,8 +21,7 @@ fn number(w: Option<u32>) -> Option<i64>
 // No event stands behind these calls.
 // kept: one match over the kinds, which closures would hide
 #[tactic(auto, unfolding(model::specs::Eval::eval_reading))]
-pub fn eval_reading(snapshot: &[u32], v: &[u32], reading: Reading) -> Option<i64>
-    requires { Sound v.now }
+pub fn eval_reading(snapshot: &[u32], v: &State, reading: Reading) -> Option<i64>
     ensures { ReadsIn snapshot.now (meaning v.now).rest reading result }
 {
     match reading {
@@ -59,8 +59,7 @@ pub fn eval_reading(snapshot: &[u32], v: &[u32], reading: Reading) -> Option<i64
 }
 
 #[tactic(auto, unfolding(model::specs::Eval::eval_value, words::specs::Signed::clamped))]
-pub fn eval_value(snapshot: &[u32], v: &[u32], value: Value) -> Option<i64>
-    requires { Sound v.now }
+pub fn eval_value(snapshot: &[u32], v: &State, value: Value) -> Option<i64>
     ensures { ValueIn snapshot.now (meaning v.now).rest value result }
 {
     match value {
@@ -75,10 +74,9 @@ pub fn eval_value(snapshot: &[u32], v: &[u32], value: Value) -> Option<i64>
 }
 
 // Value i of the image.
-#[tactic(auto, using(crate::proofs::Kept::open_sound))]
 pub fn value_at(env: &Env, i: u32) -> Option<i64>
     ensures { ValueAt env.now i result }
 {
-    let value = value_of(record_at(env.image, Table::Values, i));
+    let value = value_of(env.image.record_at(Table::Values, i));
     eval_value(env.snapshot, env.state, value)
 }

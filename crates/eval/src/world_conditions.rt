@@ -64,7 +64,7 @@ pub fn lamp_level_is(env: &Env, adapter: u32, id: u32, cmp: u32, value: u32) -> 
     level_is(env, cmp, lamp.level, value)
 }
 
-#[tactic(auto, using(crate::proofs::Kept::open_sound), unfolding(model::specs::Eval::eval_condition))]
+#[tactic(auto, unfolding(model::specs::Eval::eval_condition))]
 pub fn lamp_cct_is(env: &Env, adapter: u32, id: u32, cmp: u32, value: u32) -> Option<bool>
     ensures { Evaluates env.now (condition.LampCct adapter id cmp value) result }
 {
@@ -101,7 +101,7 @@ pub fn input_occupancy(
 }
 
 // Above is Gt, below Lt.
-#[tactic(auto, using(crate::proofs::Kept::open_sound), unfolding(model::specs::Eval::eval_condition))]
+#[tactic(auto, unfolding(model::specs::Eval::eval_condition))]
 pub fn input_light_is(
     env: &Env,
     adapter: u32,

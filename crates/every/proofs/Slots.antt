@@ -18,10 +18,10 @@ use Rattle.model.specs.Slots.{slots_from}
 use Rattle.model.specs.State.{Volatile, with_rest, with_every}
 use Rattle.model.proofs.PartsLaws.{slot_laws}
 use Rattle.rows.specs.Places.{table_at}
-use Rattle.state.specs.Meaning.{Holds, Counted, Means, meaning, base, slots_part, place_of, words_in}
+use Rattle.state.specs.Meaning.{Sound, Holds, Counted, Means, meaning, base, slots_part, place_of, words_in}
 use Rattle.state.proofs.Typed.{holds-get, holds-count}
 use Rattle.state.proofs.EverySlots.{slots-hold, slots-back}
-use Rattle.state.proofs.Follows.{follows}
+use Rattle.state.proofs.Follows.{follows, means}
 use Rattle.every.specs.Joined.{HasRoom, Joined}
 
 -- SLOTS THAT JOIN ------------------------------------------------------------------------------------------------------------------------------
@@ -119,10 +119,13 @@ no_table w k = refl
 
 -- THE SLOTS OF A STATE -------------------------------------------------------------------------------------------------------------------------
 -- none is left, and others join
-module _ (v v₁ : List ℕ) (m : Means v₁ (base v) (with_rest (with_every [] (meaning v).rest) (meaning v))) where
+module _ (v v₁ : List ℕ) (s₁ : Sound v₁) (m : Means v₁ (base v) (with_rest (with_every [] (meaning v).rest) (meaning v))) where
   pub slots-empty : Holds 64 slot_row (take (words_in slots_part) (drop (place_of slots_part) v₁)) []
-  slots-empty = subst (Holds 64 slot_row _) (ap (λ (x : Volatile). x.rest.every) m.says) (slots-hold v₁ m.sound)
+  slots-empty = subst (Holds 64 slot_row _) (ap (λ (x : Volatile). x.rest.every) m.says) (slots-hold v₁ s₁)
 
-  pub slots-anew : (p : List ℕ) (l : List EverySlot) → Holds 64 slot_row p l
-      → Means (put_mid (place_of slots_part) (words_in slots_part) v₁ p) (base v) (with_rest (with_every l (meaning v).rest) (meaning v))
-  slots-anew p l h = follows (λ (x : Volatile). with_rest (with_every l x.rest) x) v₁ _ (base v) _ m (slots-back v₁ m.sound p l h)
+  module _ (p : List ℕ) (l : List EverySlot) (h : Holds 64 slot_row p l) where
+    pub slots-sound : Sound (put_mid (place_of slots_part) (words_in slots_part) v₁ p)
+    slots-sound = (slots-back v₁ s₁ p l h).sound
+
+    pub slots-anew : Means (put_mid (place_of slots_part) (words_in slots_part) v₁ p) (base v) (with_rest (with_every l (meaning v).rest) (meaning v))
+    slots-anew = follows (λ (x : Volatile). with_rest (with_every l x.rest) x) v₁ _ (base v) _ m (means (slots-back v₁ s₁ p l h))

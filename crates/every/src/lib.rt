@@ -11,23 +11,22 @@ ghost use Rattle.model.specs.State.{with_rest, with_every};
 ghost use Rattle.model.specs.Store.{same_slots};
 ghost use Rattle.model.specs.declared.Trigger.TheVariants.{Every};
 ghost use Rattle.image.specs.Accepted.{Accepted};
-ghost use Rattle.state.specs.Meaning.{Sound, Means, Holds, meaning, base};
+ghost use Rattle.state.specs.Meaning.{Means, Holds, meaning, base};
 ghost use Rattle.every.specs.Facts.{accepted-prop};
 ghost use Rattle.every.specs.Joined.{HasRoom, Joined};
 
 pub mod kept;
 
-use image::layout::{Table, size_of};
-use image::order::name_order;
-use image::rule::{name_of, trigger_at, trigger_count};
+use image::layout::{Image, Table};
 use kept::{Key, Slots};
 use model::{EverySlot, Trigger};
+use state::State;
 use state::place::{PENDING, SLOTS};
 
 // The words of an image that load accepts, of at most as many slots as there is room for.
 #[derive(Clone, Copy)]
 struct Loadable<'a> {
-    image: &'a [u32],
+    image: &'a Image<'a>,
 
     ghost accepted: { Accepted image.now } by { accepted-prop _ },
     ghost few: { few_enough image.now ≡ true },
@@ -72,9 +71,9 @@ impl Loadable<'_> {
         requires has_room { HasRoom t.old (slots_from old.now time (name_of self.now.image.now i) 0 (triggers_of self.now.image.now i)) }
         ensures { Joined t.old (slots_from old.now time (name_of self.now.image.now i) 0 (triggers_of self.now.image.now i)) t.new }
     {
-        let rule = name_of(self.image, i);
-        for p in 0..trigger_count(self.image, i) {
-            let trigger = trigger_at(self.image, i, p);
+        let rule = self.image.name_of(i);
+        for p in 0..self.image.trigger_count(i) {
+            let trigger = self.image.trigger_at(i, p);
             join_slot(old, time, rule, p, trigger, t);
         }
     }
@@ -84,8 +83,8 @@ impl Loadable<'_> {
         requires { Holds 64 slot_row t.old [] }
         ensures { Holds 64 slot_row t.new (rebuild_every self.now.image.now old.now time) }
     {
-        let order = name_order(self.image);
-        for p in 0..size_of(self.image, Table::Rules) {
+        let order = self.image.name_order();
+        for p in 0..self.image.size_of(Table::Rules) {
             let i = order[p as usize];
             self.join_rule(i, old, time, t);
         }
@@ -93,17 +92,16 @@ impl Loadable<'_> {
 }
 
 // The slots of a state become those of an image's rules: one of the old slots keeps its due time.
-pub fn rebuild_every(image: &[u32], old: &Slots, time: u64, v: &mut [u32])
-    requires accepted { Accepted image.now × (few_enough image.now ≡ true) }
-    requires sound { Sound v.old }
+pub fn rebuild_every(image: &Image, old: &Slots, time: u64, v: &mut State)
+    requires { Accepted image.now × (few_enough image.now ≡ true) }
     ensures { Means v.new (base v.old) (with_rest (with_every (rebuild_every image.now old.now time) (meaning v.old).rest) (meaning v.old)) }
 {
     state::slots::drop_every(v);
-    Loadable { image }.join_all(old, time, &mut v[SLOTS..PENDING]);
+    Loadable { image }.join_all(old, time, &mut v.words[SLOTS..PENDING]);
 }
 
 // Whether these slots are those of an image's rules, by name and then by place, whatever their due times.
-pub fn same_slots(slots: &Slots, image: &[u32]) -> bool
+pub fn same_slots(slots: &Slots, image: &Image) -> bool
     requires { Accepted image.now × (few_enough image.now ≡ true) }
     ensures { result ≡ same_slots slots.now (rebuild_every image.now [] 0) }
 {

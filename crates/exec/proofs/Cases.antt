@@ -3,7 +3,7 @@
 use Prim.Native.Nat.{ℕ, ◌≤◌, ◌<◌, ◌^◌}
 use native.Mathlib.Omega.{arith}
 use mathlib.Core.Path.{◌≡◌, refl, ap, ◌∙◌}
-use Rattle.std.specs.Prelude.{Option, Some}
+use Rattle.std.specs.Prelude.{None, Option, Some}
 use lib.IntN.{ℤ, pos, negsuc, nat_abs}
 use Rattle.std.specs.Int.{FitsUnsignedBits}
 use native.Mathlib.Decide.{dec_le}
@@ -42,6 +42,9 @@ module _ (e : Env) (j : Job) (s : Rest) where
         (x : VarValue) (m : ℕ) (y z : ℤ) (n : ℕ) → held ≡ Some x → x ≡ Int m → y ≡ signed64 m → z ≡ saturating_add_i64 y step → n ≡ bits64 z
         → var_set e j s name (Int n) ≡ var_add e j s name (Some step) held
     add-integer x m y z n h k p q b = rw (h, k, b, q, p)
+
+    pub add-first : (n : ℕ) → held ≡ None → n ≡ bits64 step → var_set e j s name (Int n) ≡ var_add e j s name (Some step) held
+    add-first n h b = rw (h, b)
 
   -- from 0 to the group limit
   module _ (adapter group limit : ℕ) (y : ℤ) (o : Option ℤ) (read : Some y ≡ o) (l : limit ≡ group_limit e.set.image) where

@@ -22,7 +22,7 @@ use Rattle.model.specs.declared.Point.{Point}
 use Rattle.model.specs.declared.Step.{Step}
 use Rattle.model.specs.declared.Step.TheVariants.{Primitive, Wait, Branch, After, Fail}
 use Rattle.flat.specs.Words.{Says}
-use Rattle.state.specs.Meaning.{Sound, Means, meaning, base, accepted}
+use Rattle.state.specs.Meaning.{Means, meaning, base, accepted}
 use Rattle.state.specs.Reasons.{reason_number}
 use Rattle.eval.specs.Answers.{env_of}
 use Rattle.exec.specs.Results.{job_of}
@@ -190,7 +190,6 @@ pub record GoingDry (snapshot image part : List ℕ) (own : ℕ) (job : Job) (bu
   pub says :
       (flat : List (List FlatStep)) → Says part own (get_or flat job.index [])
       → left_dry left (env_of snapshot image flat) (job_of job) (dry_machine v point ns run w) ≡ left_dry budget (env_of snapshot image flat) (job_of job) from
-  pub sound : Sound v
   pub based : base v ≡ base v₀
   pub accepts : accepted v ≡ accepted v₀
   pub grows : from.count ≤ run.count
@@ -205,20 +204,19 @@ module _ (snapshot image part : List ℕ) (own : ℕ) (job : Job) (budget : ℕ)
 
   -- what a whole run comes to
   runs :
-      (v : List ℕ) (r : RunResult) (w : List ℕ) → Sound v → base v ≡ base v₀ → accepted v ≡ accepted v₀ → count ≤ r.count → r.count ≤ count + budget → (meaning v).last_number ≡ (meaning v₀).last_number
+      (v : List ℕ) (r : RunResult) (w : List ℕ) → base v ≡ base v₀ → accepted v ≡ accepted v₀ → count ≤ r.count → r.count ≤ count + budget → (meaning v).last_number ≡ (meaning v₀).last_number
       → ((flat : List (List FlatStep)) → Says part own (get_or flat job.index []) → finished v r w ≡ left_dry budget (env_of snapshot image flat) (job_of job) from)
       → RunsDry snapshot image part own job v₀ start budget count w₀ (run_done v r) w
   unfolding finish_dry
-  runs v r w s b a g n l h =
+  runs v r w b a g n l h =
       record {
         says = λ flat e.
             let f = h flat e in (
-              record { says = ap (λ (x : Finished). x.vol) f; sound = s; based = b },
+              record { says = ap (λ (x : Finished). x.vol) f; based = b },
               ap (λ (x : Finished). x.reason) f,
               ap (λ (x : Finished). x.count) f,
               ap (λ (x : Finished). x.words) f,
             );
-        sound = s;
         based = b;
         accepted = a;
         grows = g;
@@ -232,7 +230,7 @@ module _ (snapshot image part : List ℕ) (own : ℕ) (job : Job) (budget : ℕ)
     where
       pub runs-past : o ≡ None → RunsDry snapshot image part own job v₀ start budget count w₀ (run_done v run) w
       runs-past h =
-          runs v run w inv.sound inv.based inv.accepts inv.grows (omega (arith, inv.counts)) inv.last
+          runs v run w inv.based inv.accepts inv.grows (omega (arith, inv.counts)) inv.last
           (λ flat s.
           let e = env_of snapshot image flat in
           ap (λ (n : ℕ). record { vol = meaning v; reason = n; count = run.count; words = w }) (sym (reason-none (reason_number run.reason)))
@@ -242,7 +240,7 @@ module _ (snapshot image part : List ℕ) (own : ℕ) (job : Job) (budget : ℕ)
       pub runs-spent : (r : RunResult) → left ≤ 0 → reason_number r.reason ≡ first_reason (reason_number run.reason) (unpaid o) → r.count ≡ run.count
           → RunsDry snapshot image part own job v₀ start budget count w₀ (run_done v r) w
       runs-spent r z n c =
-          runs v r w inv.sound inv.based inv.accepts (omega (arith, inv.grows, c)) (omega (arith, inv.counts, c)) inv.last
+          runs v r w inv.based inv.accepts (omega (arith, inv.grows, c)) (omega (arith, inv.counts, c)) inv.last
           (λ flat s.
           let e = env_of snapshot image flat in
           let m = dry_machine v point ns run w in
@@ -267,7 +265,6 @@ module _ (snapshot image part : List ℕ) (own : ℕ) (job : Job) (budget : ℕ)
                 ∙ goes e (job_of job) m (left - 1) x q (bodies_of rs) (moves.says e (job_of job) s ∙ ap (λ (y : Option Step). found y q (bodies_of rs) None) h)
                 ∙ ap (λ (b : ℕ). left_dry b e (job_of job) m) one
                 ∙ inv.says flat s;
-            sound = (steps [] []).state.sound;
             based = (steps [] []).state.based ∙ inv.based;
             accepts = same-accepted v v' _ (steps [] []).state ∙ inv.accepts;
             grows = omega (arith, taken.count, inv.grows);

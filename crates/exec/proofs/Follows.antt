@@ -12,7 +12,7 @@ use Rattle.model.specs.State as model-state
 use Rattle.model.specs.Calls.{flipped}
 use Rattle.model.specs.State.{Rest, with_rest, with_enabled, add_timer, with_vars, put_var}
 use Rattle.model.specs.declared.VarValue.{VarValue}
-use Rattle.state.specs.Meaning.{Sound, Means, meaning, base}
+use Rattle.state.specs.Meaning.{Means, meaning, base}
 use Rattle.state.specs.Named.{armed, assigned, lacks_room}
 use Rattle.exec.specs.Results.{Does, struck}
 use Rattle.exec.specs.Done.{ActionDone, action_done}
@@ -21,8 +21,8 @@ pub answers : {v : List ℕ} {r : ActionDone} {a b : model.PrimResult} → Does 
 answers {v} {r} d e = subst (λ (x : model.PrimResult). Does v r x) e d
 
 -- an action that does nothing
-pub does-nothing : {v : List ℕ} → Sound v → Does v (action_done v (Ok None)) (model.no_effect (meaning v).rest)
-does-nothing s = record { state = record { says = refl; sound = s; based = refl }; effect = refl; reason = refl }
+pub does-nothing : {v : List ℕ} → Does v (action_done v (Ok None)) (model.no_effect (meaning v).rest)
+does-nothing = record { state = record { says = refl; based = refl }; effect = refl; reason = refl }
 
 -- w has the rest s in place of v's: what is answered of w is answered of v
 pub follows :

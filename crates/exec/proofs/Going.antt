@@ -20,7 +20,7 @@ use Rattle.model.specs.Steps.{FlatStep}
 use Rattle.model.specs.declared.Point.{Point}
 use Rattle.model.specs.declared.Step.{Step}
 use Rattle.flat.specs.Words.{Says}
-use Rattle.state.specs.Meaning.{Sound, meaning, base, accepted}
+use Rattle.state.specs.Meaning.{meaning, base, accepted}
 use Rattle.state.specs.Reasons.{reason_number}
 use Rattle.eval.specs.Answers.{env_of}
 use Rattle.exec.specs.Results.{job_of}
@@ -138,7 +138,6 @@ pub record Going (snapshot image part : List ℕ) (own : ℕ) (job : Job) (budge
   pub says :
       (flat : List (List FlatStep)) → Says part own (get_or flat job.index [])
       → left_of left (env_of snapshot image flat) (job_of job) (machine v point run w) ≡ left_of budget (env_of snapshot image flat) (job_of job) from
-  pub sound : Sound v
   pub based : base v ≡ base v₀
   pub accepts : accepted v + left ≤ accepted v₀ + budget
   pub grows : from.count ≤ run.count
@@ -152,20 +151,19 @@ module _ (snapshot image part : List ℕ) (own : ℕ) (job : Job) (budget : ℕ)
 
   -- what a whole run comes to
   runs :
-      (v : List ℕ) (r : RunResult) (w : List ℕ) → Sound v → base v ≡ base v₀ → accepted v ≤ accepted v₀ + budget → count ≤ r.count → r.count ≤ count + budget → (meaning v).last_number ≡ (meaning v₀).last_number
+      (v : List ℕ) (r : RunResult) (w : List ℕ) → base v ≡ base v₀ → accepted v ≤ accepted v₀ + budget → count ≤ r.count → r.count ≤ count + budget → (meaning v).last_number ≡ (meaning v₀).last_number
       → ((flat : List (List FlatStep)) → Says part own (get_or flat job.index []) → finished v r w ≡ left_of budget (env_of snapshot image flat) (job_of job) from)
       → Runs snapshot image part own job v₀ start budget count w₀ (run_done v r) w
   unfolding finish
-  runs v r w s b a g n l h =
+  runs v r w b a g n l h =
       record {
         says = λ flat e.
             let f = h flat e in (
-              record { says = ap (λ (x : Finished). x.vol) f; sound = s; based = b },
+              record { says = ap (λ (x : Finished). x.vol) f; based = b },
               ap (λ (x : Finished). x.reason) f,
               ap (λ (x : Finished). x.count) f,
               ap (λ (x : Finished). x.words) f,
             );
-        sound = s;
         based = b;
         accepted = a;
         grows = g;
@@ -176,7 +174,7 @@ module _ (snapshot image part : List ℕ) (own : ℕ) (job : Job) (budget : ℕ)
   module _ (v : List ℕ) (point : Point) (run : RunResult) (w : List ℕ) (left : ℕ) (inv : Going snapshot image part own job budget from v₀ v point run w left) where
     pub runs-past : None ≡ step_in part own point → Runs snapshot image part own job v₀ start budget count w₀ (run_done v run) w
     runs-past h =
-        runs v run w inv.sound inv.based (omega (arith, inv.accepts)) inv.grows (omega (arith, inv.counts)) inv.last
+        runs v run w inv.based (omega (arith, inv.accepts)) inv.grows (omega (arith, inv.counts)) inv.last
         (λ flat s.
         let e = env_of snapshot image flat in
         ap (λ (n : ℕ). record { vol = meaning v; reason = n; count = run.count; words = w }) (sym (reason-none (reason_number run.reason)))
@@ -186,7 +184,7 @@ module _ (snapshot image part : List ℕ) (own : ℕ) (job : Job) (budget : ℕ)
     pub runs-spent : (reason : Option Step) (r : RunResult) → left ≤ 0 → reason ≡ step_in part own point → reason_number r.reason ≡ first_reason (reason_number run.reason) (unpaid reason) → r.count ≡ run.count
         → Runs snapshot image part own job v₀ start budget count w₀ (run_done v r) w
     runs-spent o r z h n c =
-        runs v r w inv.sound inv.based (omega (arith, inv.accepts)) (omega (arith, inv.grows, c)) (omega (arith, inv.counts, c)) inv.last
+        runs v r w inv.based (omega (arith, inv.accepts)) (omega (arith, inv.grows, c)) (omega (arith, inv.counts, c)) inv.last
         (λ flat s.
         let e = env_of snapshot image flat in
         let none_left : 0 ≡ left = omega arith in
@@ -220,7 +218,7 @@ module _ (snapshot image part : List ℕ) (own : ℕ) (job : Job) (budget : ℕ)
 
         pub runs-ended : None ≡ d.next → Runs snapshot image part own job v₀ start budget count w₀ (run_done v' r) exit
         runs-ended h =
-            runs v' r exit (steps []).state.sound stays (omega (arith, accepts, inv.accepts)) grows (omega (arith, counts, inv.counts)) last
+            runs v' r exit stays (omega (arith, accepts, inv.accepts)) grows (omega (arith, counts, inv.counts)) last
             (λ flat s.
             let e = env_of snapshot image flat in
             let m = machine v point run w in
@@ -240,7 +238,6 @@ module _ (snapshot image part : List ℕ) (own : ℕ) (job : Job) (budget : ℕ)
                   ∙ goes e (job_of job) m (left - 1) x (here ∙ is-step part own point e (job_of job) s) p (h ∙ (steps flat).next)
                   ∙ ap (λ (b : ℕ). left_of b e (job_of job) m) one
                   ∙ inv.says flat s;
-              sound = (steps []).state.sound;
               based = stays;
               accepts = omega (arith, accepts, inv.accepts);
               grows = grows;

@@ -10,7 +10,7 @@ use Rattle.model.specs.declared.Point.{Point}
 use Rattle.model.specs.declared.Step.{Step}
 use Rattle.model.specs.declared.Step.TheVariants.{Primitive, Wait, Branch, After, Fail}
 use Rattle.flat.specs.Words.{Says}
-use Rattle.state.specs.Meaning.{Sound, Means, meaning, base, accepted}
+use Rattle.state.specs.Meaning.{Means, meaning, base, accepted}
 use Rattle.eval.specs.Answers.{env_of}
 use Rattle.lent_words.specs.PutEffects.{put_effects}
 use Rattle.exec.specs.Results.{job_of}
@@ -56,9 +56,8 @@ pub record Moves (part : List ℕ) (own : ℕ) (p : Point) (ns : List ℕ) (q : 
   pub near : IsNear q x
   pub most : length rs ≤ length ns
 
--- a sound state, a budget that the queue has room for, and room to count
+-- a budget that the queue has room for, and room to count
 pub record DryReady (v : List ℕ) (budget count : ℕ) : Type 0 where
-  pub sound : Sound v
   pub most : budget ≤ 256
   pub counts : count + budget ≤ max32
 
@@ -67,7 +66,6 @@ pub record RunsDry (snapshot image part : List ℕ) (own : ℕ) (job : Job) (v :
       (flat : List (List FlatStep)) → Says part own (get_or flat job.index [])
       → let o = model.run_steps_dry budget (env_of snapshot image flat) (job_of job) from [] (meaning v).rest in
       Means r.vol (base v) (with_rest o.rest (meaning v)) × (r.reason ≡ o.reason) × (r.count ≡ count + length o.effects) × (exit ≡ put_effects words count o.effects)
-  pub sound : Sound r.vol
   pub based : base r.vol ≡ base v
   pub accepted : accepted r.vol ≡ accepted v
   pub grows : count ≤ r.count

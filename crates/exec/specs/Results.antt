@@ -9,7 +9,7 @@ use Rattle.model.specs.Steps.{FlatStep}
 use Rattle.model.specs.declared.VarValue.{VarValue}
 use Rattle.model.specs.Eval.{value_at}
 use Rattle.model.specs.Rules.{rule_named}
-use Rattle.state.specs.Meaning.{Sound, Means, meaning, base}
+use Rattle.state.specs.Meaning.{Means, meaning, base}
 use Rattle.eval.specs.Answers.{env_of}
 use Rattle.exec.specs.declared.Job.{Job}
 use Rattle.exec.specs.Done.{PrimResult, ActionDone, action_done}
@@ -30,7 +30,7 @@ pub record Does (v : List ℕ) (r : ActionDone) (a : model.PrimResult) : Type 0 
 
 -- the state stays as it is, and the answer is the specification's
 abbrev pub AnswersOnly : (Rest → model.PrimResult) → PrimResult → Type 0
-AnswersOnly f r = (v : List ℕ) → Sound v → Does v (action_done v r) (f (meaning v).rest)
+AnswersOnly f r = (v : List ℕ) → Does v (action_done v r) (f (meaning v).rest)
 
 -- an action, in every environment; and in every environment of a snapshot and an image
 abbrev pub Performs : Job → List ℕ → Action → ActionDone → Type 0

@@ -6,7 +6,7 @@ use Rattle.model.specs.Lists.{to_list}
 use Rattle.model.specs.Steps.{FlatStep}
 use Rattle.model.specs.declared.Point.{Point}
 use Rattle.flat.specs.Words.{Says}
-use Rattle.state.specs.Meaning.{Sound, Means, meaning, base, accepted}
+use Rattle.state.specs.Meaning.{Means, meaning, base, accepted}
 use Rattle.state.specs.Reasons.{reason_number}
 use Rattle.eval.specs.Answers.{env_of}
 use Rattle.exec.specs.Results.{job_of}
@@ -22,9 +22,8 @@ pub record Taken (run : RunResult) (words : List ℕ) (d : StepResult) (r : RunR
   pub count : r.count ≡ run.count + length (to_list d.effect)
   pub written : exit ≡ put_effects words run.count (to_list d.effect)
 
--- a sound state, and numbers that have room for what a budget can bring
+-- numbers that have room for what a budget can bring
 pub record Ready (v : List ℕ) (budget count : ℕ) : Type 0 where
-  pub sound : Sound v
   pub accepts : accepted v + budget ≤ max64
   pub counts : count + budget ≤ max32
 
@@ -33,7 +32,6 @@ pub record Runs (snapshot image part : List ℕ) (own : ℕ) (job : Job) (v : Li
       (flat : List (List FlatStep)) → Says part own (get_or flat job.index [])
       → let o = model.run_steps budget (env_of snapshot image flat) (job_of job) from (meaning v) in
       Means r.vol (base v) o.vol × (r.reason ≡ o.reason) × (r.count ≡ count + length o.effects) × (exit ≡ put_effects words count o.effects)
-  pub sound : Sound r.vol
   pub based : base r.vol ≡ base v
   pub accepted : accepted r.vol ≤ accepted v + budget
   pub grows : count ≤ r.count

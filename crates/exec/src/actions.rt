@@ -1,5 +1,4 @@
 // A primitive action, by its kind: `run_prim`.
-ghost use Rattle.state.specs.Meaning.{Sound};
 ghost use Rattle.exec.specs.Done.{action_done};
 ghost use Rattle.exec.specs.Results.{PerformsIn, PerformsAt};
 
@@ -7,14 +6,13 @@ use crate::answers::{EffectKind, emits, fails};
 use crate::{Env, PrimResult, lights, rules, timers, variables};
 use image::action::action_of;
 use image::layout::Table;
-use image::record::record_at;
 use model::Action;
+use state::State;
 
 // One arm for each kind.
 // kept: one match over the 24 kinds, of an arm each; parts of it, as it had once, need a clause that says which kinds are left
 #[tactic(auto, unfolding(model::specs::Actions::run_prim))]
-pub fn run_prim(env: &Env, v: &mut [u32], action: Action) -> PrimResult
-    requires { Sound v.old }
+pub fn run_prim(env: &Env, v: &mut State, action: Action) -> PrimResult
     ensures { PerformsIn env.now.snapshot.now env.now.image.now env.now.job v.old action (action_done v.new result) }
 {
     match action {
@@ -100,10 +98,9 @@ pub fn run_prim(env: &Env, v: &mut [u32], action: Action) -> PrimResult
 }
 
 // Action i of the image.
-pub fn prim_at(env: &Env, v: &mut [u32], i: u32) -> PrimResult
-    requires { Sound v.old }
+pub fn prim_at(env: &Env, v: &mut State, i: u32) -> PrimResult
     ensures { PerformsAt env.now.snapshot.now env.now.image.now env.now.job v.old i (action_done v.new result) }
 {
-    let action = action_of(record_at(env.image, Table::Actions, i));
+    let action = action_of(env.image.record_at(Table::Actions, i));
     run_prim(env, v, action)
 }

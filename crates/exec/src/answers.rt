@@ -1,6 +1,6 @@
 // What an action answers: an effect, none, or that it cannot be evaluated.
 ghost use Rattle.model.specs.Actions as model_actions;
-ghost use Rattle.state.specs.Meaning.{Sound, meaning};
+ghost use Rattle.state.specs.Meaning.{meaning};
 ghost use Rattle.exec.specs.Done.{action_done};
 ghost use Rattle.exec.specs.Kinds.{kind_number};
 ghost use Rattle.exec.specs.Results.{AnswersOnly, Does};
@@ -8,6 +8,7 @@ ghost use Rattle.exec.specs.Results.{AnswersOnly, Does};
 use crate::{PrimResult, Unevaluable};
 use counters::Counter;
 use model::Effect;
+use state::State;
 
 // The kinds of effects: document 01, "Outcomes and effects".
 #[derive(Clone, Copy)]
@@ -36,8 +37,7 @@ pub fn emits(kind: EffectKind, a: u32, b: u32, c: u32, d: u32) -> PrimResult
 
 // It is counted.
 #[tactic(auto, unfolding(model::specs::Actions::fails))]
-pub fn fails(v: &mut [u32]) -> PrimResult
-    requires { Sound v.old }
+pub fn fails(v: &mut State) -> PrimResult
     ensures { Does v.old (action_done v.new result) (model_actions.fails (meaning v.old).rest) }
 {
     state::bump(v, Counter::ActionsFailed, 1);

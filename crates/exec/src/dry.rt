@@ -1,7 +1,6 @@
 // `run_steps`, dry: a wait waits for nothing, and an after's body goes behind all that is queued. Continuations are not touched.
 ghost use Rattle.std.specs.Prelude.{◌≡◌, true, suc, ◌+◌, ◌<◌, ◌≤◌, length};
 ghost use Rattle.words.specs.Saturating.{max32};
-ghost use Rattle.state.specs.Meaning.{Sound};
 ghost use Rattle.exec.specs.Paid.{reach};
 ghost use Rattle.exec.specs.Done.{step_done, run_done};
 ghost use Rattle.exec.specs.DryRuns.{DryStepsIn, Queues, Moves, DryReady, RunsDry};
@@ -11,9 +10,10 @@ use crate::queue::Queue;
 use crate::runs::{note_partial, take_step, unpaid};
 use crate::{Env, FlatRule, RunResult, StepResult, steps};
 use model::{Point, Step};
+use state::State;
 
-fn exec_dry(env: &Env, v: &mut [u32], sp: Point, step: Step) -> StepResult
-    requires { Sound v.old × (env.now.job.dry ≡ true) × (suc sp.place + reach step ≤ max32) }
+fn exec_dry(env: &Env, v: &mut State, sp: Point, step: Step) -> StepResult
+    requires { (env.now.job.dry ≡ true) × (suc sp.place + reach step ≤ max32) }
     ensures { DryStepsIn env.now.snapshot.now env.now.image.now env.now.job v.old sp step (step_done v.new result) }
 {
     match step {
@@ -58,7 +58,7 @@ pub fn run_steps_dry(
     env: &Env,
     rule: &FlatRule,
     effects: &mut [u32],
-    v: &mut [u32],
+    v: &mut State,
     from: Point,
     budget: u32,
     count: u32,

@@ -19,6 +19,7 @@ mod variables;
 ghost use Rattle.image.specs.Sized.{Sized};
 ghost use Rattle.exec.specs.Lists.{NearLists};
 
+use image::layout::Image;
 use model::{Effect, Point};
 use state::reasons::Reason;
 
@@ -34,12 +35,10 @@ pub struct Job {
 }
 
 // What a run is given: the words of the snapshot and of the image, and what it knows of its rule.
-// kept: the words of the state stand beside it, with `Sound` in the clauses: they are lent on to crate `state`, whose functions change the
-// words alone and ask and promise `Sound` of them, so that a struct with the fact would be taken apart and made anew at every call
 #[derive(Clone, Copy)]
 pub struct Env<'a> {
     pub snapshot: &'a [u32],
-    pub image: &'a [u32],
+    pub image: &'a Image<'a>,
     pub job: Job,
 
     ghost sized: { Sized image.now },

@@ -4,14 +4,15 @@ ghost use Rattle.model.specs.Actions.{hold_or};
 ghost use Rattle.model.specs.Lists.{or_else};
 ghost use Rattle.model.specs.State.{cycle_pos_at};
 ghost use Rattle.model.specs.declared.Action.TheVariants.{Light, Recall, Apply, Cycle, Percent};
-ghost use Rattle.state.specs.Meaning.{Sound, meaning};
+ghost use Rattle.state.specs.Meaning.{meaning};
 ghost use Rattle.exec.specs.Done.{action_done};
 ghost use Rattle.exec.specs.Results.{Performs, PerformsIn, LevelAt};
 
 use crate::answers::{EffectKind, emits, fails};
 use crate::{Env, PrimResult};
 use eval::values::value_at;
-use image::layout::{Table, word_at};
+use image::layout::Table;
+use state::State;
 
 // A light's own hold_hcl, or the rule's where 2 says that it has none.
 fn hold_or(hold: u32, rule: u32) -> u32
@@ -23,13 +24,12 @@ fn hold_or(hold: u32, rule: u32) -> u32
 #[tactic(auto, unfolding(model::specs::Actions::run_prim, model::specs::Actions::prim_light))]
 pub fn prim_light(
     env: &Env,
-    v: &mut [u32],
+    v: &mut State,
     target: u32,
     hold: u32,
     answer: u32,
     verb: u32,
 ) -> PrimResult
-    requires { Sound v.old }
     ensures { Performs env.now.job v.old (Light target hold answer verb) (action_done v.new result) }
 {
     if answer == 0 {
@@ -50,13 +50,12 @@ pub fn prim_light(
 #[tactic(auto, unfolding(model::specs::Actions::run_prim, model::specs::Actions::prim_recall))]
 pub fn prim_recall(
     env: &Env,
-    v: &mut [u32],
+    v: &mut State,
     answer: u32,
     scene: u32,
     mark: u32,
     target: u32,
 ) -> PrimResult
-    requires { Sound v.old }
     ensures { Performs env.now.job v.old (Recall answer scene mark target) (action_done v.new result) }
 {
     if answer == 0 {
@@ -66,8 +65,7 @@ pub fn prim_recall(
 }
 
 #[tactic(auto, unfolding(model::specs::Actions::run_prim, model::specs::Actions::prim_apply))]
-pub fn prim_apply(env: &Env, v: &mut [u32], answer: u32, scene: u32) -> PrimResult
-    requires { Sound v.old }
+pub fn prim_apply(env: &Env, v: &mut State, answer: u32, scene: u32) -> PrimResult
     ensures { Performs env.now.job v.old (Apply answer scene) (action_done v.new result) }
 {
     if answer == 0 {
@@ -77,8 +75,8 @@ pub fn prim_apply(env: &Env, v: &mut [u32], answer: u32, scene: u32) -> PrimResu
 }
 
 // The rule's position, modulo the length of the list at hand.
-fn cycle_place(v: &[u32], index: u32, count: u32) -> u32
-    requires { Sound v.now × (0 < count) }
+fn cycle_place(v: &State, index: u32, count: u32) -> u32
+    requires { 0 < count }
     ensures { (result ≡ or_else 0 (cycle_pos_at (meaning v.now).rest index) % count) × (result < count) }
 {
     state::rules::cycle_pos(v, index as usize).unwrap_or(0) % count
@@ -86,8 +84,7 @@ fn cycle_place(v: &[u32], index: u32, count: u32) -> u32
 
 // The sum saturates: past the end of the image there is no word, however far.
 #[tactic(auto, unfolding(model::specs::Actions::run_prim, model::specs::Actions::prim_cycle))]
-pub fn prim_cycle(env: &Env, v: &mut [u32], first: u32, count: u32) -> PrimResult
-    requires { Sound v.old }
+pub fn prim_cycle(env: &Env, v: &mut State, first: u32, count: u32) -> PrimResult
     ensures { (snapshot : List ℕ) → PerformsIn snapshot env.now.image.now env.now.job v.old (Cycle first count) (action_done v.new result) }
 {
     if count == 0 {
@@ -95,7 +92,7 @@ pub fn prim_cycle(env: &Env, v: &mut [u32], first: u32, count: u32) -> PrimResul
     }
     let at = cycle_place(v, env.job.index, count);
     let place = first.saturating_add(at);
-    let scene = word_at(env.image, Table::Pool, place, 0);
+    let scene = env.image.word_at(Table::Pool, place, 0);
     if env.job.dry {
         return emits(EffectKind::SceneRecall, scene, 0, 0, env.job.hold);
     }
@@ -104,8 +101,7 @@ pub fn prim_cycle(env: &Env, v: &mut [u32], first: u32, count: u32) -> PrimResul
 }
 
 // The level of value i, where it can be evaluated and has one.
-fn level_at(env: &Env, v: &[u32], i: u32) -> Option<u32>
-    requires { Sound v.now }
+fn level_at(env: &Env, v: &State, i: u32) -> Option<u32>
     ensures { LevelAt env.now.snapshot.now env.now.image.now (meaning v.now).rest i result }
 {
     let given = eval::Env {
@@ -118,8 +114,7 @@ fn level_at(env: &Env, v: &[u32], i: u32) -> Option<u32>
 
 // A value in parts per million of full light.
 #[tactic(auto, unfolding(model::specs::Actions::run_prim))]
-pub fn prim_percent(env: &Env, v: &mut [u32], target: u32, hold: u32, value: u32) -> PrimResult
-    requires { Sound v.old }
+pub fn prim_percent(env: &Env, v: &mut State, target: u32, hold: u32, value: u32) -> PrimResult
     ensures { PerformsIn env.now.snapshot.now env.now.image.now env.now.job v.old (Percent target hold value) (action_done v.new result) }
 {
     match level_at(env, v, value) {

@@ -10,6 +10,7 @@ use crate::effects::put_effect;
 use crate::steps::exec;
 use crate::{Env, FlatRule, RunResult, StepResult};
 use model::{Point, Step};
+use state::State;
 use state::reasons::Reason;
 
 // The first reason stays.
@@ -43,7 +44,7 @@ pub fn run_steps(
     env: &Env,
     rule: &FlatRule,
     effects: &mut [u32],
-    v: &mut [u32],
+    v: &mut State,
     from: Point,
     budget: u32,
     count: u32,

@@ -2,7 +2,7 @@
 ghost use Rattle.std.specs.Prelude.{List, ℕ, suc, ◌+◌, ◌≤◌, ◌<◌};
 ghost use Rattle.words.specs.Saturating.{max32, max64};
 ghost use Rattle.model.specs.declared.Step.TheVariants.{Primitive, Wait, Branch, After, Fail};
-ghost use Rattle.state.specs.Meaning.{Sound, accepted};
+ghost use Rattle.state.specs.Meaning.{accepted};
 ghost use Rattle.exec.specs.Done.{action_done, step_done};
 ghost use Rattle.exec.specs.Paid.{Follows, GoesOn, StepsAlways, StepsAt, StepsIn, reach};
 
@@ -12,6 +12,7 @@ use crate::places::{advance, body_start, enter_then};
 use crate::{Env, PrimResult, StepResult, Unevaluable};
 use eval::conditions::condition_at;
 use model::{Point, Step};
+use state::State;
 use state::reasons::Reason;
 
 // What an action did, and the run goes on.
@@ -34,7 +35,7 @@ fn after_prim(a: PrimResult, to: Point) -> StepResult
 
 // Nothing happens, and the run goes on.
 pub fn goes_on(to: Point) -> StepResult
-    ensures { (v : List ℕ) → Sound v → GoesOn v to (step_done v result) }
+    ensures { (v : List ℕ) → GoesOn v to (step_done v result) }
 {
     StepResult {
         effect: None,
@@ -43,8 +44,8 @@ pub fn goes_on(to: Point) -> StepResult
     }
 }
 
-pub fn primitive(env: &Env, v: &mut [u32], sp: Point, i: u32) -> StepResult
-    requires { Sound v.old × (suc sp.place ≤ max32) }
+pub fn primitive(env: &Env, v: &mut State, sp: Point, i: u32) -> StepResult
+    requires { suc sp.place ≤ max32 }
     ensures { (b : ℕ) → StepsIn env.now.snapshot.now env.now.image.now env.now.job v.old b sp (Primitive i) (step_done v.new result) }
 {
     after_prim(prim_at(env, v, i), advance(sp, 0))
@@ -53,8 +54,8 @@ pub fn primitive(env: &Env, v: &mut [u32], sp: Point, i: u32) -> StepResult
 // What follows a wait is scheduled, and the run ends: also where the continuation is dropped.
 // kept: how many continuations were accepted is bounded by the budget that is left, of one step to the next; no type holds both
 #[tactic(auto, unfolding(model::specs::Exec::exec))]
-fn run_wait(env: &Env, v: &mut [u32], left: u32, sp: Point, ms: u32) -> StepResult
-    requires { Sound v.old × (accepted v.old < max64) × (suc sp.place ≤ max32) }
+fn run_wait(env: &Env, v: &mut State, left: u32, sp: Point, ms: u32) -> StepResult
+    requires { (accepted v.old < max64) × (suc sp.place ≤ max32) }
     ensures { StepsAt env.now.snapshot.now env.now.job v.old left sp (Wait ms) (step_done v.new result) }
 {
     let to = advance(sp, 0);
@@ -78,8 +79,8 @@ fn run_wait(env: &Env, v: &mut [u32], left: u32, sp: Point, ms: u32) -> StepResu
 
 // The body is scheduled, and the run goes on behind the step: also where the continuation is dropped.
 #[tactic(auto, unfolding(model::specs::Exec::exec))]
-fn run_after(env: &Env, v: &mut [u32], left: u32, sp: Point, ms: u32) -> StepResult
-    requires { Sound v.old × (accepted v.old < max64) × (suc sp.place ≤ max32) }
+fn run_after(env: &Env, v: &mut State, left: u32, sp: Point, ms: u32) -> StepResult
+    requires { (accepted v.old < max64) × (suc sp.place ≤ max32) }
     ensures { StepsAt env.now.snapshot.now env.now.job v.old left sp (After ms) (step_done v.new result) }
 {
     let body = body_start(sp);
@@ -104,8 +105,8 @@ fn run_after(env: &Env, v: &mut [u32], left: u32, sp: Point, ms: u32) -> StepRes
 
 // A condition that cannot be evaluated skips both regions.
 #[tactic(auto, unfolding(model::specs::Exec::exec, model::specs::Exec::run_branch))]
-pub fn run_branch(env: &Env, v: &mut [u32], sp: Point, c: u32, t: u32, n: u32) -> StepResult
-    requires { Sound v.old × (suc sp.place + (t + n) ≤ max32) }
+pub fn run_branch(env: &Env, v: &mut State, sp: Point, c: u32, t: u32, n: u32) -> StepResult
+    requires { suc sp.place + (t + n) ≤ max32 }
     ensures { (b : ℕ) → StepsIn env.now.snapshot.now env.now.image.now env.now.job v.old b sp (Branch c t n) (step_done v.new result) }
 {
     let given = eval::Env {
@@ -120,16 +121,16 @@ pub fn run_branch(env: &Env, v: &mut [u32], sp: Point, c: u32, t: u32, n: u32) -
     }
 }
 
-pub fn fail(v: &mut [u32], sp: Point) -> StepResult
-    requires { Sound v.old × (suc sp.place ≤ max32) }
+pub fn fail(v: &mut State, sp: Point) -> StepResult
+    requires { suc sp.place ≤ max32 }
     ensures { StepsAlways v.old sp Fail (step_done v.new result) }
 {
     after_prim(fails(v), advance(sp, 0))
 }
 
 #[tactic(auto, unfolding(model::specs::Exec::exec))]
-pub fn exec(env: &Env, v: &mut [u32], left: u32, sp: Point, step: Step) -> StepResult
-    requires { Sound v.old × (accepted v.old < max64) × (suc sp.place + reach step ≤ max32) }
+pub fn exec(env: &Env, v: &mut State, left: u32, sp: Point, step: Step) -> StepResult
+    requires { (accepted v.old < max64) × (suc sp.place + reach step ≤ max32) }
     ensures { StepsIn env.now.snapshot.now env.now.image.now env.now.job v.old left sp step (step_done v.new result) }
 {
     match step {

@@ -1,16 +1,15 @@
 // Timers. A dry run changes none, and does not notice that 16 run.
 ghost use Rattle.std.specs.Prelude.{List, ℕ};
 ghost use Rattle.model.specs.declared.Action.TheVariants.{TimerStart, TimerRestart, TimerCancel};
-ghost use Rattle.state.specs.Meaning.{Sound};
 ghost use Rattle.exec.specs.Done.{action_done};
 ghost use Rattle.exec.specs.Results.{PerformsIn, Arms};
 
 use crate::answers::fails;
 use crate::{Env, PrimResult};
+use state::State;
 
 #[tactic(auto, unfolding(model::specs::Actions::arm_timer))]
-fn arm_timer(env: &Env, v: &mut [u32], name: u32, ms: u32) -> PrimResult
-    requires { Sound v.old }
+fn arm_timer(env: &Env, v: &mut State, name: u32, ms: u32) -> PrimResult
     ensures { Arms env.now.snapshot.now env.now.job v.old name ms (action_done v.new result) }
 {
     if env.job.dry {
@@ -25,8 +24,7 @@ fn arm_timer(env: &Env, v: &mut [u32], name: u32, ms: u32) -> PrimResult
 }
 
 #[tactic(auto, unfolding(model::specs::Actions::run_prim))]
-pub fn timer_start(env: &Env, v: &mut [u32], timer: u32, ms: u32) -> PrimResult
-    requires { Sound v.old }
+pub fn timer_start(env: &Env, v: &mut State, timer: u32, ms: u32) -> PrimResult
     ensures { (image : List ℕ) → PerformsIn env.now.snapshot.now image env.now.job v.old (TimerStart timer ms) (action_done v.new result) }
 {
     if state::timers::has_timer(v, timer) {
@@ -36,8 +34,7 @@ pub fn timer_start(env: &Env, v: &mut [u32], timer: u32, ms: u32) -> PrimResult
 }
 
 #[tactic(auto, unfolding(model::specs::Actions::run_prim, model::specs::Actions::arm_timer))]
-pub fn timer_restart(env: &Env, v: &mut [u32], timer: u32, ms: u32) -> PrimResult
-    requires { Sound v.old }
+pub fn timer_restart(env: &Env, v: &mut State, timer: u32, ms: u32) -> PrimResult
     ensures { (image : List ℕ) → PerformsIn env.now.snapshot.now image env.now.job v.old (TimerRestart timer ms) (action_done v.new result) }
 {
     if env.job.dry {
@@ -48,8 +45,7 @@ pub fn timer_restart(env: &Env, v: &mut [u32], timer: u32, ms: u32) -> PrimResul
 }
 
 #[tactic(auto, unfolding(model::specs::Actions::run_prim))]
-pub fn timer_cancel(env: &Env, v: &mut [u32], timer: u32) -> PrimResult
-    requires { Sound v.old }
+pub fn timer_cancel(env: &Env, v: &mut State, timer: u32) -> PrimResult
     ensures { PerformsIn env.now.snapshot.now env.now.image.now env.now.job v.old (TimerCancel timer) (action_done v.new result) }
 {
     if env.job.dry {

@@ -2,7 +2,6 @@
 ghost use Rattle.std.specs.Prelude.{List, ℕ};
 ghost use Rattle.std.specs.Prelude.{Some};
 ghost use Rattle.model.specs.declared.Action.TheVariants.{VarSet, VarAdd, PanelSelect};
-ghost use Rattle.state.specs.Meaning.{Sound};
 ghost use Rattle.exec.specs.Done.{action_done};
 ghost use Rattle.exec.specs.Results.{PerformsIn, Assigns, Adds};
 
@@ -10,10 +9,10 @@ use crate::answers::{EffectKind, emits, fails};
 use crate::{Env, PrimResult};
 use eval::values::value_at;
 use model::VarValue;
+use state::State;
 
 #[tactic(auto, unfolding(model::specs::Actions::var_set, state::specs::Named::lacks_room))]
-fn assign(env: &Env, v: &mut [u32], name: u32, value: VarValue) -> PrimResult
-    requires { Sound v.old }
+fn assign(env: &Env, v: &mut State, name: u32, value: VarValue) -> PrimResult
     ensures { Assigns env.now.job v.old name value (action_done v.new result) }
 {
     if env.job.dry {
@@ -28,12 +27,11 @@ fn assign(env: &Env, v: &mut [u32], name: u32, value: VarValue) -> PrimResult
 
 // A text of more bytes than the limit is refused, in a dry run too.
 #[tactic(auto, unfolding(model::specs::Actions::run_prim, model::specs::Actions::prim_var_set))]
-pub fn var_set(env: &Env, v: &mut [u32], name: u32, tag: u32, low: u32, high: u32) -> PrimResult
-    requires { Sound v.old }
+pub fn var_set(env: &Env, v: &mut State, name: u32, tag: u32, low: u32, high: u32) -> PrimResult
     ensures { (snapshot : List ℕ) → PerformsIn snapshot env.now.image.now env.now.job v.old (VarSet name tag low high) (action_done v.new result) }
 {
     if tag == 1 {
-        if image::layout::text_limit(env.image) < high {
+        if env.image.text_limit() < high {
             return fails(v);
         }
         return assign(env, v, name, VarValue::Text(low));
@@ -42,8 +40,7 @@ pub fn var_set(env: &Env, v: &mut [u32], name: u32, tag: u32, low: u32, high: u3
 }
 
 // A number is added to what a variable holds: to 0 where there is none, to no text.
-fn add_to(env: &Env, v: &mut [u32], name: u32, step: i64, held: Option<VarValue>) -> PrimResult
-    requires { Sound v.old }
+fn add_to(env: &Env, v: &mut State, name: u32, step: i64, held: Option<VarValue>) -> PrimResult
     ensures { Adds env.now.job v.old name (Some step) held (action_done v.new result) }
 {
     match held {
@@ -57,8 +54,7 @@ fn add_to(env: &Env, v: &mut [u32], name: u32, step: i64, held: Option<VarValue>
 }
 
 #[tactic(auto, unfolding(model::specs::Actions::run_prim))]
-pub fn var_add(env: &Env, v: &mut [u32], name: u32, delta: u32) -> PrimResult
-    requires { Sound v.old }
+pub fn var_add(env: &Env, v: &mut State, name: u32, delta: u32) -> PrimResult
     ensures { PerformsIn env.now.snapshot.now env.now.image.now env.now.job v.old (VarAdd name delta) (action_done v.new result) }
 {
     let given = eval::Env {
@@ -77,8 +73,7 @@ pub fn var_add(env: &Env, v: &mut [u32], name: u32, delta: u32) -> PrimResult
 
 // From 0 to the group limit.
 #[tactic(auto, unfolding(model::specs::Actions::run_prim))]
-pub fn panel_select(env: &Env, v: &mut [u32], adapter: u32, group: u32, selected: u32) -> PrimResult
-    requires { Sound v.old }
+pub fn panel_select(env: &Env, v: &mut State, adapter: u32, group: u32, selected: u32) -> PrimResult
     ensures { PerformsIn env.now.snapshot.now env.now.image.now env.now.job v.old (PanelSelect adapter group selected) (action_done v.new result) }
 {
     let given = eval::Env {
@@ -89,7 +84,7 @@ pub fn panel_select(env: &Env, v: &mut [u32], adapter: u32, group: u32, selected
     let Some(n) = value_at(&given, selected) else {
         return fails(v);
     };
-    let most = image::layout::group_limit(env.image);
+    let most = env.image.group_limit();
     match u32::try_from(n) {
         Ok(n) if n <= most => emits(EffectKind::PanelSelect, adapter, group, n, 0),
         _ => fails(v),

@@ -4,14 +4,14 @@ ghost use Rattle.exports.specs.Answers as answers;
 ghost use Rattle.model.specs.Image.{size_of};
 ghost use Rattle.model.specs.Rows.{rules};
 ghost use Rattle.model.specs.Store.{volatile_in};
-ghost use Rattle.state.specs.Meaning.{AllNumbered, state_words};
+ghost use Rattle.state.specs.Meaning.{AllNumbered};
 ghost use Rattle.store.specs.Volatile.{changing_in};
 
 use eval::Env;
 use eval::conditions::condition_at;
 use eval::values::value_at;
-use image::layout::{Table, size_of};
-use state::place::WORDS;
+use image::layout::{Image, Table};
+use state::State;
 use store::checks::Rows;
 use store::table::VARIABLES;
 
@@ -38,11 +38,11 @@ fn given(snapshot: &[u32], image: &[u32], store: &[u32]) -> bool
 }
 
 // What the store keeps, for the rules of the image.
-fn begin(snapshot: &[u32], image: &[u32], store: &[u32], v: &mut [u32])
-    requires { (answers.given snapshot.now image.now store.now ≡ true) × (length v.old ≡ state_words) }
+fn begin(snapshot: &[u32], image: &[u32], store: &[u32], v: &mut State)
+    requires { answers.given snapshot.now image.now store.now ≡ true }
     ensures { AllNumbered v.new (volatile_in (size_of image.now rules) (changing_in store.now)) }
 {
-    let count = size_of(image, Table::Rules) as usize;
+    let count = Image::new(image).size_of(Table::Rules) as usize;
     store::volatile::begin(store, count, v);
 }
 
@@ -66,11 +66,12 @@ pub extern "C" fn cerambiu_condition(snapshot: &[u32], image: &[u32], store: &[u
     if !given(snapshot, image, store) {
         return 3;
     }
-    let mut v = [0u32; WORDS];
+    let mut v = State::new();
     begin(snapshot, image, store, &mut v);
+    let image = Image::new(image);
     let env = Env {
         snapshot,
-        image,
+        image: &image,
         state: &v,
     };
     verdict_code(condition_at(&env, i))
@@ -91,11 +92,12 @@ pub extern "C" fn cerambiu_value(
         put_number(answer, 3, 0);
         return;
     }
-    let mut v = [0u32; WORDS];
+    let mut v = State::new();
     begin(snapshot, image, store, &mut v);
+    let image = Image::new(image);
     let env = Env {
         snapshot,
-        image,
+        image: &image,
         state: &v,
     };
     match value_at(&env, i) {

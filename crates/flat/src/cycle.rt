@@ -3,7 +3,8 @@
 // `list`, an after's body into `body`, and from there into the lent tail of the flat steps, `bodies`; it is compared with `seen` too.
 // More actions than the caller allowed are refused. The six functions call each other: they are read, and proved, together.
 // kept: the four slices stand beside each other in each call, because they change their parts: an after's body is the list of what is inside.
-// kept: `Start` stands in each `requires`, because it is of the numbers of one call and of the length of the body that is lent to it.
+// kept: `Start`, that record i is one of the table, and that there are fewer than 256 steps stand in each `requires`: they are of the numbers of one call
+// and of the length of the body that is lent to it, which no value goes with.
 ghost use Rattle.std.specs.Prelude.{◌≡◌, ◌+◌, ◌/◌, ◌<◌, ◌≤◌, length};
 ghost use Rattle.model.specs.declared.FlowAction.TheVariants.{After, Call, Repeat, Conditional};
 ghost use Rattle.model.specs.Flat.{flatten_call};

@@ -68,7 +68,8 @@ fn flatten_rule(
 }
 
 // The parts of all rules, one behind the other in `words`, and their rows in `lists`.
-// kept: words, lists and seen are lent each for itself, of three lengths and by two callers: a struct would say no more of them.
+// kept: words, lists and seen are lent each for itself, of three lengths and by two callers: a struct would say no more of them, and each function below asks
+// for the lengths of those that it is lent. That the image is checked is asked on the way down to `Source`, which knows it from then on.
 fn flatten_each(
     t: &Source,
     own: &mut [u32],

@@ -9,6 +9,7 @@ ghost use Rattle.model.specs.Load.{image_refusal};
 ghost use Rattle.model.specs.Refusals.{refusal_number};
 ghost use Rattle.image.specs.Accepted.{Accepted};
 
+use image::layout::Image;
 use model::Refusal;
 
 // 16 and 17 of an image that passes 10 to 15: 16 is decided first. Flattening is lent no words, so that it only counts.
@@ -19,7 +20,7 @@ fn flat_refusal(img: &[u32]) -> Result<(), Refusal>
     let mut words = [0u32; 1];
     let mut lists = [0u32; 1];
     flat::rules::flatten_rules(img, &mut words[1..], &mut lists[1..])?;
-    if image::few_enough(img) {
+    if Image::new(img).few_enough() {
         return Ok(());
     }
     Err(Refusal::TooMany)

@@ -15,8 +15,7 @@ ghost use Rattle.next.specs.Distance.{day_ahead, better, best_of};
 ghost use Rattle.next.specs.Facts.{accepted-prop};
 
 use eval::time::{has_day, solar_minute};
-use image::layout::{Table, size_of};
-use image::rule::{name_of, trigger_at, trigger_count};
+use image::layout::{Image, Table};
 use model::Trigger;
 
 // kept: three answers, where an Option has two.
@@ -38,7 +37,7 @@ struct Best {
 // What is asked: the words of an accepted image and of its rules' bits (1 is enabled), the sun's times, and the minute of the week it is.
 #[derive(Clone, Copy)]
 struct Asked<'a> {
-    image: &'a [u32],
+    image: &'a Image<'a>,
     bits: &'a [u32],
     sun: Option<model::SunTimes>,
     t: u32,
@@ -143,8 +142,8 @@ impl Asked<'_> {
             return NEVER;
         }
         let mut best = NEVER;
-        for k in (0..trigger_count(self.image, i)).rev() {
-            best = least(self.trigger_minutes(trigger_at(self.image, i, k)), best);
+        for k in (0..self.image.trigger_count(i)).rev() {
+            best = least(self.trigger_minutes(self.image.trigger_at(i, k)), best);
         }
         best
     }
@@ -157,15 +156,15 @@ impl Asked<'_> {
             minutes: NEVER,
             name: 0,
         };
-        for i in (0..size_of(self.image, Table::Rules)).rev() {
-            best = earlier(self.rule_minutes(i), name_of(self.image, i), best);
+        for i in (0..self.image.size_of(Table::Rules)).rev() {
+            best = earlier(self.rule_minutes(i), self.image.name_of(i), best);
         }
         best
     }
 }
 
 // From minute t of the week on, of an accepted image and the words of its rules' bits: 1 is enabled.
-pub fn next_from(image: &[u32], bits: &[u32], sun: Option<model::SunTimes>, t: u32) -> NextStart
+pub fn next_from(image: &Image, bits: &[u32], sun: Option<model::SunTimes>, t: u32) -> NextStart
     requires { Accepted image.now × (t < 10080) }
     ensures { result ≡ next_from image.now (map is_one bits.now) sun t }
 {

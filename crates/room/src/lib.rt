@@ -12,8 +12,7 @@ ghost use Rattle.image.specs.Accepted.{Accepted};
 ghost use Rattle.room.specs.Room.{is_timer_trigger, is_every_trigger, starts_of};
 ghost use Rattle.room.specs.Needed.{room_for, numbers, Needs, begin_in, size_in, Summed, Listed};
 
-use image::layout::{Table, budget, size_of};
-use image::rule::{trigger_at, trigger_count};
+use image::layout::{Image, Table};
 use model::{Refusal, Trigger};
 
 // The set of an image needs room for so many outcomes and so many effects.
@@ -64,19 +63,19 @@ impl Tally {
 }
 
 // How often a tick can start rule i.
-fn starts(image: &[u32], i: u32) -> u64
+fn starts(image: &Image, i: u32) -> u64
     requires accepted { Accepted image.now }
     requires i_bound { i < size_of image.now rules }
     ensures { (result ≡ starts_of image.now i) × (result ≤ 4294967312) }
 {
-    let n = trigger_count(image, i);
+    let n = image.trigger_count(i);
     let mut tally = Tally {
         timers: 0,
         everys: 0,
         walls: 0,
     };
     for k in 0..n {
-        tally = tally.counted(trigger_at(image, i, k));
+        tally = tally.counted(image.trigger_at(i, k));
     }
     tally.timers.min(16) + tally.everys + tally.walls.min(1)
 }
@@ -95,12 +94,12 @@ fn size_in(lists: &[u32], i: u32) -> u64
 }
 
 // A rule's bodies stand between the part of the rule before it and its own list.
-fn sum_rules(image: &[u32], lists: &[u32], b: u64) -> Sums
+fn sum_rules(image: &Image, lists: &[u32], b: u64) -> Sums
     requires listed { Listed image.now lists.now }
     requires b_value { b ≡ image_specs.budget image.now }
     ensures { Summed image.now result }
 {
-    let n = size_of(image, Table::Rules);
+    let n = image.size_of(Table::Rules);
     let mut sums = Sums {
         starts: 0,
         effects: 0,
@@ -128,11 +127,11 @@ fn most_effects(b: u64, longest: u64, starts: u64) -> u64
 }
 
 // The room that the set needs, from the rows of its lists.
-fn room(image: &[u32], lists: &[u32]) -> Needed
+fn room(image: &Image, lists: &[u32]) -> Needed
     requires { Listed image.now lists.now }
     ensures { Needs image.now result }
 {
-    let b = budget(image) as u64;
+    let b = image.budget() as u64;
     let s = sum_rules(image, lists, b);
     let effects = most_effects(b, s.longest, s.effects);
     Needed {
@@ -142,23 +141,24 @@ fn room(image: &[u32], lists: &[u32]) -> Needed
 }
 
 // Of an image that passes 10 to 15: 16 is decided first. Flattening is lent no words for the steps, and the rows of 64 lists.
-fn flat_needed(image: &[u32]) -> Result<Needed, Refusal>
-    requires { Accepted image.now }
-    ensures { shown_result numbers result [] ≡ room_for image.now }
+fn flat_needed(words: &[u32]) -> Result<Needed, Refusal>
+    requires { Accepted words.now }
+    ensures { shown_result numbers result [] ≡ room_for words.now }
 {
-    let mut words = [0u32; 1];
+    let mut steps = [0u32; 1];
     let mut lists = [0u32; 128];
-    flat::rules::flatten_rules(image, &mut words[1..], &mut lists)?;
-    if image::few_enough(image) {
-        return Ok(room(image, &lists));
+    flat::rules::flatten_rules(words, &mut steps[1..], &mut lists)?;
+    let image = Image::new(words);
+    if image.few_enough() {
+        return Ok(room(&image, &lists));
     }
     Err(Refusal::TooMany)
 }
 
 // What an image needs, or why load refuses it: for every slice.
-pub fn room_for(image: &[u32]) -> Result<Needed, Refusal>
-    ensures { shown_result numbers result [] ≡ room_for image.now }
+pub fn room_for(words: &[u32]) -> Result<Needed, Refusal>
+    ensures { shown_result numbers result [] ≡ room_for words.now }
 {
-    image::refusal(image)?;
-    flat_needed(image)
+    image::refusal(words)?;
+    flat_needed(words)
 }

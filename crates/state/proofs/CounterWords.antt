@@ -19,7 +19,7 @@ use Rattle.model.specs.Parts.{any}
 use Rattle.model.specs.State.{with_rest, with_prev_week_min, bump_by}
 use Rattle.model.proofs.Bools.{both, join}
 use Rattle.rows.specs.Places.{laid, row_at, table_at}
-use Rattle.state.specs.Meaning.{place_of, part, week_part, counters_part, meaning, base, Sound, Means}
+use Rattle.state.specs.Meaning.{place_of, part, week_part, counters_part, meaning, base, Sound, MeansSoundly}
 use Rattle.state.proofs.Frame.{shaped, part-is, part-long, changed-laid, counters-changed, week-changed}
 use Rattle.state.proofs.Fixed.{one_at, one-read, one_set}
 use Rattle.state.proofs.KeptForRules.{any-option-laws, good-32}
@@ -83,7 +83,7 @@ word_fits m (suc n) (y ∷ w) (suc i) x e h =
     join b.0 (word_fits m n w i x b.1 h)
 
 pub bumped : (w w' c d : List ℕ) (which by : ℕ) → Sound w → c ≡ table_at any 12 w (place_of counters_part) → d ≡ raised_at which by c → w' ≡ laid w (place_of counters_part) d
-    → Means w' (base w) (with_rest (bump_by which by (meaning w).rest) (meaning w))
+    → MeansSoundly w' (base w) (with_rest (bump_by which by (meaning w).rest) (meaning w))
 unfolding meaning bump_by table_at
 bumped w w' c d which by s e f b =
     let p : List ℕ = part counters_part w in
@@ -102,8 +102,8 @@ module _ (w : List ℕ) (s : Sound w) where
   week-at x e = e ∙ one_at (maybe any) any-option-laws week_part (omega arith) refl w s
 
   pub week-set : (w' : List ℕ) (x : Option ℕ) → ((j : ℕ) → get_or w' j 0 < 4294967296) → w' ≡ laid w (place_of week_part) ((maybe any).put x)
-      → Means w' (base w) (with_rest (with_prev_week_min x (meaning w).rest) (meaning w))
+      → MeansSoundly w' (base w) (with_rest (with_prev_week_min x (meaning w).rest) (meaning w))
   week-set w' x words e =
       let g = good-32 w w' (place_of week_part) words x e in
       let c = one_set (maybe any) any-option-laws week_part (omega arith) refl w w' x (shaped w s) g e in
-      subst (λ (o : _). Means w' (base w) (with_rest (with_prev_week_min o (meaning w).rest) (meaning w))) (one-read (maybe any) any-option-laws week_part (omega arith) refl x g) (week-changed w w' ((maybe any).put x) s c)
+      subst (λ (o : _). MeansSoundly w' (base w) (with_rest (with_prev_week_min o (meaning w).rest) (meaning w))) (one-read (maybe any) any-option-laws week_part (omega arith) refl x g) (week-changed w w' ((maybe any).put x) s c)

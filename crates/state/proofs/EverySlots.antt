@@ -13,7 +13,7 @@ use Rattle.model.specs.Wheel.{moved}
 use Rattle.model.specs.declared.EverySlot.{EverySlot}
 use Rattle.model.proofs.PartsLaws.{slot_laws}
 use Rattle.rows.specs.Places.{laid, row_at, table_at}
-use Rattle.state.specs.Meaning.{Sound, Means, Holds, Counted, meaning, base, slots_part, place_of, words_in}
+use Rattle.state.specs.Meaning.{Sound, MeansSoundly, Holds, Counted, meaning, base, slots_part, place_of, words_in}
 use Rattle.state.proofs.Typed.{holds-get, holds-count, holds-few, holds-long, holds-set}
 use Rattle.state.specs.Cuts.{Words}
 use Rattle.state.proofs.Good.{Roomy, words-laid, any-roomy, wide-roomy, ⊗-roomy, as-roomy}
@@ -89,15 +89,15 @@ module _ (w : List ℕ) (s : Sound w) where
   slots_read n l e f = f ∙ ap (λ (i : ℕ). table_at slot_row i w (place_of slots_part + 1)) e ∙ table-read slot_row slot_laws 64 w (place_of slots_part) (words_in slots_part) (meaning w).rest.every slots-hold
 
   -- the part comes back
-  pub slots-back : (p : List ℕ) (l : List EverySlot) → Holds 64 slot_row p l → Means (put_mid (place_of slots_part) (words_in slots_part) w p) (base w) (with_rest (with_every l (meaning w).rest) (meaning w))
+  pub slots-back : (p : List ℕ) (l : List EverySlot) → Holds 64 slot_row p l → MeansSoundly (put_mid (place_of slots_part) (words_in slots_part) w p) (base w) (with_rest (with_every l (meaning w).rest) (meaning w))
   slots-back p l h = slots-changed w _ p s _ (table-back slot_row slot_laws slots_part 64 (omega arith) refl w p _ s h) h
 
   pub slots-moved : (p : List ℕ) (time : ℕ) → Holds 64 slot_row p (map (moved time) ((most 64 slot_row).get lent))
-      → Means (put_mid (place_of slots_part) (words_in slots_part) w p) (base w) (with_rest (with_every (map (moved time) (meaning w).rest.every) (meaning w).rest) (meaning w))
+      → MeansSoundly (put_mid (place_of slots_part) (words_in slots_part) w p) (base w) (with_rest (with_every (map (moved time) (meaning w).rest.every) (meaning w).rest) (meaning w))
   slots-moved p time h = slots-back p (map (moved time) (meaning w).rest.every) (rw slots-are at h)
 
   -- none are left
-  pub slots-none : (w₁ : List ℕ) → w₁ ≡ laid w (place_of slots_part) (replicate (words_in slots_part) 0) → Means w₁ (base w) (with_rest (with_every [] (meaning w).rest) (meaning w))
+  pub slots-none : (w₁ : List ℕ) → w₁ ≡ laid w (place_of slots_part) (replicate (words_in slots_part) 0) → MeansSoundly w₁ (base w) (with_rest (with_every [] (meaning w).rest) (meaning w))
   unfolding words_of all_good
   slots-none w₁ e =
       let h : Holds 64 slot_row (replicate (words_in slots_part) 0) [] = record { words = refl; good = refl } in

@@ -8,10 +8,13 @@ use lib.ListN.{set}
 use Rattle.model.specs.Calls.{flipped}
 use Rattle.model.specs.State as model
 use Rattle.model.specs.State.{with_rest, with_enabled, strike}
-use Rattle.state.specs.Meaning.{Means, meaning, base, accepted}
+use Rattle.state.specs.Meaning.{Means, MeansSoundly, meaning, base, accepted}
 
 pub follows : (f : model.Volatile → model.Volatile) (w r : List ℕ) (b : ℕ) (s : model.Volatile) → Means w b s → Means r (base w) (f (meaning w)) → Means r b (f s)
-follows f w r b s first second = record { says = second.says ∙ ap f first.says; sound = second.sound; based = second.based ∙ first.based }
+follows f w r b s first second = record { says = second.says ∙ ap f first.says; based = second.based ∙ first.based }
+
+pub means : {w : List ℕ} {b : ℕ} {s : model.Volatile} → MeansSoundly w b s → Means w b s
+means m = record { says = m.says; based = m.based }
 
 pub next-is : (w : List ℕ) → base w + accepted w ≡ (meaning w).next
 unfolding meaning base accepted

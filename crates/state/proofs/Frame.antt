@@ -25,7 +25,7 @@ use Rattle.model.proofs.RowLaws.{RowLaws}
 use Rattle.rows.specs.Places.{laid, row_at}
 use Rattle.rows.proofs.Writing.{laid-long}
 use Rattle.state.specs.Cuts.{cut}
-use Rattle.state.specs.Meaning.{state_parts, part_sizes, place_of, words_in, state_words, part, bits_part, activations_part, positions_part, variables_part, timers_part, slots_part, pending_part, week_part, counters_part, rules_in, stored_in, accepted_in, base_in, records_in, meaning_of, SoundOf, OnlyBeyond, unset_from, Below, meaning, base, rules_of, Sound, Means, Holds, Counted}
+use Rattle.state.specs.Meaning.{state_parts, part_sizes, place_of, words_in, state_words, part, bits_part, activations_part, positions_part, variables_part, timers_part, slots_part, pending_part, week_part, counters_part, rules_in, stored_in, accepted_in, base_in, records_in, meaning_of, SoundOf, OnlyBeyond, unset_from, Below, meaning, base, rules_of, Sound, MeansSoundly, Holds, Counted}
 use Rattle.state.proofs.Cutting.{cut-long, cut_at, cut-laid, piece-end, piece-long, part-laid, laid-within}
 use Rattle.state.proofs.Typed.{holds-get, holds-fit, holds-long, holds-count, holds-few, fit-holds, row_read}
 
@@ -175,25 +175,25 @@ pub sound-by : (w w' : List ℕ) (t : ℕ) (p : List ℕ) → (c : Changed w w' 
 sound-by w w' t p c a = sound-of w' (set (cut part_sizes w) t p) c.cuts c.shape a
 
 module _ (w w' p : List ℕ) (s : Sound w) where
-  pub bits-changed : Changed w w' bits_part p → unset_from (rules_of w) 1 p ≡ true → Means w' (base w) (with_rest (with_enabled (map is_one (take (rules_of w) p)) (meaning w).rest) (meaning w))
+  pub bits-changed : Changed w w' bits_part p → unset_from (rules_of w) 1 p ≡ true → MeansSoundly w' (base w) (with_rest (with_enabled (map is_one (take (rules_of w) p)) (meaning w).rest) (meaning w))
   unfolding cut meaning base rules_of
   bits-changed c u =
       let a = across w s in
       record { says = ap meaning_of c.cuts; sound = sound-by w w' bits_part p c (a.0, a.1, a.2, u, a.4, a.5, a.6); based = ap base_in c.cuts }
 
-  pub activations-changed : Changed w w' activations_part p → unset_from (rules_of w) 3 p ≡ true → Means w' (base w) (with_rest (with_last_activation (take (rules_of w) (rows_at (maybe wide) 64 p)) (meaning w).rest) (meaning w))
+  pub activations-changed : Changed w w' activations_part p → unset_from (rules_of w) 3 p ≡ true → MeansSoundly w' (base w) (with_rest (with_last_activation (take (rules_of w) (rows_at (maybe wide) 64 p)) (meaning w).rest) (meaning w))
   unfolding cut meaning base rules_of
   activations-changed c u =
       let a = across w s in
       record { says = ap meaning_of c.cuts; sound = sound-by w w' activations_part p c (a.0, a.1, a.2, a.3, u, a.5, a.6); based = ap base_in c.cuts }
 
-  pub positions-changed : Changed w w' positions_part p → unset_from (rules_of w) 2 p ≡ true → Means w' (base w) (with_rest (with_cycle_pos (take (rules_of w) (rows_at (maybe any) 64 p)) (meaning w).rest) (meaning w))
+  pub positions-changed : Changed w w' positions_part p → unset_from (rules_of w) 2 p ≡ true → MeansSoundly w' (base w) (with_rest (with_cycle_pos (take (rules_of w) (rows_at (maybe any) 64 p)) (meaning w).rest) (meaning w))
   unfolding cut meaning base rules_of
   positions-changed c u =
       let a = across w s in
       record { says = ap meaning_of c.cuts; sound = sound-by w w' positions_part p c (a.0, a.1, a.2, a.3, a.4, u, a.6); based = ap base_in c.cuts }
 
-  pub variables-changed : (l : List (ℕ × (ℕ × ℕ))) → Changed w w' variables_part p → Holds 16 variable_row p l → all text_short l ≡ true → Means w' (base w) (with_rest (with_vars (map variable_of l) (meaning w).rest) (meaning w))
+  pub variables-changed : (l : List (ℕ × (ℕ × ℕ))) → Changed w w' variables_part p → Holds 16 variable_row p l → all text_short l ≡ true → MeansSoundly w' (base w) (with_rest (with_vars (map variable_of l) (meaning w).rest) (meaning w))
   unfolding cut meaning base
   variables-changed l c h short =
       let a = across w s in
@@ -204,7 +204,7 @@ module _ (w w' p : List ℕ) (s : Sound w) where
         based = ap base_in c.cuts;
       }
 
-  pub timers-changed : (l : List NamedTimer) → Changed w w' timers_part p → Holds 16 timer_row p l → Means w' (base w) (with_rest (with_timers l (meaning w).rest) (meaning w))
+  pub timers-changed : (l : List NamedTimer) → Changed w w' timers_part p → Holds 16 timer_row p l → MeansSoundly w' (base w) (with_rest (with_timers l (meaning w).rest) (meaning w))
   unfolding cut meaning base
   timers-changed l c h =
       record {
@@ -213,7 +213,7 @@ module _ (w w' p : List ℕ) (s : Sound w) where
         based = ap base_in c.cuts;
       }
 
-  pub slots-changed : (l : List EverySlot) → Changed w w' slots_part p → Holds 64 slot_row p l → Means w' (base w) (with_rest (with_every l (meaning w).rest) (meaning w))
+  pub slots-changed : (l : List EverySlot) → Changed w w' slots_part p → Holds 64 slot_row p l → MeansSoundly w' (base w) (with_rest (with_every l (meaning w).rest) (meaning w))
   unfolding cut meaning base
   slots-changed l c h =
       record {
@@ -222,10 +222,10 @@ module _ (w w' p : List ℕ) (s : Sound w) where
         based = ap base_in c.cuts;
       }
 
-  pub week-changed : Changed w w' week_part p → Means w' (base w) (with_rest (with_prev_week_min ((maybe any).get p) (meaning w).rest) (meaning w))
+  pub week-changed : Changed w w' week_part p → MeansSoundly w' (base w) (with_rest (with_prev_week_min ((maybe any).get p) (meaning w).rest) (meaning w))
   unfolding cut meaning base
   week-changed c = record { says = ap meaning_of c.cuts; sound = sound-by w w' week_part p c (across w s); based = ap base_in c.cuts }
 
-  pub counters-changed : Changed w w' counters_part p → Means w' (base w) (with_rest (with_counters p (meaning w).rest) (meaning w))
+  pub counters-changed : Changed w w' counters_part p → MeansSoundly w' (base w) (with_rest (with_counters p (meaning w).rest) (meaning w))
   unfolding cut meaning base
   counters-changed c = record { says = ap meaning_of c.cuts; sound = sound-by w w' counters_part p c (across w s); based = ap base_in c.cuts }

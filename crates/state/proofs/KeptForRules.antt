@@ -20,7 +20,7 @@ use Rattle.model.proofs.PartsLaws.{any_laws}
 use Rattle.model.proofs.RowLaws.{RowLaws, word_laws, wide_laws, maybe-laws, word_blank, wide-blank}
 use Rattle.rows.specs.Places.{laid, row_at}
 use Rattle.rows.specs.Rows.{bool_row}
-use Rattle.state.specs.Meaning.{state_parts, place_of, part, bits_part, activations_part, positions_part, rules_part, unset_from, meaning, base, rules_of, Sound, Means}
+use Rattle.state.specs.Meaning.{state_parts, place_of, part, bits_part, activations_part, positions_part, rules_part, unset_from, meaning, base, rules_of, Sound, MeansSoundly}
 use Rattle.state.specs.Named.{kept_for, kept_laid}
 use Rattle.state.proofs.Cutting.{row-end}
 use Rattle.state.proofs.Frame.{Changed, part-long, bits-changed, activations-changed, positions-changed}
@@ -160,7 +160,7 @@ module _ (w : List ℕ) (s : Sound w) (i : ℕ) where
   bit-none h = at-past (rows_at bool_row 64 (part bits_part w)) (rules_of w) i false h ∙ ap (λ (l : List Bool). get_or l i false) (sym enabled-is)
 
   pub bit-put : (w' : List ℕ) (on : Bool) → i < rules_of w → w' ≡ laid w (place_of bits_part + i) (bool_row.put on)
-      → Means w' (base w) (with_rest (with_enabled (set (meaning w).rest.enabled i on) (meaning w).rest) (meaning w))
+      → MeansSoundly w' (base w) (with_rest (with_enabled (set (meaning w).rest.enabled i on) (meaning w).rest) (meaning w))
   bit-put w' on h e =
       let g = bool-good on in
       let p = rows_set bool_row bits_part 64 w i on in
@@ -168,10 +168,10 @@ module _ (w : List ℕ) (s : Sound w) (i : ℕ) where
       let long = written-long bool_row bool-laws bits_part (omega arith) refl w s i on h g in
       let q : map is_one (take (rules_of w) p) ≡ set (meaning w).rest.enabled i on =
       bits_are (rules_of w) p (rules-few w s) (omega (arith, long)) ∙ kept_set bool_row bool-laws bits_part (omega arith) refl w s i on h g ∙ ap (λ (l : List Bool). set l i on) (sym enabled-is) in
-      subst (λ (l : List Bool). Means w' (base w) (with_rest (with_enabled l (meaning w).rest) (meaning w))) q
+      subst (λ (l : List Bool). MeansSoundly w' (base w) (with_rest (with_enabled l (meaning w).rest) (meaning w))) q
       (bits-changed w w' p s c (kept-unset bool_row bool-laws bits_part (omega arith) refl w s i on h g (unfold rules_of in s.parts.bits)))
 
-  pub bit_past : (on : Bool) → rules_of w ≤ i → Means w (base w) (with_rest (with_enabled (set (meaning w).rest.enabled i on) (meaning w).rest) (meaning w))
+  pub bit_past : (on : Bool) → rules_of w ≤ i → MeansSoundly w (base w) (with_rest (with_enabled (set (meaning w).rest.enabled i on) (meaning w).rest) (meaning w))
   bit_past on h =
       let q : (meaning w).rest.enabled ≡ set (meaning w).rest.enabled i on =
       enabled-is ∙ set_past (rows_at bool_row 64 (part bits_part w)) (rules_of w) i on h ∙ ap (λ (l : List Bool). set l i on) (sym enabled-is) in
@@ -193,17 +193,17 @@ module _ (w : List ℕ) (s : Sound w) (i : ℕ) where
       at-past (rows_at maybe-wide 64 (part activations_part w)) (rules_of w) i None h ∙ ap (λ (l : List (Option ℕ)). get_or l i None) (sym activations-are)
 
   activation-put : (w' : List ℕ) (x : Option ℕ) → i < rules_of w → ((j : ℕ) → get_or w' j 0 < 4294967296) → w' ≡ laid w (place_of activations_part + i * 3) (maybe-wide.put x)
-      → Means w' (base w) (with_rest (with_last_activation (set (meaning w).rest.last_activation i x) (meaning w).rest) (meaning w))
+      → MeansSoundly w' (base w) (with_rest (with_last_activation (set (meaning w).rest.last_activation i x) (meaning w).rest) (meaning w))
   activation-put w' x h words e =
       let g = good-64 w w' (place_of activations_part + i * 3) words x e in
       let p = rows_set maybe-wide activations_part 64 w i x in
       let c = kept-changes maybe-wide wide-option-laws activations_part (omega arith) refl w s i x h g w' e in
       let q : take (rules_of w) (rows_at maybe-wide 64 p) ≡ set (meaning w).rest.last_activation i x =
       kept_set maybe-wide wide-option-laws activations_part (omega arith) refl w s i x h g ∙ ap (λ (l : List (Option ℕ)). set l i x) (sym activations-are) in
-      subst (λ (l : List (Option ℕ)). Means w' (base w) (with_rest (with_last_activation l (meaning w).rest) (meaning w))) q
+      subst (λ (l : List (Option ℕ)). MeansSoundly w' (base w) (with_rest (with_last_activation l (meaning w).rest) (meaning w))) q
       (activations-changed w w' p s c (kept-unset maybe-wide wide-option-laws activations_part (omega arith) refl w s i x h g (unfold rules_of in s.parts.activations)))
 
-  activation-past : (o : Option ℕ) → rules_of w ≤ i → Means w (base w) (with_rest (with_last_activation (set (meaning w).rest.last_activation i o) (meaning w).rest) (meaning w))
+  activation-past : (o : Option ℕ) → rules_of w ≤ i → MeansSoundly w (base w) (with_rest (with_last_activation (set (meaning w).rest.last_activation i o) (meaning w).rest) (meaning w))
   activation-past o h =
       let q : (meaning w).rest.last_activation ≡ set (meaning w).rest.last_activation i o =
       activations-are ∙ set_past (rows_at maybe-wide 64 (part activations_part w)) (rules_of w) i o h ∙ ap (λ (l : List (Option ℕ)). set l i o) (sym activations-are) in
@@ -225,17 +225,17 @@ module _ (w : List ℕ) (s : Sound w) (i : ℕ) where
       at-past (rows_at maybe-any 64 (part positions_part w)) (rules_of w) i None h ∙ ap (λ (l : List (Option ℕ)). get_or l i None) (sym positions-are)
 
   position-put : (w' : List ℕ) (x : Option ℕ) → i < rules_of w → ((j : ℕ) → get_or w' j 0 < 4294967296) → w' ≡ laid w (place_of positions_part + i * 2) (maybe-any.put x)
-      → Means w' (base w) (with_rest (with_cycle_pos (set (meaning w).rest.cycle_pos i x) (meaning w).rest) (meaning w))
+      → MeansSoundly w' (base w) (with_rest (with_cycle_pos (set (meaning w).rest.cycle_pos i x) (meaning w).rest) (meaning w))
   position-put w' x h words e =
       let g = good-32 w w' (place_of positions_part + i * 2) words x e in
       let p = rows_set maybe-any positions_part 64 w i x in
       let c = kept-changes maybe-any any-option-laws positions_part (omega arith) refl w s i x h g w' e in
       let q : take (rules_of w) (rows_at maybe-any 64 p) ≡ set (meaning w).rest.cycle_pos i x =
       kept_set maybe-any any-option-laws positions_part (omega arith) refl w s i x h g ∙ ap (λ (l : List (Option ℕ)). set l i x) (sym positions-are) in
-      subst (λ (l : List (Option ℕ)). Means w' (base w) (with_rest (with_cycle_pos l (meaning w).rest) (meaning w))) q
+      subst (λ (l : List (Option ℕ)). MeansSoundly w' (base w) (with_rest (with_cycle_pos l (meaning w).rest) (meaning w))) q
       (positions-changed w w' p s c (kept-unset maybe-any any-option-laws positions_part (omega arith) refl w s i x h g (unfold rules_of in s.parts.positions)))
 
-  position_past : (o : Option ℕ) → rules_of w ≤ i → Means w (base w) (with_rest (with_cycle_pos (set (meaning w).rest.cycle_pos i o) (meaning w).rest) (meaning w))
+  position_past : (o : Option ℕ) → rules_of w ≤ i → MeansSoundly w (base w) (with_rest (with_cycle_pos (set (meaning w).rest.cycle_pos i o) (meaning w).rest) (meaning w))
   position_past o h =
       let q : (meaning w).rest.cycle_pos ≡ set (meaning w).rest.cycle_pos i o =
       positions-are ∙ set_past (rows_at maybe-any 64 (part positions_part w)) (rules_of w) i o h ∙ ap (λ (l : List (Option ℕ)). set l i o) (sym positions-are) in
@@ -250,13 +250,13 @@ module _ (w : List ℕ) (s : Sound w) (i : ℕ) where
       by false f e = e ∙ activation-none (ltb-false i (rules_of w) f)
 
   pub activation-laid : (w' : List ℕ) (x : Option ℕ) → ((j : ℕ) → get_or w' j 0 < 4294967296) → w' ≡ kept_laid wide 2 w (place_of activations_part) i x
-      → Means w' (base w) (with_rest (with_last_activation (set (meaning w).rest.last_activation i x) (meaning w).rest) (meaning w))
+      → MeansSoundly w' (base w) (with_rest (with_last_activation (set (meaning w).rest.last_activation i x) (meaning w).rest) (meaning w))
   unfolding kept_laid
   activation-laid w' x words e = by (ltb i (rules_of w)) refl e
     where
-      by : (b : Bool) → ltb i (rules_of w) ≡ b → w' ≡ cond b (laid w (place_of activations_part + i * 3) ((maybe wide).put x)) w → Means w' (base w) (with_rest (with_last_activation (set (meaning w).rest.last_activation i x) (meaning w).rest) (meaning w))
+      by : (b : Bool) → ltb i (rules_of w) ≡ b → w' ≡ cond b (laid w (place_of activations_part + i * 3) ((maybe wide).put x)) w → MeansSoundly w' (base w) (with_rest (with_last_activation (set (meaning w).rest.last_activation i x) (meaning w).rest) (meaning w))
       by true f e = activation-put w' x (ltb-true i (rules_of w) f) words e
-      by false f e = subst (λ (u : List ℕ). Means u (base w) (with_rest (with_last_activation (set (meaning w).rest.last_activation i x) (meaning w).rest) (meaning w))) (sym e) (activation-past x (ltb-false i (rules_of w) f))
+      by false f e = subst (λ (u : List ℕ). MeansSoundly u (base w) (with_rest (with_last_activation (set (meaning w).rest.last_activation i x) (meaning w).rest) (meaning w))) (sym e) (activation-past x (ltb-false i (rules_of w) f))
 
   pub position-kept : (x : Option ℕ) → x ≡ kept_for any 1 w (place_of positions_part) i → x ≡ cycle_pos_at (meaning w).rest i
   unfolding kept_for
@@ -267,13 +267,13 @@ module _ (w : List ℕ) (s : Sound w) (i : ℕ) where
       by false f e = e ∙ position-none (ltb-false i (rules_of w) f)
 
   pub position-laid : (w' : List ℕ) (x : Option ℕ) → ((j : ℕ) → get_or w' j 0 < 4294967296) → w' ≡ kept_laid any 1 w (place_of positions_part) i x
-      → Means w' (base w) (with_rest (with_cycle_pos (set (meaning w).rest.cycle_pos i x) (meaning w).rest) (meaning w))
+      → MeansSoundly w' (base w) (with_rest (with_cycle_pos (set (meaning w).rest.cycle_pos i x) (meaning w).rest) (meaning w))
   unfolding kept_laid
   position-laid w' x words e = by (ltb i (rules_of w)) refl e
     where
-      by : (b : Bool) → ltb i (rules_of w) ≡ b → w' ≡ cond b (laid w (place_of positions_part + i * 2) ((maybe any).put x)) w → Means w' (base w) (with_rest (with_cycle_pos (set (meaning w).rest.cycle_pos i x) (meaning w).rest) (meaning w))
+      by : (b : Bool) → ltb i (rules_of w) ≡ b → w' ≡ cond b (laid w (place_of positions_part + i * 2) ((maybe any).put x)) w → MeansSoundly w' (base w) (with_rest (with_cycle_pos (set (meaning w).rest.cycle_pos i x) (meaning w).rest) (meaning w))
       by true f e = position-put w' x (ltb-true i (rules_of w) f) words e
-      by false f e = subst (λ (u : List ℕ). Means u (base w) (with_rest (with_cycle_pos (set (meaning w).rest.cycle_pos i x) (meaning w).rest) (meaning w))) (sym e) (position_past x (ltb-false i (rules_of w) f))
+      by false f e = subst (λ (u : List ℕ). MeansSoundly u (base w) (with_rest (with_cycle_pos (set (meaning w).rest.cycle_pos i x) (meaning w).rest) (meaning w))) (sym e) (position_past x (ltb-false i (rules_of w) f))
 
 -- where the words of a rule stand
 pub kept-within : (i n : ℕ) → i < 64 → i * (1 + n) + (1 + n) ≤ 64 * (1 + n)

@@ -25,3 +25,4 @@ pub mod RunningTimers
 pub mod Records
 pub mod TakingNumbers
 pub mod Assigning
+pub mod Blank

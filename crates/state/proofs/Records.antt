@@ -30,7 +30,7 @@ use Rattle.model.proofs.PartsLaws.{any_laws, jump-laws}
 use Rattle.rows.specs.Places.{laid, row_at, table_at}
 use Rattle.rows.proofs.Writing.{one_set}
 use Rattle.state.specs.Cuts.{cut, rows_in, table_of, passes, is_other, is_later, Fits, Table}
-use Rattle.state.specs.Meaning.{pending_row, part_sizes, pending_part, next_part, stored_part, accepted_part, place_of, words_in, meaning_of, base_in, stored_in, accepted_in, records_in, numbered, offset_from, Below, meaning, base, accepted, stored_count, pending_count, Sound, Means, Holds, Counted}
+use Rattle.state.specs.Meaning.{pending_row, part_sizes, pending_part, next_part, stored_part, accepted_part, place_of, words_in, meaning_of, base_in, stored_in, accepted_in, records_in, numbered, offset_from, Below, meaning, base, accepted, stored_count, pending_count, Sound, Means, MeansSoundly, Holds, Counted}
 use Rattle.state.specs.Selection.{records_at}
 use Rattle.state.specs.Pending.{later_than, with_next, with_record, kept_by, closed_up, ClosesUp, emptied, Schedules}
 use Rattle.state.proofs.Closing.{keep_append}
@@ -39,7 +39,7 @@ use Rattle.state.proofs.Numbers.{numbered-length, numbered-all, numbered-joins, 
 use Rattle.state.proofs.Typed.{keep-rows, few-keep, holds_rows, holds-keep, holds-get, holds-count, holds-few, holds_fits, holds-table}
 use Rattle.state.proofs.Held.{table-read}
 use Rattle.state.proofs.Frame.{shaped, Changed, changed-laid, table-lent, table-back, table-laid, across, sound-of, sound-by, part-is, part_at, part-word}
-use Rattle.state.proofs.Follows.{follows, next-is}
+use Rattle.state.proofs.Follows.{means, follows, next-is}
 
 pub pending-laws : RowLaws pending_row
 pending-laws =
@@ -99,7 +99,7 @@ module _ (w : List ℕ) (s : Sound w) where
   -- other records
   pub records-changed : (w' p : List ℕ) (l : List Pending) → Changed w w' pending_part p → Holds 32 pending_row p l → stored_in (cut part_sizes w) ≤ length l
       → Below (accepted_in (cut part_sizes w)) (drop (stored_in (cut part_sizes w)) l)
-      → Means w' (base w) (record { rest = (meaning w).rest; pending = numbered (base w) (stored_in (cut part_sizes w)) l; next = (meaning w).next; last_number = (meaning w).last_number })
+      → MeansSoundly w' (base w) (record { rest = (meaning w).rest; pending = numbered (base w) (stored_in (cut part_sizes w)) l; next = (meaning w).next; last_number = (meaning w).last_number })
   unfolding cut meaning base
   records-changed w' p l c h a b =
       let g = holds-get pending_row pending-laws 32 p l h in
@@ -113,7 +113,7 @@ module _ (w : List ℕ) (s : Sound w) where
 
   -- one more
   pub records-join : (p : List ℕ) (x : Pending) → x.seq < accepted w → Holds 32 pending_row p ((most 32 pending_row).get lent ++ (x ∷ []))
-      → Means (put_mid (place_of pending_part) (words_in pending_part) w p) (base w) (with_record (base w) x (meaning w))
+      → MeansSoundly (put_mid (place_of pending_part) (words_in pending_part) w p) (base w) (with_record (base w) x (meaning w))
   unfolding accepted records meaning base
   records-join p x less h =
       let l : List Pending = records_in (cut part_sizes w) in
@@ -123,7 +123,7 @@ module _ (w : List ℕ) (s : Sound w) where
       let n = stored-few in
       let m : length (l ++ (x ∷ [])) ≡ length l + 1 = length-append l (x ∷ []) in
       let b : Below (accepted w) (drop st (l ++ (x ∷ []))) = rw (drop-append-le st l (x ∷ []) n) (below-append (accepted w) (drop st l) (x ∷ []) s.parts.offsets (less, tt)) in
-      subst (λ (y : List Pending). Means (put_mid (place_of pending_part) (words_in pending_part) w p) (base w) (record { rest = (meaning w).rest; pending = y; next = (meaning w).next; last_number = (meaning w).last_number })) (numbered-joins (base w) st l x n)
+      subst (λ (y : List Pending). MeansSoundly (put_mid (place_of pending_part) (words_in pending_part) w p) (base w) (record { rest = (meaning w).rest; pending = y; next = (meaning w).next; last_number = (meaning w).last_number })) (numbered-joins (base w) st l x n)
       (records-changed _ p (l ++ (x ∷ [])) c h' (omega arith) b)
 
 -- A NUMBER IS GIVEN ---------------------------------------------------------------------------------------------------------------------------
@@ -148,7 +148,7 @@ unfolding rows_fit row_fits zeros
 word_fits m x h = join (join (join (le-leb x m h) (or-true (not (eqb x 0)))) refl) refl
 
 pub accepts-one : (w w' : List ℕ) (k : ℕ) → Sound w → k ≡ accepted w → k < max64 → w' ≡ laid w (place_of accepted_part) (wide.put (k + 1))
-    → Means w' (base w) (with_next (meaning w)) × (accepted w' ≡ suc k)
+    → MeansSoundly w' (base w) (with_next (meaning w)) × (accepted w' ≡ suc k)
 unfolding cut meaning base accepted
 accepts-one w w' k s e less b =
     let q = wide_fits (k + 1) (omega arith) in
@@ -246,7 +246,7 @@ module _ (w : List ℕ) (s : Sound w) (test : List ℕ → Bool) where
   module _ (past : PastNumber test) where
     closes : (p w₁ w₂ : List ℕ) (front : ℕ) → p ≡ table_of (length mine - 1) (keep test (rows_in 15 mine))
         → front ≡ length (keep test (take (get_or w (place_of stored_part) 0) (rows_in 15 mine))) → w₁ ≡ put_mid (place_of pending_part) (words_in pending_part) w p → w₂ ≡ set w₁ (place_of stored_part) front
-        → Means w₂ (base w) (closed_up test (meaning w))
+        → MeansSoundly w₂ (base w) (closed_up test (meaning w))
     unfolding cut meaning base records
     closes p w₁ w₂ front e f e₁ e₂ =
         let l : List Pending = records_in (cut part_sizes w) in
@@ -297,16 +297,16 @@ strikes w w₁ w₂ rule gone c m =
     let left : List Pending = keep (kept_by (passes any 4 (is_other rule))) (meaning w).pending in
     let e : gone ≡ length (meaning w).pending - length left = omega (arith, c.1) in
     subst (λ (x : ℕ). Means w₂ (base w) (with_rest (bump_by continuations_dropped x (meaning w).rest) (closed_up (passes any 4 (is_other rule)) (meaning w)))) e
-    (follows (λ v. with_rest (bump_by continuations_dropped gone v.rest) v) w₁ w₂ (base w) _ c.0 m)
+    (follows (λ v. with_rest (bump_by continuations_dropped gone v.rest) v) w₁ w₂ (base w) _ (means c.0) m)
 
 pub keep_same : {A : Type 0} (p q : A → Bool) → ((c : A) → p c ≡ q c) → (l : List A) → keep p l ≡ keep q l
 keep_same p q e [] = refl
 keep_same p q e (c ∷ l) = rw (e c, keep_same p q e l)
 
-pub due-leaves : (w w₁ : List ℕ) (time gone : ℕ) → ClosesUp (passes wide 2 (is_later time)) w w₁ gone → Means w₁ (base w) (not_due time (meaning w))
+pub due-leaves : (w w₁ : List ℕ) (time gone : ℕ) → ClosesUp (passes wide 2 (is_later time)) w w₁ gone → MeansSoundly w₁ (base w) (not_due time (meaning w))
 unfolding not_due row_at
 due-leaves w w₁ time gone c =
-    subst (λ (l : List Pending). Means w₁ (base w) (record { rest = (meaning w).rest; pending = l; next = (meaning w).next; last_number = (meaning w).last_number }))
+    subst (λ (l : List Pending). MeansSoundly w₁ (base w) (record { rest = (meaning w).rest; pending = l; next = (meaning w).next; last_number = (meaning w).last_number }))
     (keep_same (kept_by (passes wide 2 (is_later time))) (later_than time) (λ p. ap (is_later time) (joined_words p.due) ∙ to-come time p.due) (meaning w).pending) c.0
 
 -- ALL LEAVE -------------------------------------------------------------------------------------------------------------------------------------
@@ -317,7 +317,7 @@ none-stored w s e =
     omega (arith, None, s.parts.stored, part_at pending_part (omega arith) w 0 (omega arith))
 
 pub all-leave : (w w₁ w₂ : List ℕ) → Sound w → w₁ ≡ laid w (place_of pending_part) (replicate (words_in pending_part) 0) → w₂ ≡ laid w₁ (place_of stored_part) (any.put 0)
-    → Means w₂ (base w) (record { rest = (meaning w).rest; pending = []; next = (meaning w).next; last_number = (meaning w).last_number })
+    → MeansSoundly w₂ (base w) (record { rest = (meaning w).rest; pending = []; next = (meaning w).next; last_number = (meaning w).last_number })
 unfolding cut meaning base words_of all_good rows_at numbered
 all-leave w w₁ w₂ s e₁ e₂ =
     let h : Holds 32 pending_row (replicate (words_in pending_part) 0) [] = record { words = refl; good = refl } in
@@ -327,13 +327,13 @@ all-leave w w₁ w₂ s e₁ e₂ =
     let a = across w s in
     record { says = ap meaning_of cuts; sound = sound-of w₂ _ cuts c₂.shape (omega arith, tt, a.2, a.3, a.4, a.5, a.6); based = ap base_in cuts }
 
-pub all-dropped : (w w₁ w₂ : List ℕ) (n : ℕ) → Sound w → n ≡ get_or w (place_of pending_part) 0 → Means w₁ (base w) (record { rest = (meaning w).rest; pending = []; next = (meaning w).next; last_number = (meaning w).last_number })
+pub all-dropped : (w w₁ w₂ : List ℕ) (n : ℕ) → Sound w → Sound w₂ → n ≡ get_or w (place_of pending_part) 0 → Means w₁ (base w) (record { rest = (meaning w).rest; pending = []; next = (meaning w).next; last_number = (meaning w).last_number })
     → Means w₂ (base w₁) (with_rest (bump_by continuations_dropped n (meaning w₁).rest) (meaning w₁)) → Means w₂ (base w) (emptied (meaning w)) × (stored_count w₂ ≡ pending_count w₂)
-all-dropped w w₁ w₂ n s e m₁ m₂ =
+all-dropped w w₁ w₂ n s s₂ e m₁ m₂ =
     let m : Means w₂ (base w) (emptied (meaning w)) =
     subst (λ (x : ℕ). Means w₂ (base w) (with_rest (bump_by continuations_dropped x (meaning w).rest) (record { rest = (meaning w).rest; pending = []; next = (meaning w).next; last_number = (meaning w).last_number }))) (e ∙ sym (pending-length w s))
     (follows (λ v. with_rest (bump_by continuations_dropped n v.rest) v) w₁ w₂ (base w) _ m₁ m₂) in
-    (m, none-stored w₂ m.sound (ap (λ (v : model.Volatile). v.pending) m.says))
+    (m, none-stored w₂ s₂ (ap (λ (v : model.Volatile). v.pending) m.says))
 
 -- WHAT IS DUE -----------------------------------------------------------------------------------------------------------------------------------
 -- the rows of the layout are read as those of a state

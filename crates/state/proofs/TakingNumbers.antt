@@ -18,7 +18,7 @@ use Rattle.model.proofs.Bools.{both}
 use Rattle.model.proofs.RowLaws.{wide_laws}
 use Rattle.rows.specs.Places.{laid, row_at}
 use Rattle.state.specs.Cuts.{cut}
-use Rattle.state.specs.Meaning.{part_sizes, last_part, beyond_part, place_of, part, meaning_of, base_in, last_in, beyond_in, OnlyBeyond, meaning, base, Sound, Means}
+use Rattle.state.specs.Meaning.{part_sizes, last_part, beyond_part, place_of, part, meaning_of, base_in, last_in, beyond_in, OnlyBeyond, meaning, base, Sound, MeansSoundly}
 use Rattle.state.proofs.Frame.{shaped, Changed, changed-laid, across, sound-by, part-is}
 use Rattle.state.proofs.Records.{both_words, wide_fits}
 
@@ -79,7 +79,7 @@ module _ (w : List ℕ) (s : Sound w) where
     unfolding saturating_add
     next-below h = omega (arith, a ∙ last-at w, last-is w, whole h)
 
-    pub takes-last : last < max64 → (w' : List ℕ) → w' ≡ laid w (place_of last_part) (wide.put (last + 1)) → Means w' (base w) (with_number (suc (meaning w).last_number) (meaning w))
+    pub takes-last : last < max64 → (w' : List ℕ) → w' ≡ laid w (place_of last_part) (wide.put (last + 1)) → MeansSoundly w' (base w) (with_number (suc (meaning w).last_number) (meaning w))
     unfolding cut meaning base
     takes-last h w' e =
         let q = wide_fits (last + 1) (omega arith) in
@@ -98,7 +98,7 @@ module _ (w : List ℕ) (s : Sound w) where
       pub beyond-small : max64 ≤ last → (meaning w).last_number < max64 + max64 → more < max64
       beyond-small h l = omega (arith, a ∙ last-at w, b ∙ beyond-at w, last-is w)
 
-      pub takes-beyond : max64 ≤ last → (meaning w).last_number < max64 + max64 → (w' : List ℕ) → w' ≡ laid w (place_of beyond_part) (wide.put (more + 1)) → Means w' (base w) (with_number (suc (meaning w).last_number) (meaning w))
+      pub takes-beyond : max64 ≤ last → (meaning w).last_number < max64 + max64 → (w' : List ℕ) → w' ≡ laid w (place_of beyond_part) (wide.put (more + 1)) → MeansSoundly w' (base w) (with_number (suc (meaning w).last_number) (meaning w))
       unfolding cut meaning base
       takes-beyond h l w' e =
           let small = beyond-small h l in

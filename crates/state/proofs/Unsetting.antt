@@ -20,7 +20,7 @@ use Rattle.model.proofs.RowLaws.{zeros-written}
 use Rattle.rows.specs.Places.{laid}
 use Rattle.rows.proofs.Writing.{laid-long, and-then, lays}
 use Rattle.state.specs.Cuts.{cut}
-use Rattle.state.specs.Meaning.{part_sizes, place_of, words_in, bits_part, activations_part, positions_part, variables_part, rules_part, meaning_of, base_in, unset_from, meaning, base, Sound, Means}
+use Rattle.state.specs.Meaning.{part_sizes, place_of, words_in, bits_part, activations_part, positions_part, variables_part, rules_part, meaning_of, base_in, unset_from, meaning, base, Sound, MeansSoundly}
 use Rattle.state.specs.Named.{unset_rules}
 use Rattle.state.proofs.Cutting.{take_same}
 use Rattle.state.proofs.Frame.{shaped, Changed, changed-laid, across, sound-of}
@@ -99,7 +99,7 @@ module _ (w w₁ w₂ : List ℕ) (n : ℕ) (s : Sound w) (few : n ≤ 64) where
       ∙ ap (laid w (place_of bits_part)) (ap (λ (z : List ℕ). z₀ ++ z) (replicate-append-replicate (words_in activations_part) (words_in positions_part) 0) ∙ replicate-append-replicate (words_in bits_part) (words_in activations_part + words_in positions_part) 0)
 
   pub rules-unset : w₁ ≡ laid w (place_of bits_part) (replicate (place_of variables_part - place_of bits_part) 0) → w₂ ≡ laid w₁ (place_of rules_part) (any.put n)
-      → Means w₂ (base w) (with_rest (unset_rules n (meaning w).rest) (meaning w))
+      → MeansSoundly w₂ (base w) (with_rest (unset_rules n (meaning w).rest) (meaning w))
   unfolding cut meaning base
   rules-unset e₁ e₂ =
       let e : w₂ ≡ laid a₃ (place_of rules_part) (n ∷ []) = e₂ ∙ ap (λ (x : List ℕ). laid x (place_of rules_part) (n ∷ [])) (e₁ ∙ sym all_three) in

@@ -30,7 +30,7 @@ use Rattle.rows.specs.Places.{laid, row_at}
 use Rattle.rows.specs.Rows.{variable_code_row}
 use Rattle.rows.proofs.Reading.{short-is}
 use Rattle.state.specs.Cuts.{rows_in, has_word, with_row}
-use Rattle.state.specs.Meaning.{Holds, Counted, Sound, Means, meaning, base, variables_part, place_of, words_in, part}
+use Rattle.state.specs.Meaning.{Holds, Counted, Sound, MeansSoundly, meaning, base, variables_part, place_of, words_in, part}
 use Rattle.state.specs.Named.{variable_has_name, lacks_room, assigned, has_name, put_row, assign_row}
 use Rattle.state.specs.Tables.{First, Finds}
 use Rattle.state.proofs.Found.{found, not_found, passed_over}
@@ -248,7 +248,7 @@ module _ (name : ℕ) (value : VarValue) where
 
   pub variable-set : (w p : List ℕ) → Sound w → text_short (variable_row_of x) ≡ true
       → Holds 16 variable_row p (assign_row name (variable_row_of x) ((most 16 variable_row).get (take (words_in variables_part) (drop (place_of variables_part) w))))
-      → Means (put_mid (place_of variables_part) (words_in variables_part) w p) (base w) (assigned name value (meaning w))
+      → MeansSoundly (put_mid (place_of variables_part) (words_in variables_part) w p) (base w) (assigned name value (meaning w))
   unfolding assigned lacks_room var_named assign_row meaning
   variable-set w p s short h =
       let l : List R = (most 16 variable_row).get (part variables_part w) in
@@ -258,5 +258,5 @@ module _ (name : ℕ) (value : VarValue) where
       let same : not (present (find (has_name name) l)) && leb 16 (length l) ≡ not (present (value_in (find (variable_has_name name) (map variable_of l)))) && leb 16 (length (map variable_of l)) =
       (let m : length (map variable_of l) ≡ length l = simp length-map in rw (found-same l, m, value_in_lem (find (variable_has_name name) (map variable_of l))) refl) in
       let e = assign-cond (not (present (find (has_name name) l)) && leb 16 (length l)) (meaning w) l (put_row name (variable_row_of x) l) (put_var name value (map variable_of l)) refl (put-says l) in
-      subst (λ (b : Bool). Means w' (base w) (cond b (meaning w) (with_rest (with_vars (put_var name value (map variable_of l)) (meaning w).rest) (meaning w)))) same
-      (subst (Means w' (base w)) e (variables-changed w w' p s (assign_row name (variable_row_of x) l) c h' (short-assign name (variable_row_of x) l short s.parts.texts)))
+      subst (λ (b : Bool). MeansSoundly w' (base w) (cond b (meaning w) (with_rest (with_vars (put_var name value (map variable_of l)) (meaning w).rest) (meaning w)))) same
+      (subst (MeansSoundly w' (base w)) e (variables-changed w w' p s (assign_row name (variable_row_of x) l) c h' (short-assign name (variable_row_of x) l short s.parts.texts)))

@@ -201,8 +201,13 @@ pub record Sound (w : List ℕ) : Type 0 where
   pub long : length w ≡ state_words
   pub parts : SoundOf (cut part_sizes w)
 
--- w is sound, counts its numbers from the base, and says s
+-- w counts its numbers from the base, and says s
 pub record Means (w : List ℕ) (b : ℕ) (s : model.Volatile) : Type 0 where
+  pub says : meaning w ≡ s
+  pub based : base w ≡ b
+
+-- and is sound
+pub record MeansSoundly (w : List ℕ) (b : ℕ) (s : model.Volatile) : Type 0 where
   pub says : meaning w ≡ s
   pub sound : Sound w
   pub based : base w ≡ b

@@ -6,7 +6,7 @@ use Rattle.model.specs.Lists.{keep}
 use Rattle.model.specs.State.{Env, Volatile, bump_by, continuations_dropped}
 use Rattle.model.specs.declared.Pending.{Pending}
 use Rattle.model.specs.declared.Point.{Point}
-use Rattle.state.specs.Meaning.{Means, meaning, base, offset_from, pending_row}
+use Rattle.state.specs.Meaning.{Means, MeansSoundly, meaning, base, offset_from, pending_row}
 
 abbrev pub of_other_rule : ℕ → Pending → Bool
 of_other_rule rule c = not (eqb c.rule rule)
@@ -31,7 +31,7 @@ closed_up test v = record { rest = v.rest; pending = keep (kept_by test) v.pendi
 -- and so many left
 abbrev pub ClosesUp : (List ℕ → Bool) → List ℕ → List ℕ → ℕ → Type 0
 ClosesUp test w w' gone =
-    Means w' (base w) (closed_up test (meaning w)) × (gone + length (keep (kept_by test) (meaning w).pending) ≡ length (meaning w).pending)
+    MeansSoundly w' (base w) (closed_up test (meaning w)) × (gone + length (keep (kept_by test) (meaning w).pending) ≡ length (meaning w).pending)
 
 -- all records leave, and are counted
 abbrev pub emptied : Volatile → Volatile

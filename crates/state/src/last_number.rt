@@ -5,30 +5,29 @@ ghost use Rattle.model.specs.Activate.{with_number};
 ghost use Rattle.model.specs.State.{next_number};
 ghost use Rattle.state.specs.Meaning.{Sound, Means, meaning, base};
 
-use crate::place;
+use crate::{State, place};
 use rows::row::Row;
 
 const MAX_U64: u64 = 0xFFFF_FFFF_FFFF_FFFF;
 
 // The number of an activation that begins. Each one has an outcome, so that a call never comes near 2^64 of them.
-pub fn take_number(v: &mut [u32]) -> u64
-    requires { Sound v.old × ((meaning v.old).last_number < max64 + max64) }
+pub fn take_number(v: &mut State) -> u64
+    requires { (meaning v.old).last_number < max64 + max64 }
     ensures { Means v.new (base v.old) (with_number (suc (meaning v.old).last_number) (meaning v.old)) × (result ≡ next_number (meaning v.old).last_number) }
 {
-    let last = u64::at(v, place::LAST);
+    let last = u64::at(&v.words, place::LAST);
     if last < MAX_U64 {
-        (last + 1).put(v, place::LAST);
+        (last + 1).put(&mut v.words, place::LAST);
         return last + 1;
     }
-    let beyond = u64::at(v, place::BEYOND);
-    (beyond + 1).put(v, place::BEYOND);
+    let beyond = u64::at(&v.words, place::BEYOND);
+    (beyond + 1).put(&mut v.words, place::BEYOND);
     MAX_U64
 }
 
 // Whether the last number is at most 2^64 - 1: where it is not, the call is refused with 32.
-pub fn last_fits(v: &[u32]) -> bool
-    requires { Sound v.now }
+pub fn last_fits(v: &State) -> bool
     ensures { result ≡ leb (meaning v.now).last_number max64 }
 {
-    u64::at(v, place::BEYOND) == 0
+    u64::at(&v.words, place::BEYOND) == 0
 }

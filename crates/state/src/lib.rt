@@ -18,11 +18,12 @@ ghost use Rattle.counters.specs.Counters.{counters_of, place_of_counter};
 ghost use Rattle.model.specs.Parts.{any};
 ghost use Rattle.model.specs.State.{with_rest, bump_by, with_prev_week_min};
 ghost use Rattle.rows.specs.Places.{table_at, laid};
-ghost use Rattle.state.specs.Meaning.{Sound, Means, meaning, base};
+ghost use Rattle.state.specs.Meaning.{Sound, Means, MeansSoundly, meaning, base};
 
 use counters::{Counter, Counters};
 use rows::put::put_words;
 use rows::row::{Row, option_at, put_option};
+use std::marker::Model;
 
 pub mod last_number;
 pub mod pending;
@@ -35,6 +36,38 @@ pub mod slots;
 pub mod table;
 pub mod timers;
 pub mod variables;
+
+// The words of a state, which are sound: seen as the list of them.
+#[derive(Drop)]
+pub struct State {
+    pub words: [u32; place::WORDS],
+}
+
+impl Model for State {
+    ghost use Rattle.std.specs.Prelude.{List, ℕ};
+    ghost use Rattle.state.specs.Meaning.{Sound};
+
+    ghost Value = { List ℕ };
+
+    ghost view = { λ s. s.words };
+
+    ghost invariant = { λ s. Sound s.words };
+}
+
+impl State {
+    ghost use Rattle.std.specs.Prelude.{◌≡◌, replicate};
+    ghost use Rattle.state.specs.Meaning.{state_words};
+
+    // Of no rules, in which nothing is kept. Inlined, so that the array is made where it stays.
+    #[inline(always)]
+    pub fn new() -> State
+        ensures { result ≡ replicate state_words 0 }
+    {
+        State {
+            words: [0; place::WORDS],
+        }
+    }
+}
 
 fn counters_at(s: &[u32], k: usize) -> Counters
     requires { k ≤ 16384 }
@@ -79,26 +112,30 @@ fn put_counters(s: &mut [u32], k: usize, c: Counters)
 }
 
 // A counter goes up by `by`: the 12 words are read into the record, which is lent, and written back.
-pub fn bump(v: &mut [u32], which: Counter, by: u32)
-    requires { Sound v.old }
+pub fn bump(v: &mut State, which: Counter, by: u32)
     ensures { Means v.new (base v.old) (with_rest (bump_by (place_of_counter which) by (meaning v.old).rest) (meaning v.old)) }
 {
-    let mut c = counters_at(v, place::COUNTERS);
+    let mut c = counters_at(&v.words, place::COUNTERS);
     c.bump(which, by);
-    put_counters(v, place::COUNTERS, c);
+    put_counters(&mut v.words, place::COUNTERS, c);
 }
 
 // The minute of the week at the tick before.
-pub fn prev_week_min(v: &[u32]) -> Option<u32>
-    requires { Sound v.now }
+pub fn prev_week_min(v: &State) -> Option<u32>
     ensures { result ≡ (meaning v.now).rest.prev_week_min }
 {
-    option_at(v, place::WEEK)
+    option_at(&v.words, place::WEEK)
 }
 
-pub fn set_prev_week_min(v: &mut [u32], minute: Option<u32>)
-    requires { Sound v.old }
+fn put_minute(w: &mut [u32], minute: Option<u32>)
+    requires { Sound w.old }
+    ensures { MeansSoundly w.new (base w.old) (with_rest (with_prev_week_min minute (meaning w.old).rest) (meaning w.old)) }
+{
+    put_option(w, place::WEEK, minute);
+}
+
+pub fn set_prev_week_min(v: &mut State, minute: Option<u32>)
     ensures { Means v.new (base v.old) (with_rest (with_prev_week_min minute (meaning v.old).rest) (meaning v.old)) }
 {
-    put_option(v, place::WEEK, minute);
+    put_minute(&mut v.words, minute);
 }

@@ -1,17 +1,18 @@
 // What is kept for each rule of the set, by its place in the image: its bit, its last activation, its cycle position. A place past
 // the last has none, and nothing is kept for it.
-ghost use Rattle.std.specs.Prelude.{◌≡◌, ◌+◌, ◌*◌, ◌≤◌, set, length};
+ghost use Rattle.std.specs.Prelude.{ℕ, ◌≡◌, ◌+◌, ◌*◌, ◌≤◌, ◌<◌, set, length, get_or};
 ghost use Rattle.std.specs.Prelude.{Some};
 ghost use Rattle.model.specs.Calls.{flipped};
 ghost use Rattle.model.specs.State.{is_enabled, last_activation_at, cycle_pos_at, with_rest, with_enabled, with_last_activation, with_cycle_pos};
 ghost use Rattle.state.specs.Meaning.{Sound, Means, meaning, base, rules_of};
 ghost use Rattle.state.specs.Named.{kept_for, kept_laid, unset_rules};
 
-use crate::{pending, place};
+use crate::{State, pending, place};
 use rows::put::clear;
 use rows::row::{Row, option_at, put_option};
 
 // How many rules there are.
+// kept: `Sound` is asked where a function takes the words of a state that is open: this, `kept`, `put_kept`, and those of the timers, variables and records.
 fn rule_count(v: &[u32]) -> usize
     requires { Sound v.now }
     ensures { (result ≡ rules_of v.now) × (result ≤ 64) }
@@ -19,29 +20,26 @@ fn rule_count(v: &[u32]) -> usize
     u32::at(v, place::RULES) as usize
 }
 
-pub fn is_enabled(v: &[u32], i: usize) -> bool
-    requires { Sound v.now }
+pub fn is_enabled(v: &State, i: usize) -> bool
     ensures { result ≡ is_enabled (meaning v.now).rest i }
 {
-    if i < rule_count(v) {
-        return bool::at(v, place::BITS + i);
+    if i < rule_count(&v.words) {
+        return bool::at(&v.words, place::BITS + i);
     }
     false
 }
 
 // The bit alone: `set_enabled` strikes the continuations too.
-pub fn put_bit(v: &mut [u32], i: usize, on: bool)
-    requires { Sound v.old }
+pub fn put_bit(v: &mut State, i: usize, on: bool)
     ensures { Means v.new (base v.old) (with_rest (with_enabled (set (meaning v.old).rest.enabled i on) (meaning v.old).rest) (meaning v.old)) }
 {
-    if i < rule_count(v) {
-        on.put(v, place::BITS + i);
+    if i < rule_count(&v.words) {
+        on.put(&mut v.words, place::BITS + i);
     }
 }
 
 // The bit of rule `rule` at place i is set; who disables also strikes the rule's continuations.
-pub fn set_enabled(v: &mut [u32], rule: u32, i: usize, on: bool)
-    requires { Sound v.old }
+pub fn set_enabled(v: &mut State, rule: u32, i: usize, on: bool)
     ensures { Means v.new (base v.old) (flipped rule i on (meaning v.old)) }
 {
     put_bit(v, i, on);
@@ -63,62 +61,57 @@ fn kept<T: Row>(v: &[u32], part: usize, i: usize) -> Option<T>
 
 fn put_kept<T: Row>(v: &mut [u32], part: usize, i: usize, x: Option<T>)
     requires { Sound v.old × (part + 64 * (1 + T.WORDS) ≤ length v.old) }
-    ensures { v.new ≡ kept_laid T.codec T.WORDS v.old part i x }
+    ensures laid { v.new ≡ kept_laid T.codec T.WORDS v.old part i x }
+    ensures words { (j : ℕ) → get_or v.new j 0 < 4294967296 }
 {
     if i < rule_count(v) {
         put_option(v, part + i * (1 + T::WORDS), x);
     }
 }
 
-pub fn last_activation(v: &[u32], i: usize) -> Option<u64>
-    requires { Sound v.now }
+pub fn last_activation(v: &State, i: usize) -> Option<u64>
     ensures { result ≡ last_activation_at (meaning v.now).rest i }
 {
-    kept(v, place::ACTIVATIONS, i)
+    kept(&v.words, place::ACTIVATIONS, i)
 }
 
 // What is kept of rule i's last activation.
-pub fn put_last_activation(v: &mut [u32], i: usize, x: Option<u64>)
-    requires { Sound v.old }
+pub fn put_last_activation(v: &mut State, i: usize, x: Option<u64>)
     ensures { Means v.new (base v.old) (with_rest (with_last_activation (set (meaning v.old).rest.last_activation i x) (meaning v.old).rest) (meaning v.old)) }
 {
-    put_kept(v, place::ACTIVATIONS, i, x);
+    put_kept(&mut v.words, place::ACTIVATIONS, i, x);
 }
 
-pub fn set_last_activation(v: &mut [u32], i: usize, time: u64)
-    requires { Sound v.old }
+pub fn set_last_activation(v: &mut State, i: usize, time: u64)
     ensures { Means v.new (base v.old) (with_rest (with_last_activation (set (meaning v.old).rest.last_activation i (Some time)) (meaning v.old).rest) (meaning v.old)) }
 {
     put_last_activation(v, i, Some(time));
 }
 
-pub fn cycle_pos(v: &[u32], i: usize) -> Option<u32>
-    requires { Sound v.now }
+pub fn cycle_pos(v: &State, i: usize) -> Option<u32>
     ensures { result ≡ cycle_pos_at (meaning v.now).rest i }
 {
-    kept(v, place::POSITIONS, i)
+    kept(&v.words, place::POSITIONS, i)
 }
 
 // What is kept of rule i's cycle position.
-pub fn put_cycle_pos(v: &mut [u32], i: usize, x: Option<u32>)
-    requires { Sound v.old }
+pub fn put_cycle_pos(v: &mut State, i: usize, x: Option<u32>)
     ensures { Means v.new (base v.old) (with_rest (with_cycle_pos (set (meaning v.old).rest.cycle_pos i x) (meaning v.old).rest) (meaning v.old)) }
 {
-    put_kept(v, place::POSITIONS, i, x);
+    put_kept(&mut v.words, place::POSITIONS, i, x);
 }
 
-pub fn set_cycle_pos(v: &mut [u32], i: usize, at: u32)
-    requires { Sound v.old }
+pub fn set_cycle_pos(v: &mut State, i: usize, at: u32)
     ensures { Means v.new (base v.old) (with_rest (with_cycle_pos (set (meaning v.old).rest.cycle_pos i (Some at)) (meaning v.old).rest) (meaning v.old)) }
 {
     put_cycle_pos(v, i, Some(at));
 }
 
 // There are n rules, and nothing is kept of any.
-pub fn unset_rules(v: &mut [u32], n: usize)
-    requires { Sound v.old × (n ≤ 64) }
+pub fn unset_rules(v: &mut State, n: usize)
+    requires { n ≤ 64 }
     ensures { Means v.new (base v.old) (with_rest (unset_rules n (meaning v.old).rest) (meaning v.old)) }
 {
-    clear(v, place::BITS, place::VARIABLES - place::BITS);
-    (n as u32).put(v, place::RULES);
+    clear(&mut v.words, place::BITS, place::VARIABLES - place::BITS);
+    (n as u32).put(&mut v.words, place::RULES);
 }

@@ -4,19 +4,18 @@ ghost use Rattle.words.specs.Saturating.{max64};
 ghost use Rattle.model.specs.Codec.{most};
 ghost use Rattle.state.specs.Meaning.{Sound, AllNumbered, Holds, Counted, Below, meaning, numbered, pending_row};
 
-use crate::place;
+use crate::{State, place};
 use rows::PENDING_WORDS;
 use rows::row::Row;
 
 const MAX_U64: u64 = 0xFFFF_FFFF_FFFF_FFFF;
 
 // Whether the next number is at most 2^64 - 1: where it is not, the call is refused with 31.
-pub fn next_fits(v: &[u32]) -> bool
-    requires { Sound v.now }
+pub fn next_fits(v: &State) -> bool
     ensures { result ≡ leb (meaning v.now).next max64 }
 {
-    let next = u64::at(v, place::NEXT);
-    u64::at(v, place::ACCEPTED) <= MAX_U64 - next
+    let next = u64::at(&v.words, place::NEXT);
+    u64::at(&v.words, place::ACCEPTED) <= MAX_U64 - next
 }
 
 // Each record behind the stored ones gets the number at its offset.
@@ -34,16 +33,21 @@ fn number_all(t: &mut [u32], stored: usize, next: u64, accepted: u64)
 
 // The records of the call get their numbers, and the store its next one: the same meaning, with no offset left. The last activation number is
 // one of 64 bits.
-pub fn assign_numbers(v: &mut [u32])
-    requires { Sound v.old × (leb (meaning v.old).next max64 ≡ true) × ((meaning v.old).last_number ≤ max64) }
+pub fn assign_numbers(v: &mut State)
+    requires { (leb (meaning v.old).next max64 ≡ true) × ((meaning v.old).last_number ≤ max64) }
     ensures { AllNumbered v.new (meaning v.old) }
 {
-    let next = u64::at(v, place::NEXT);
-    let accepted = u64::at(v, place::ACCEPTED);
-    let stored = v[place::STORED] as usize;
-    number_all(&mut v[place::PENDING..place::WEEK], stored, next, accepted);
-    let count = v[place::PENDING];
-    count.put(v, place::STORED);
-    (next + accepted).put(v, place::NEXT);
-    0u64.put(v, place::ACCEPTED);
+    let next = u64::at(&v.words, place::NEXT);
+    let accepted = u64::at(&v.words, place::ACCEPTED);
+    let stored = v.words[place::STORED] as usize;
+    number_all(
+        &mut v.words[place::PENDING..place::WEEK],
+        stored,
+        next,
+        accepted,
+    );
+    let count = v.words[place::PENDING];
+    count.put(&mut v.words, place::STORED);
+    (next + accepted).put(&mut v.words, place::NEXT);
+    0u64.put(&mut v.words, place::ACCEPTED);
 }

@@ -8,7 +8,7 @@ ghost use Rattle.model.specs.Wheel.{moved};
 ghost use Rattle.state.specs.Meaning.{Sound, Means, Holds, Counted, meaning, base};
 ghost use Rattle.state.specs.Named.{slot_due};
 
-use crate::{place, table};
+use crate::{State, place, table};
 use arrayvec::ArrayVec;
 use model::EverySlot;
 use rows::SLOT_WORDS;
@@ -44,20 +44,18 @@ fn move_all(t: &mut [u32], time: u64)
 }
 
 // Each due slot is due again a period from now.
-pub fn move_slots(v: &mut [u32], time: u64)
-    requires { Sound v.old }
+pub fn move_slots(v: &mut State, time: u64)
     ensures { Means v.new (base v.old) (with_rest (with_every (map (moved time) (meaning v.old).rest.every) (meaning v.old).rest) (meaning v.old)) }
 {
-    move_all(&mut v[place::SLOTS..place::PENDING], time);
+    move_all(&mut v.words[place::SLOTS..place::PENDING], time);
 }
 
 // The due slots, in their order.
-pub fn due_slots(v: &[u32], time: u64) -> ArrayVec<EverySlot, 64>
-    requires { Sound v.now }
+pub fn due_slots(v: &State, time: u64) -> ArrayVec<EverySlot, 64>
     ensures { result.items ≡ keep (slot_due time) (meaning v.now).rest.every }
 {
-    let n = v[place::SLOTS] as usize;
-    let mut due: ArrayVec<EverySlot, 64> = table_at(v, place::SLOTS + 1, n);
+    let n = v.words[place::SLOTS] as usize;
+    let mut due: ArrayVec<EverySlot, 64> = table_at(&v.words, place::SLOTS + 1, n);
     due.retain(|x| x.due <= time);
     due
 }
@@ -71,9 +69,8 @@ pub fn join(t: &mut [u32], x: EverySlot)
 }
 
 // No slot is left.
-pub fn drop_every(v: &mut [u32])
-    requires { Sound v.old }
+pub fn drop_every(v: &mut State)
     ensures { Means v.new (base v.old) (with_rest (with_every [] (meaning v.old).rest) (meaning v.old)) }
 {
-    clear(v, place::SLOTS, place::PENDING - place::SLOTS);
+    clear(&mut v.words, place::SLOTS, place::PENDING - place::SLOTS);
 }

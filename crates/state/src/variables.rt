@@ -9,7 +9,7 @@ ghost use Rattle.state.specs.Named.{variable_has_name, lacks_room, assigned, ass
 ghost use Rattle.state.specs.Tables.{Finds};
 
 use crate::place::MAX_VARIABLES;
-use crate::{place, table};
+use crate::{State, place, table};
 use model::{VarValue, Variable};
 use rows::VARIABLE_WORDS;
 use rows::row::Row;
@@ -31,21 +31,19 @@ fn place_of(v: &[u32], name: u32) -> Option<usize>
 }
 
 // What the variable of the name holds.
-pub fn variable(v: &[u32], name: u32) -> Option<VarValue>
-    requires { Sound v.now }
+pub fn variable(v: &State, name: u32) -> Option<VarValue>
     ensures { result ≡ var_named (meaning v.now).rest name }
 {
-    let i = place_of(v, name)?;
-    let x = Variable::at(v, place::VARIABLES + 1 + i * VARIABLE_WORDS);
+    let i = place_of(&v.words, name)?;
+    let x = Variable::at(&v.words, place::VARIABLES + 1 + i * VARIABLE_WORDS);
     Some(x.value)
 }
 
 // Whether the name is new and 16 variables stand.
-pub fn lacks_room(v: &[u32], name: u32) -> bool
-    requires { Sound v.now }
+pub fn lacks_room(v: &State, name: u32) -> bool
     ensures { result ≡ lacks_room name (meaning v.now) }
 {
-    place_of(v, name).is_none() && MAX_VARIABLES <= v[place::VARIABLES] as usize
+    place_of(&v.words, name).is_none() && MAX_VARIABLES <= v.words[place::VARIABLES] as usize
 }
 
 // The variable of the name holds the value; a new one goes behind the others, where there is room.
@@ -62,10 +60,9 @@ fn assign(t: &mut [u32], x: Variable)
     }
 }
 
-pub fn set_variable(v: &mut [u32], name: u32, value: VarValue)
-    requires { Sound v.old }
+pub fn set_variable(v: &mut State, name: u32, value: VarValue)
     ensures { Means v.new (base v.old) (assigned name value (meaning v.old)) }
 {
     let x = Variable { name, value };
-    assign(&mut v[place::VARIABLES..place::TIMERS], x);
+    assign(&mut v.words[place::VARIABLES..place::TIMERS], x);
 }

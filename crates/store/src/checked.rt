@@ -1,7 +1,8 @@
 // The words of a store that keeps every rule, seen as that store: who has them need not ask again.
 use crate::{set, volatile};
-use image::layout::{Table, size_of};
+use image::layout::{Image, Table};
 use model::Refusal;
+use state::State;
 use std::marker::Model;
 
 #[derive(Drop)]
@@ -24,14 +25,13 @@ impl<'a> Model for Checked<'a> {
 }
 
 impl<'a> Checked<'a> {
-    ghost use Rattle.std.specs.Prelude.{◌≡◌, ◌≤◌, List, ℕ, ⊤, Some, IfOk, MatchOption, option_map, length};
-    ghost use denote.Ref.{Bor};
+    ghost use Rattle.std.specs.Prelude.{◌≡◌, ◌≤◌, ⊤, Some, IfOk, MatchOption, option_map, length};
     ghost use Rattle.model.specs.Calls.{rule_in};
     ghost use Rattle.model.specs.Load.{image_refusal};
     ghost use Rattle.model.specs.Refusals.{refusal_number};
     ghost use Rattle.model.specs.State.{RuleSet};
     ghost use Rattle.model.specs.Store.{read, rule_count};
-    ghost use Rattle.state.specs.Meaning.{AllNumbered, state_words};
+    ghost use Rattle.state.specs.Meaning.{AllNumbered};
     ghost use Rattle.store.specs.Refused.{refusal_of};
 
     // The words, where they are those of a store; else why not.
@@ -63,13 +63,13 @@ impl<'a> Checked<'a> {
         set::last_at(self.words)
     }
 
-    // The words of the loaded image; nothing where no set is loaded.
-    pub fn image(&self) -> Option<&'a [u32]>
-        ensures value { option_map (λ (img : Bor (List ℕ)). img.now) result ≡ option_map (λ (set : RuleSet). set.image) self.now.loaded }
-        ensures accepted { MatchOption result ⊤ (λ img. image_refusal img.now ≡ 0) }
+    // The loaded image; nothing where no set is loaded.
+    pub fn image(&self) -> Option<Image<'a>>
+        ensures value { result ≡ option_map (λ (set : RuleSet). set.image) self.now.loaded }
+        ensures accepted { MatchOption result ⊤ (λ img. image_refusal img ≡ 0) }
     {
         if set::is_loaded(self.words) {
-            Some(set::image_in(self.words))
+            Some(Image::new(set::image_in(self.words)))
         } else {
             None
         }
@@ -81,7 +81,7 @@ impl<'a> Checked<'a> {
         ensures few { result ≤ 64 }
     {
         match self.image() {
-            Some(image) => size_of(image, Table::Rules) as usize,
+            Some(image) => image.size_of(Table::Rules) as usize,
             None => 0,
         }
     }
@@ -90,12 +90,11 @@ impl<'a> Checked<'a> {
     pub fn rule_in(&self, name: u32) -> Option<u32>
         ensures { result ≡ rule_in self.now.loaded name }
     {
-        image::rule::rule_named(self.image()?, name)
+        self.image()?.rule_named(name)
     }
 
     // The parts that calls change, as the words of a state.
-    pub fn begin(&self, v: &mut [u32])
-        requires { length v.old ≡ state_words }
+    pub fn begin(&self, v: &mut State)
         ensures { AllNumbered v.new self.now.vol }
     {
         volatile::begin(self.words, self.rule_count(), v);

@@ -61,8 +61,8 @@ record-next w due j e = e ∙ sym (get_or-map (record_in w) due j 0)
 
 -- at the indices of what is due
 module _ (store v : List ℕ) (now : ℕ) (is : List ℕ) (e : is ≡ due_indices now (meaning v).pending) where
-  pub due-indices : Sound v → are_indices is ≡ true
-  due-indices s = ap are_indices e ∙ due_below now (meaning v).pending 32 (omega (arith, pending-length v s, records-few v s))
+  pub due-indices : length (meaning v).pending ≤ 32 → are_indices is ≡ true
+  due-indices s = ap are_indices e ∙ due_below now (meaning v).pending 32 s
 
   pub due-records : HasRecords store v → records_in store is ≡ due_now now (meaning v).pending
   due-records held =

@@ -10,7 +10,7 @@ use Rattle.model.specs.Flat.{flatten_rules, set_of}
 use Rattle.model.specs.State as model-state
 use Rattle.model.specs.declared.Pending.{Pending}
 use Rattle.flat.specs.Words.{Says}
-use Rattle.state.specs.Meaning.{Sound, Means, meaning, base, accepted}
+use Rattle.state.specs.Meaning.{Means, meaning, base, accepted}
 use Rattle.state.proofs.Follows.{next-is, accepted-by-next}
 use Rattle.lent_words.proofs.Written as lent_written
 use Rattle.activate.specs.Handled.{Continues, Room, Activates, Resumes, all_effects}
@@ -47,10 +47,10 @@ pub more-part : (n m : ℕ) {h : model-state.Volatile → model.Handled} {x : Ca
 more-part n m {x = x} {r = r} b f = record { says = f.says; within = within_more n m x r b f.within }
 
 -- nothing is done
-pub skips : (n : ℕ) (h : model-state.Volatile → model.Handled) (x : Carried) (ow ew : List ℕ) → Sound x.vol → h (meaning x.vol) ≡ no_outcome (meaning x.vol) → Fires n h x ow ew x ow ew
-skips n h x ow ew s e = record {
-  says = subst (λ (g : model.Handled). Continues x ow ew g x ow ew) (sym e) (nothing-done x ow ew s);
-  within = within_more 0 n x x (omega arith) (within_none x x s refl refl refl refl);
+pub skips : (n : ℕ) (h : model-state.Volatile → model.Handled) (x : Carried) (ow ew : List ℕ) → h (meaning x.vol) ≡ no_outcome (meaning x.vol) → Fires n h x ow ew x ow ew
+skips n h x ow ew e = record {
+  says = subst (λ (g : model.Handled). Continues x ow ew g x ow ew) (sym e) (nothing-done x ow ew);
+  within = within_more 0 n x x (omega arith) (within_none x x refl refl refl refl);
 }
 
 -- one behind another
@@ -74,7 +74,7 @@ module _ (f : model-state.Volatile → model-state.Volatile) (x : Carried) {w : 
   pub changed : (ow ew : List ℕ) → Fires 0 (λ v. no_outcome (f v)) x ow ew (with_vol w x) ow ew
   changed ow ew = record {
     says = no-outcome x ow ew (f (meaning x.vol)) (with_vol w x) m refl refl;
-    within = within_none x (with_vol w x) m.sound same-accepted same-last refl refl;
+    within = within_none x (with_vol w x) same-accepted same-last refl refl;
   }
 
   -- and something is done behind it
@@ -86,4 +86,4 @@ module _ (f : model-state.Volatile → model-state.Volatile) (x : Carried) {w : 
       record { says = t.says; within = within_more (0 + n) n x r (omega arith) t.within }
 
   pub room_after : (n : ℕ) → Room n x → Room n (with_vol w x)
-  room_after n a = record { sound = m.sound; accepted = omega (arith, same-accepted, a.accepted); outcomes = a.outcomes; effects = a.effects; numbers = omega (arith, same-last, a.numbers) }
+  room_after n a = record { accepted = omega (arith, same-accepted, a.accepted); outcomes = a.outcomes; effects = a.effects; numbers = omega (arith, same-last, a.numbers) }

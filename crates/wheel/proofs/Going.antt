@@ -9,7 +9,7 @@ use lib.ListN.{length}
 use Rattle.model.specs.Activate as model
 use Rattle.model.specs.Activate.{no_outcome, and_then}
 use Rattle.model.specs.State.{Volatile}
-use Rattle.state.specs.Meaning.{Sound, meaning}
+use Rattle.state.specs.Meaning.{meaning}
 use Rattle.activate.specs.Handled.{Continues, Within, Room}
 use Rattle.activate.specs.Carried.{Carried}
 use Rattle.activate.proofs.Continues.{then-continues, within_none, within-then, within_more, room-left, room-less}
@@ -24,10 +24,10 @@ pub record Going (m : ℕ) (h : Volatile → model.Handled) (x₀ : Carried) (ow
   pub long_effects : length ew ≡ length ew₀
 
 module _ (m : ℕ) (h : Volatile → model.Handled) (x₀ : Carried) (ow₀ ew₀ : List ℕ) where
-  pub going-starts : Sound x₀.vol → Going m h x₀ ow₀ ew₀ 0 h x₀ ow₀ ew₀
-  going-starts s = record {
+  pub going-starts : Going m h x₀ ow₀ ew₀ 0 h x₀ ow₀ ew₀
+  going-starts = record {
     leads = λ r ow' ew' c. c;
-    within = within_more 0 (0 * m) x₀ x₀ (omega arith) (within_none x₀ x₀ s refl refl refl refl);
+    within = within_more 0 (0 * m) x₀ x₀ (omega arith) (within_none x₀ x₀ refl refl refl refl);
     long_outcomes = refl;
     long_effects = refl;
   }
@@ -60,4 +60,4 @@ module _ (m : ℕ) (h : Volatile → model.Handled) (x₀ : Carried) (ow₀ ew�
 
     -- nothing is left
     pub going-ends : (n : ℕ) → j * m ≤ n → k (meaning x.vol) ≡ no_outcome (meaning x.vol) → Fires n h x₀ ow₀ ew₀ x ow ew
-    going-ends n b e = going-closes 0 n x ow ew (omega arith) (skips 0 k x ow ew inv.within.sound e)
+    going-ends n b e = going-closes 0 n x ow ew (omega arith) (skips 0 k x ow ew e)

@@ -7,7 +7,6 @@ use Rattle.std.specs.Option.{option_to_list}
 use Prim.Native.Nat.{ℕ, zero, suc, ◌+◌, ◌*◌, ◌≤◌, ◌<◌, min}
 use native.Mathlib.Omega.{arith}
 use lib.ListN.{length, take, drop, get_or}
-use Rattle.std.specs.Borrow.{Bor}
 use Rattle.words.proofs.Laws.{joined_words}
 use Rattle.model.specs.Codec.{Row, most}
 use Rattle.model.specs.Layout.{fixed, counted}
@@ -129,7 +128,7 @@ module _ (w : List ℕ) (s : Sound w) where
       lent-times pending_row pending-laws pending_part 32 (omega arith) refl w s 2 (λ (x : Pending). x.due) (λ x. joined_words x.due) ∙ sym (times-numbered (base_in (cut part_sizes w)) (stored_in (cut part_sizes w)) (records_in (cut part_sizes w)))
 
   pub next-is :
-      (image : Option (Bor (List ℕ))) (last : ℕ) (poll slot timer pending : Option ℕ) → Poll image w last poll → slot ≡ least (row_times 5 3 (lent slots_part w))
+      (image : Option (List ℕ)) (last : ℕ) (poll slot timer pending : Option ℕ) → Poll image w last poll → slot ≡ least (row_times 5 3 (lent slots_part w))
       → timer ≡ least (row_times 3 1 (lent timers_part w)) → pending ≡ least (row_times 15 2 (lent pending_part w))
       → (flat : List (List FlatStep)) → reduce min (flat_map option_to_list (pending ∷ timer ∷ slot ∷ poll ∷ [])) ≡ next_deadline (store_of image flat w last)
   unfolding next_deadline

@@ -10,7 +10,7 @@ use Rattle.model.specs.Lists.{flatten}
 use Rattle.model.specs.State.{Env}
 use Rattle.model.specs.Wheel.{activate_each, resume_all, fire_due_wall_rules}
 use Rattle.model.specs.declared.Pending.{Pending}
-use Rattle.state.specs.Meaning.{Sound, Means, meaning, base}
+use Rattle.state.specs.Meaning.{Means, meaning, base}
 use Rattle.activate.specs.Carried.{Carried, carried}
 use Rattle.activate.proofs.Continues.{with_vol}
 use Rattle.wheel.specs.Tick.{Fires, count_missed}
@@ -26,9 +26,9 @@ module _ (e : Env) (cs : List Pending) where
   abbrev pub Resuming : Carried → List ℕ → List ℕ → ℕ → Carried → List ℕ → List ℕ → Type 0
   Resuming x₀ ow₀ ew₀ j x ow ew = Going 1 (resume_all e cs) x₀ ow₀ ew₀ j (resume_left e cs j) x ow ew
 
-  pub resuming-starts : (x₀ : Carried) (ow₀ ew₀ : List ℕ) → Sound x₀.vol → Resuming x₀ ow₀ ew₀ 0 x₀ ow₀ ew₀
+  pub resuming-starts : (x₀ : Carried) (ow₀ ew₀ : List ℕ) → Resuming x₀ ow₀ ew₀ 0 x₀ ow₀ ew₀
   unfolding resume_left
-  resuming-starts x₀ ow₀ ew₀ s = going-starts 1 (resume_all e cs) x₀ ow₀ ew₀ s
+  resuming-starts x₀ ow₀ ew₀ = going-starts 1 (resume_all e cs) x₀ ow₀ ew₀
 
   module _ {x₀ : Carried} {ow₀ ew₀ : List ℕ} {j : ℕ} {x : Carried} {ow ew : List ℕ} (inv : Resuming x₀ ow₀ ew₀ j x ow ew) where
     pub resuming-goes : (d : Pending) {c : Pending} {y : Carried} {ow' ew' : List ℕ} → j < length cs → c ≡ get_or cs j d → Fires 1 (model.resume e c) x ow ew y ow' ew' → Resuming x₀ ow₀ ew₀ (j + 1) y ow' ew'
@@ -44,9 +44,9 @@ module _ (m : ℕ) (e : Env) (kind : ℕ) {A : Type 0} (f : A → List ℕ) (xs 
   abbrev pub Starting : Carried → List ℕ → List ℕ → ℕ → Carried → List ℕ → List ℕ → Type 0
   Starting x₀ ow₀ ew₀ j x ow ew = Going m (activate_each e kind (flatten (map f xs))) x₀ ow₀ ew₀ j (each_left e kind f xs j) x ow ew
 
-  pub starting-starts : (x₀ : Carried) (ow₀ ew₀ : List ℕ) → Sound x₀.vol → Starting x₀ ow₀ ew₀ 0 x₀ ow₀ ew₀
+  pub starting-starts : (x₀ : Carried) (ow₀ ew₀ : List ℕ) → Starting x₀ ow₀ ew₀ 0 x₀ ow₀ ew₀
   unfolding each_left
-  starting-starts x₀ ow₀ ew₀ s = going-starts m (activate_each e kind (flatten (map f xs))) x₀ ow₀ ew₀ s
+  starting-starts x₀ ow₀ ew₀ = going-starts m (activate_each e kind (flatten (map f xs))) x₀ ow₀ ew₀
 
   module _ {x₀ : Carried} {ow₀ ew₀ : List ℕ} {j : ℕ} {x : Carried} {ow ew : List ℕ} (inv : Starting x₀ ow₀ ew₀ j x ow ew) where
     pub starting-goes : (d : A) (a : A) {y : Carried} {ow' ew' : List ℕ} → j < length xs → a ≡ get_or xs j d → Fires m (activate_each e kind (f a)) x ow ew y ow' ew' → Starting x₀ ow₀ ew₀ (j + 1) y ow' ew'
@@ -62,9 +62,9 @@ module _ (e : Env) (from window : ℕ) (order : List ℕ) where
   abbrev pub Turning : Carried → List ℕ → List ℕ → Bool → ℕ → Carried → List ℕ → List ℕ → Type 0
   Turning x₀ ow₀ ew₀ missed j x ow ew = Going 1 (fire_due_wall_rules e from window false order) x₀ ow₀ ew₀ j (wall_left e from window order missed j) x ow ew
 
-  pub turning-starts : (x₀ : Carried) (ow₀ ew₀ : List ℕ) → Sound x₀.vol → Turning x₀ ow₀ ew₀ false 0 x₀ ow₀ ew₀
+  pub turning-starts : (x₀ : Carried) (ow₀ ew₀ : List ℕ) → Turning x₀ ow₀ ew₀ false 0 x₀ ow₀ ew₀
   unfolding wall_left
-  turning-starts x₀ ow₀ ew₀ s = going-starts 1 (fire_due_wall_rules e from window false order) x₀ ow₀ ew₀ s
+  turning-starts x₀ ow₀ ew₀ = going-starts 1 (fire_due_wall_rules e from window false order) x₀ ow₀ ew₀
 
   module _ {x₀ : Carried} {ow₀ ew₀ : List ℕ} (missed : Bool) {j : ℕ} {x : Carried} {ow ew : List ℕ} (inv : Turning x₀ ow₀ ew₀ missed j x ow ew) where
     pub turning-goes : (d i : ℕ) {w : List ℕ} {t : WallTurn} {ow' ew' : List ℕ} → j < length order → i ≡ get_or order j d → Turns e from window i missed x ow ew w t ow' ew'

@@ -14,7 +14,7 @@ use Rattle.model.specs.Wheel as wheel
 use Rattle.model.specs.Wheel.{start_wall, due_wall_kind, has_wall_triggers, week_minute, window_of, fire_window, make_up, is_set_back, fire_wall_at, fire_wall_schedules}
 use Rattle.model.specs.declared.WallTime.{WallTime}
 use Rattle.model.specs.World.{world_of}
-use Rattle.state.specs.Meaning.{Means, Sound, meaning, base}
+use Rattle.state.specs.Meaning.{Means, meaning, base}
 use Rattle.state.proofs.Follows.{follows}
 use Rattle.activate.specs.Handled.{Room}
 use Rattle.activate.specs.Carried.{Carried, carried}
@@ -44,9 +44,9 @@ module _ (snapshot image : List ℕ) (from window i : ℕ) (missed : Bool) (v : 
   abbrev env : Env
   env = tick_env snapshot image
 
-  pub passes-by : (ow ew : List ℕ) → Sound v → not on ≡ true → Turns env from window i missed (carried v x) ow ew v (record { handled = x; missed = missed }) ow ew
-  passes-by ow ew s h = record {
-    fires = skips 1 (turn_handled env from window i) (carried v x) ow ew s (turn-off env from window i missed (meaning v) is h);
+  pub passes-by : (ow ew : List ℕ) → not on ≡ true → Turns env from window i missed (carried v x) ow ew v (record { handled = x; missed = missed }) ow ew
+  passes-by ow ew h = record {
+    fires = skips 1 (turn_handled env from window i) (carried v x) ow ew (turn-off env from window i missed (meaning v) is h);
     missed = missed-off env from window i missed (meaning v) is h;
   }
 

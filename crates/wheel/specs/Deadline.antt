@@ -1,7 +1,6 @@
 -- The next deadline.
 use Rattle.std.specs.Prelude.{ℕ, ◌≡◌, List, map}
 use Rattle.std.specs.Prelude.{Option, None, Some}
-use Rattle.std.specs.Borrow.{Bor}
 use Rattle.model.specs.State.{RuleSet, Store}
 use Rattle.model.specs.Steps.{FlatStep}
 use Rattle.model.specs.Wheel.{least, wall_poll}
@@ -14,17 +13,17 @@ abbrev pub row_times : ℕ → ℕ → List ℕ → List ℕ
 row_times width at p = map (wide_of at) (rows_in width p)
 
 -- a store of these parts; a set is loaded where there is an image
-abbrev pub set_if : Option (Bor (List ℕ)) → List (List FlatStep) → Option RuleSet
+abbrev pub set_if : Option (List ℕ) → List (List FlatStep) → Option RuleSet
 set_if None flat = None
-set_if (Some image) flat = Some (record { image = image.now; flat = flat })
+set_if (Some image) flat = Some (record { image = image; flat = flat })
 
-abbrev pub store_of : Option (Bor (List ℕ)) → List (List FlatStep) → List ℕ → ℕ → Store
+abbrev pub store_of : Option (List ℕ) → List (List FlatStep) → List ℕ → ℕ → Store
 store_of image flat v last = record { now = last; loaded = set_if image flat; vol = meaning v }
 
-abbrev pub AcceptedIf : Option (Bor (List ℕ)) → Type 0
+abbrev pub AcceptedIf : Option (List ℕ) → Type 0
 AcceptedIf None = Unit
-AcceptedIf (Some image) = Accepted image.now
+AcceptedIf (Some image) = Accepted image
 
-abbrev pub Poll : Option (Bor (List ℕ)) → List ℕ → ℕ → Option ℕ → Type 0
+abbrev pub Poll : Option (List ℕ) → List ℕ → ℕ → Option ℕ → Type 0
 Poll image v last r =
     (flat : List (List FlatStep)) → let s = store_of image flat v last in r ≡ least (wall_poll s s.loaded)

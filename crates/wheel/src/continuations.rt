@@ -12,8 +12,8 @@ ghost use Rattle.wheel.specs.Tick.{HasRecords, Fires, fits_set, are_indices, rec
 
 use crate::Env;
 use activate::{Handled, resume};
-use image::rule::rule_named;
 use model::Pending;
+use state::State;
 use state::pending::{due_now, without_due};
 use store::flat_part::{rule_own, rule_steps};
 use store::volatile::pending_record;
@@ -23,7 +23,7 @@ fn resume_one(
     env: &Env,
     outcomes: &mut [u32],
     effects: &mut [u32],
-    v: &mut [u32],
+    v: &mut State,
     x: Handled,
     c: Pending,
 ) -> Handled
@@ -31,7 +31,7 @@ fn resume_one(
     requires room { Room 1 (carried v.old x) }
     ensures { Fires 1 (model.resume (env_of env.now) c) (carried v.old x) outcomes.old effects.old (carried v.new result) outcomes.new effects.new }
 {
-    match rule_named(env.image, c.rule) {
+    match env.image.rule_named(c.rule) {
         Some(i) => {
             let part = rule_steps(env.store, i);
             let own = rule_own(env.store, i);
@@ -57,7 +57,7 @@ fn resume_all(
     env: &Env,
     outcomes: &mut [u32],
     effects: &mut [u32],
-    v: &mut [u32],
+    v: &mut State,
     x: Handled,
     due: &[usize],
 ) -> Handled
@@ -79,7 +79,7 @@ pub fn fire_continuations(
     env: &Env,
     outcomes: &mut [u32],
     effects: &mut [u32],
-    v: &mut [u32],
+    v: &mut State,
     x: Handled,
 ) -> Handled
     requires records { (all (fits_set env.now.image.now) (meaning v.old).pending ≡ true) × HasRecords env.now.store.now v.old }

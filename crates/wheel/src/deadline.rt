@@ -6,13 +6,13 @@ ghost use Rattle.std.specs.Option.{option_to_list};
 ghost use Rattle.model.specs.Steps.{FlatStep};
 ghost use Rattle.model.specs.Wheel.{least, next_deadline};
 ghost use Rattle.state.specs.Cuts.{Fits};
-ghost use Rattle.state.specs.Meaning.{Sound};
 ghost use Rattle.wheel.specs.Deadline.{row_times, AcceptedIf, store_of, Poll};
 
 use crate::wall::has_wall_triggers;
+use image::layout::Image;
 use rows::{PENDING_WORDS, SLOT_WORDS, TIMER_WORDS};
 use state::table::wide_of;
-use state::{pending, place, slots, timers};
+use state::{State, pending, place, slots, timers};
 
 const WALL_POLL_MS: u64 = 1000;
 
@@ -32,24 +32,36 @@ fn earliest_of(times: &[Option<u64>]) -> Option<u64>
 }
 
 // A wall schedule is looked at again a second later.
-fn wall_poll(image: Option<&[u32]>, v: &[u32], last: u64) -> Option<u64>
-    requires { AcceptedIf image × Sound v.now }
+fn wall_poll(image: Option<Image>, v: &State, last: u64) -> Option<u64>
+    requires { AcceptedIf image }
     ensures { Poll image.entry v.now last result }
 {
-    if has_wall_triggers(image?, v) {
+    if has_wall_triggers(&image?, v) {
         return Some(last.saturating_add(WALL_POLL_MS));
     }
     None
 }
 
 // When a store that was last called at `last` next has something to do. `image` is the loaded one, where there is one.
-pub fn next_deadline(image: Option<&[u32]>, v: &[u32], last: u64) -> Option<u64>
-    requires { AcceptedIf image × Sound v.now }
+pub fn next_deadline(image: Option<Image>, v: &State, last: u64) -> Option<u64>
+    requires { AcceptedIf image }
     ensures { (flat : List (List FlatStep)) → result ≡ next_deadline (store_of image.entry flat v.now last) }
 {
     let poll = wall_poll(image, v, last);
-    let slot = earliest(&v[place::SLOTS..place::PENDING], SLOT_WORDS, slots::DUE);
-    let timer = earliest(&v[place::TIMERS..place::SLOTS], TIMER_WORDS, timers::DUE);
-    let record = earliest(&v[place::PENDING..place::WEEK], PENDING_WORDS, pending::DUE);
+    let slot = earliest(
+        &v.words[place::SLOTS..place::PENDING],
+        SLOT_WORDS,
+        slots::DUE,
+    );
+    let timer = earliest(
+        &v.words[place::TIMERS..place::SLOTS],
+        TIMER_WORDS,
+        timers::DUE,
+    );
+    let record = earliest(
+        &v.words[place::PENDING..place::WEEK],
+        PENDING_WORDS,
+        pending::DUE,
+    );
     earliest_of(&[record, timer, slot, poll])
 }

@@ -17,6 +17,8 @@ pub mod tick;
 mod timers;
 pub mod wall;
 
+use image::layout::Image;
+
 // What a tick is given: the words of the snapshot, of the image and of the store that has its flat steps, and the image's rules in the order of
 // their names.
 // kept: the outcomes, the effects and the words of the state stand beside it, one by one as crate `activate` takes them: it ends with what those
@@ -25,7 +27,7 @@ pub mod wall;
 #[derive(Clone, Copy)]
 pub struct Env<'a> {
     pub snapshot: &'a [u32],
-    pub image: &'a [u32],
+    pub image: &'a Image<'a>,
     pub store: &'a [u32],
     pub order: &'a [u32],
 

@@ -8,6 +8,7 @@ ghost use Rattle.wheel.specs.Tick.{Fires};
 
 use crate::Rule;
 use activate::{Handled, Mode, activate};
+use state::State;
 use state::rules::is_enabled;
 use store::flat_part::{rule_own, rule_steps};
 
@@ -15,7 +16,7 @@ pub fn activate_rule(
     rule: &Rule,
     outcomes: &mut [u32],
     effects: &mut [u32],
-    v: &mut [u32],
+    v: &mut State,
     x: Handled,
     kind: u32,
 ) -> Handled
@@ -45,7 +46,7 @@ pub fn activate_if_enabled(
     rule: &Rule,
     outcomes: &mut [u32],
     effects: &mut [u32],
-    v: &mut [u32],
+    v: &mut State,
     x: Handled,
     kind: u32,
 ) -> Handled

@@ -5,7 +5,7 @@ ghost use Rattle.std.specs.Prelude.{Some};
 ghost use Rattle.model.specs.Rules.{name_order};
 ghost use Rattle.model.specs.Snapshot.{snapshot_refusal};
 ghost use Rattle.model.specs.Wheel.{start_wall, fire_due_wall_rules, window_of, fire_window, is_set_back, fire_wall_at, fire_wall_schedules};
-ghost use Rattle.state.specs.Meaning.{Sound, Means, meaning, base};
+ghost use Rattle.state.specs.Meaning.{Means, meaning, base};
 ghost use Rattle.world.specs.Ranges.{WallInRange};
 ghost use Rattle.activate.specs.Carried.{carried};
 ghost use Rattle.activate.specs.Handled.{Room};
@@ -20,6 +20,7 @@ use crate::{Env, Rule};
 use activate::Handled;
 use counters::Counter;
 use model::WallTime;
+use state::State;
 use state::rules::is_enabled;
 
 // At most so many minutes are made up for.
@@ -41,7 +42,7 @@ fn start_wall(
     rule: &Rule,
     outcomes: &mut [u32],
     effects: &mut [u32],
-    v: &mut [u32],
+    v: &mut State,
     x: Handled,
     kind: Option<u32>,
 ) -> Handled
@@ -58,7 +59,7 @@ fn wall_turn(
     rule: &Rule,
     outcomes: &mut [u32],
     effects: &mut [u32],
-    v: &mut [u32],
+    v: &mut State,
     x: Handled,
     base: u64,
     window: u64,
@@ -81,8 +82,7 @@ fn wall_turn(
 }
 
 // A tick without the time that it was asked for is counted.
-fn count_missed(v: &mut [u32], missed: bool)
-    requires { Sound v.old }
+fn count_missed(v: &mut State, missed: bool)
     ensures { Means v.new (base v.old) (count_missed missed (meaning v.old)) }
 {
     if missed {
@@ -94,7 +94,7 @@ fn fire_due_wall_rules(
     env: &Env,
     outcomes: &mut [u32],
     effects: &mut [u32],
-    v: &mut [u32],
+    v: &mut State,
     x: Handled,
     base: u64,
     window: u64,
@@ -137,7 +137,7 @@ fn fire_window(
     env: &Env,
     outcomes: &mut [u32],
     effects: &mut [u32],
-    v: &mut [u32],
+    v: &mut State,
     x: Handled,
     minute: u64,
     window: u64,
@@ -155,8 +155,7 @@ fn fire_window(
     fire_due_wall_rules(env, outcomes, effects, v, x, base, window)
 }
 
-fn remember(v: &mut [u32], minute: u32)
-    requires { Sound v.old }
+fn remember(v: &mut State, minute: u32)
     ensures { Means v.new (base v.old) (remembering minute (meaning v.old)) }
 {
     state::set_prev_week_min(v, Some(minute));
@@ -167,7 +166,7 @@ fn fire_wall_at(
     env: &Env,
     outcomes: &mut [u32],
     effects: &mut [u32],
-    v: &mut [u32],
+    v: &mut State,
     x: Handled,
     w: WallTime,
 ) -> Handled
@@ -187,8 +186,7 @@ fn fire_wall_at(
 }
 
 // Without a wall clock the minute before is forgotten.
-fn without_clock(env: &Env, v: &mut [u32])
-    requires { Sound v.old }
+fn without_clock(env: &Env, v: &mut State)
     ensures { Means v.new (base v.old) (without_wall env.now.image.now (meaning v.old)) }
 {
     let missed = has_wall_triggers(env.image, v);
@@ -200,7 +198,7 @@ pub fn fire_wall_schedules(
     env: &Env,
     outcomes: &mut [u32],
     effects: &mut [u32],
-    v: &mut [u32],
+    v: &mut State,
     x: Handled,
 ) -> Handled
     requires { Room 64 (carried v.old x) × (snapshot_refusal env.now.snapshot.now ≡ 0) }

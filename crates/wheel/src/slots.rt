@@ -9,8 +9,8 @@ ghost use Rattle.wheel.specs.Tick.{Fires, rules_of_slot, rules_of_slots};
 use crate::rules::activate_if_enabled;
 use crate::{Env, Rule};
 use activate::Handled;
-use image::rule::rule_named;
 use model::EverySlot;
+use state::State;
 use state::slots::{due_slots, move_slots};
 
 // The trigger of an outcome.
@@ -20,14 +20,14 @@ fn fire_slot(
     env: &Env,
     outcomes: &mut [u32],
     effects: &mut [u32],
-    v: &mut [u32],
+    v: &mut State,
     x: Handled,
     slot: EverySlot,
 ) -> Handled
     requires { Room 1 (carried v.old x) }
     ensures { Fires 1 (activate_each (env_of env.now) by_every (rules_of_slot env.now.image.now slot)) (carried v.old x) outcomes.old effects.old (carried v.new result) outcomes.new effects.new }
 {
-    match rule_named(env.image, slot.rule) {
+    match env.image.rule_named(slot.rule) {
         Some(i) => {
             let rule = Rule { env, i };
             activate_if_enabled(&rule, outcomes, effects, v, x, BY_EVERY)
@@ -40,7 +40,7 @@ fn fire_slots(
     env: &Env,
     outcomes: &mut [u32],
     effects: &mut [u32],
-    v: &mut [u32],
+    v: &mut State,
     x: Handled,
     due: &[EverySlot],
 ) -> Handled
@@ -60,7 +60,7 @@ pub fn fire_every(
     env: &Env,
     outcomes: &mut [u32],
     effects: &mut [u32],
-    v: &mut [u32],
+    v: &mut State,
     x: Handled,
 ) -> Handled
     requires { Room 64 (carried v.old x) }

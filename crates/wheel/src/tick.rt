@@ -9,27 +9,27 @@ use crate::schedules::fire_wall_schedules;
 use crate::slots::fire_every;
 use crate::timers::fire_timers;
 use activate::Handled;
-use image::layout::{Table, size_of};
-use image::order::name_order;
+use image::layout::{Image, Table};
+use state::State;
 
 // `store` has the flat steps of the image, and the pending records as they stand before the tick; nothing else of it is read. The rules are put in the order of their names once.
 pub fn service_tick(
     snapshot: &[u32],
-    image: &[u32],
+    image: &Image,
     store: &[u32],
     outcomes: &mut [u32],
     effects: &mut [u32],
-    v: &mut [u32],
+    v: &mut State,
 ) -> Handled
     requires { Ready snapshot.now image.now store.now v.old }
     ensures { Fires 1184 (service_tick (tick_env snapshot.now image.now)) (start v.old) outcomes.old effects.old (carried v.new result) outcomes.new effects.new }
 {
-    let all = name_order(image);
+    let all = image.name_order();
     let env = Env {
         snapshot,
         image,
         store,
-        order: &all[..size_of(image, Table::Rules) as usize],
+        order: &all[..image.size_of(Table::Rules) as usize],
     };
     let x = Handled {
         outcomes: 0,

@@ -11,8 +11,8 @@ ghost use Rattle.wheel.specs.Tick.{Fires, on_timer, rules_of_timers};
 use crate::rules::activate_if_enabled;
 use crate::{Env, Rule};
 use activate::Handled;
-use image::rule::{trigger_at, trigger_count};
 use model::{NamedTimer, Trigger};
+use state::State;
 use state::timers::{due_timers, without_due};
 
 // The trigger of an outcome.
@@ -33,7 +33,7 @@ fn fires_on(rule: &Rule, timer: u32) -> bool
 {
     let image = rule.env.image;
     let i = rule.i;
-    (0..trigger_count(image, i)).any(|k| is_timer(trigger_at(image, i, k), timer))
+    (0..image.trigger_count(i)).any(|k| is_timer(image.trigger_at(i, k), timer))
 }
 
 // The rule, where it has the timer as a trigger.
@@ -41,7 +41,7 @@ fn fire_rule(
     rule: &Rule,
     outcomes: &mut [u32],
     effects: &mut [u32],
-    v: &mut [u32],
+    v: &mut State,
     x: Handled,
     timer: u32,
 ) -> Handled
@@ -58,7 +58,7 @@ fn fire_one_timer(
     env: &Env,
     outcomes: &mut [u32],
     effects: &mut [u32],
-    v: &mut [u32],
+    v: &mut State,
     x: Handled,
     timer: u32,
 ) -> Handled
@@ -77,7 +77,7 @@ fn fire_due_timers(
     env: &Env,
     outcomes: &mut [u32],
     effects: &mut [u32],
-    v: &mut [u32],
+    v: &mut State,
     x: Handled,
     due: &[NamedTimer],
 ) -> Handled
@@ -97,7 +97,7 @@ pub fn fire_timers(
     env: &Env,
     outcomes: &mut [u32],
     effects: &mut [u32],
-    v: &mut [u32],
+    v: &mut State,
     x: Handled,
 ) -> Handled
     requires { Room 1024 (carried v.old x) }

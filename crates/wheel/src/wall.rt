@@ -6,13 +6,13 @@ ghost use Rattle.model.specs.Rules.{triggers_of};
 ghost use Rattle.model.specs.Wheel.{is_wall_trigger, has_wall_triggers};
 ghost use Rattle.model.specs.declared.Trigger.TheVariants as trigger;
 ghost use Rattle.image.specs.Accepted.{Accepted};
-ghost use Rattle.state.specs.Meaning.{Sound, meaning};
+ghost use Rattle.state.specs.Meaning.{meaning};
 ghost use Rattle.wheel.specs.Wall.{kind_if, Kind, KindAnywhere, enabled_wall};
 
 use crate::minutes::minute_due;
-use image::layout::{Table, size_of};
-use image::rule::{trigger_at, trigger_count};
+use image::layout::{Image, Table};
 use model::Trigger;
+use state::State;
 use state::rules::is_enabled;
 
 // The triggers of an outcome.
@@ -89,7 +89,7 @@ fn trigger_kind(
 // What the triggers of rule i give.
 pub fn due_wall_kind(
     snapshot: &[u32],
-    image: &[u32],
+    image: &Image,
     base: u64,
     window: u64,
     i: u32,
@@ -99,8 +99,8 @@ pub fn due_wall_kind(
     ensures { Kind snapshot.now base window missed (triggers_of image.now i) result }
 {
     let mut unsynced = missed;
-    for k in 0..trigger_count(image, i) {
-        let trigger = trigger_at(image, i, k);
+    for k in 0..image.trigger_count(i) {
+        let trigger = image.trigger_at(i, k);
         let w = trigger_kind(snapshot, base, window, trigger, unsynced);
         if w.kind.is_some() {
             return w;
@@ -118,18 +118,18 @@ fn is_wall_trigger(trigger: Trigger) -> bool
 
 // Rule i is enabled and has a wall trigger.
 // kept: this, `has_wall_triggers` and `due_wall_kind` ask themselves that the image is accepted: the other two are public and take any such image.
-fn enabled_wall(image: &[u32], v: &[u32], i: u32) -> bool
-    requires { Accepted image.now × (i < size_of image.now rules) × Sound v.now }
+fn enabled_wall(image: &Image, v: &State, i: u32) -> bool
+    requires { Accepted image.now × (i < size_of image.now rules) }
     ensures { result ≡ enabled_wall image.now (meaning v.now).rest i }
 {
     is_enabled(v, i as usize)
-        && (0..trigger_count(image, i)).any(|k| is_wall_trigger(trigger_at(image, i, k)))
+        && (0..image.trigger_count(i)).any(|k| is_wall_trigger(image.trigger_at(i, k)))
 }
 
 // An enabled rule has a wall trigger.
-pub fn has_wall_triggers(image: &[u32], v: &[u32]) -> bool
-    requires { Accepted image.now × Sound v.now }
+pub fn has_wall_triggers(image: &Image, v: &State) -> bool
+    requires { Accepted image.now }
     ensures { result ≡ has_wall_triggers image.now (meaning v.now).rest }
 {
-    (0..size_of(image, Table::Rules)).any(|i| enabled_wall(image, v, i))
+    (0..image.size_of(Table::Rules)).any(|i| enabled_wall(image, v, i))
 }

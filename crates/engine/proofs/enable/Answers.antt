@@ -20,11 +20,11 @@ returns-in_default c = enable-no c.args.rule c.args.on _ (saying _ _ c.in_ok-che
 pub put_state-requires : goal.put_state-requires
 put_state-requires c =
     let k = saying _ _ c.in_ok-checked.ensures.value in
-    (k.long, itself (flipped-numbers _ _ k.store c.args.rule _ c.args.on c.begin.ensures c.set_enabled.ensures))
+    (k.long, itself (flipped-numbers _ _ k.store c.args.rule _ c.args.on (rw (c.v.view_is) at c.v.invariant) c.begin.ensures c.set_enabled.ensures))
 
 pub returns : goal.returns
 returns c =
     let k = saying _ _ c.in_ok-checked.ensures.value in
     enable-yes c.args.rule _ c.args.on _ _ _ k _ c.rule_in.ensures c.in-Some.is
-    (flipped-numbers _ _ k.store c.args.rule _ c.args.on c.begin.ensures c.set_enabled.ensures)
+    (flipped-numbers _ _ k.store c.args.rule _ c.args.on (rw (c.v.view_is) at c.v.invariant) c.begin.ensures c.set_enabled.ensures)
     c.put_state.ensures

@@ -7,6 +7,7 @@ use Rattle.engine.specs.Answers.{no_values}
 use Rattle.engine.proofs.Seeing.{refused-seen}
 use Rattle.engine.proofs.WordLaws.{saying}
 use Rattle.engine.proofs.CallLaws.{itself, words-fit, load-on, load-refused, load-seen}
+use Rattle.engine.proofs.SetLaws.{loadable}
 use Rattle.engine.proofs.load.Goals as goal
 
 pub returns-in_err-checked : goal.returns-in_err-checked
@@ -19,6 +20,9 @@ pub returns-in_err-refusal : goal.returns-in_err-refusal
 returns-in_err-refusal c =
     let p = err_from_is_err_and c.from_residual-in_err-refusal.result c.from_residual-in_err-refusal.ensures.1 in
     rw (p.1, p.2) (load-refused no_values c.args.time c.args.image.now _ _ (saying _ _ c.in_ok-checked.ensures.value) c.in_err-refusal.ensures)
+
+pub new-requires : goal.new-requires
+new-requires c = (loadable _ (sym c.in_ok-refusal.ensures)).sized
 
 pub put_loaded-requires : goal.put_loaded-requires
 put_loaded-requires c = ((saying _ _ c.in_ok-checked.ensures.value).long, sym c.in_ok-refusal.ensures)
@@ -35,7 +39,7 @@ returns c =
     load-seen c.args.time img _ _ _ _ _ (omega (arith, c.ranges.time))
     (words-fit img (λ i. omega (arith, c.shared_slice_known-1.given i)))
     (sym c.in_ok-refusal.ensures) (saying _ _ c.in_ok-checked.ensures.value)
-    c.with_set.ensures
+    (rw c.new.ensures at c.with_set.ensures)
     c.put_loaded.ensures
     c.put_state.ensures
     c.put_last.ensures

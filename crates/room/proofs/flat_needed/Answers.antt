@@ -14,10 +14,10 @@ returns-in_err-flatten_rules c = search (rules, over-is)
 pub room-requires : goal.room-requires
 room-requires c =
     let f = c.in_ok-flatten_rules.ensures in
-    listed _ _ _ _ c.requires (sym c.few_enough.ensures ∙ c.if-few_enough.true) (search rules) f.value f.stored
+    rw c.new-image.ensures (listed _ _ _ _ c.requires (sym (rw c.new-image.ensures at c.few_enough.ensures) ∙ c.if-few_enough.true) (search rules) f.value f.stored)
 
 pub returns-then-few_enough : goal.returns-then-few_enough
-returns-then-few_enough c = few-is _ c.requires _ _ _ c.in_ok-flatten_rules.ensures.value c.few_enough.ensures c.if-few_enough.true c.room.ensures
+returns-then-few_enough c = few-is _ c.requires _ _ _ c.in_ok-flatten_rules.ensures.value (rw c.new-image.ensures at c.few_enough.ensures) c.if-few_enough.true (rw c.new-image.ensures at c.room.ensures)
 
 pub returns : goal.returns
-returns c = many_is _ c.requires _ _ c.in_ok-flatten_rules.ensures.value c.few_enough.ensures c.if-few_enough.false
+returns c = many_is _ c.requires _ _ c.in_ok-flatten_rules.ensures.value (rw c.new-image.ensures at c.few_enough.ensures) c.if-few_enough.false

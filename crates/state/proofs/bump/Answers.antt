@@ -1,6 +1,11 @@
 -- `state::bump` meets its contract. Assumes nothing.
 use Rattle.state.proofs.CounterWords.{bumped}
+use Rattle.state.proofs.Follows.{means}
 use Rattle.state.proofs.bump.Goals as goal
 
 pub returns : goal.returns
-returns c = bumped _ _ _ _ _ _ c.requires c.counters_at-c.ensures c.bump.ensures c.put_counters.ensures
+returns c =
+    rw (← c.v.view_is) (means (bumped _ _ _ _ _ _ c.v.invariant c.counters_at-c.ensures c.bump.ensures c.put_counters.ensures))
+
+pub invariant_of-v : goal.invariant_of-v
+invariant_of-v c = (bumped _ _ _ _ _ _ c.v.invariant c.counters_at-c.ensures c.bump.ensures c.put_counters.ensures).sound

@@ -3,4 +3,5 @@ use Rattle.state.proofs.CounterWords.{week-at}
 use Rattle.state.proofs.prev_week_min.Goals as goal
 
 pub returns : goal.returns
-returns c = week-at _ c.requires _ c.option_at.ensures
+returns c =
+    rw (← c.v.view_is) (week-at _ c.v.invariant _ c.option_at.ensures)

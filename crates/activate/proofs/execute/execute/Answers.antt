@@ -17,7 +17,7 @@ returns-then-env c =
 
 pub start-job-requires : goal.start-job-requires
 start-job-requires c =
-    (c.requires.1.sound, omega (arith, c.requires.1.numbers))
+    omega (arith, c.requires.1.numbers)
 
 pub run_wet-requires : goal.run_wet-requires
 run_wet-requires c =

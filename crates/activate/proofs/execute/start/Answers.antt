@@ -5,7 +5,7 @@ use Rattle.activate.proofs.execute.start.Goals as goal
 
 pub take_number-number-requires : goal.take_number-number-requires
 take_number-number-requires c =
-    (c.set_last_activation.ensures.sound, omega (arith, same-last c.args.snapshot.now c.args.job c.args.v.now _ _ _ c.bump.ensures c.set_last_activation.ensures, c.requires.1))
+    omega (arith, same-last c.args.snapshot.now c.args.job c.args.v.now _ _ _ c.bump.ensures c.set_last_activation.ensures, c.requires)
 
 pub returns : goal.returns
 returns c =

@@ -32,10 +32,10 @@ returns-then-not-last_fits c s h e o =
     rw r.0 (last-over a.v.now a.x a.time _ _ _ s h o _ _ r.1 r.2 c.if-outcomes-x.false c.if-effects-x.false _ c.next_fits.ensures (not-false _ c.if-not-next_fits.false-raw) _ c.last_fits.ensures (not-true _ c.if-not-last_fits.true-raw))
 
 pub put_state-requires : goal.put_state-requires
-put_state-requires c = ((said _ c.requires.0).long, itself c.assign_numbers.ensures)
+put_state-requires c = ((said _ c.requires).long, itself c.assign_numbers.ensures)
 
 pub put_last-requires : goal.put_last-requires
-put_last-requires c = c.store-1.given ∙ (said _ c.requires.0).long
+put_last-requires c = c.store-1.given ∙ (said _ c.requires).long
 
 pub returns : goal.returns
 returns c s h e o =

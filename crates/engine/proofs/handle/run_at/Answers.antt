@@ -17,22 +17,28 @@ returns-then-not-starts c set l =
     let a = c.args in
     not-started _ (carried a.v.now a.x) _ a.i _ _ _ a.dry c.starts.ensures (not-true _ c.if-not-starts.true-raw) c.bump.ensures refl refl
 
+pub new-image-requires : goal.new-image-requires
+new-image-requires c =
+    let s = c.args.store.now in
+    let n = set-of s.loaded c.args.rule c.args.i c.requires.loaded in
+    (loadable _ (image-of _ _ s c.words-words.ensures c.image_in.ensures n.0 n.1).passes).sized
+
 pub activate-requires-clause-accepted : goal.activate-requires-clause-accepted
 activate-requires-clause-accepted c =
     let s = c.args.store.now in
     let q = c.requires.loaded in
     let n = set-of s.loaded c.args.rule c.args.i q in
-    let l = image-of _ _ s c.words-words.ensures c.image_in-image.ensures n.0 n.1 in
+    let l = image-of _ _ s c.words-words.ensures c.image_in.ensures n.0 n.1 in
     let b = rule-inside _ _ s l c.args.rule c.args.i q in
-    ((loadable _ l.passes).accepted, part-fits _ _ _ l.kept c.args.i b _ _ c.rule_steps-part.ensures c.rule_own-own.ensures l.passes, b)
+    rw c.new-image.ensures ((loadable _ l.passes).accepted, part-fits _ _ _ l.kept c.args.i b _ _ c.rule_steps-part.ensures c.rule_own-own.ensures l.passes, b)
 
 pub returns : goal.returns
 returns c set l =
     let a = c.args in
     let s = a.store.now in
-    let i = image-of _ _ s c.words-words.ensures c.image_in-image.ensures set l in
+    let i = image-of _ _ s c.words-words.ensures c.image_in.ensures set l in
     let n = rule-inside _ _ s i a.rule a.i c.requires.loaded in
     let m : mode_of c.if-dry.mode ≡ cond a.dry model.Dry model.Manual =
     elim c.if-dry.branch [ then-dry w ↦ rw (w.mode-is, w.if-dry.true) refl | else-dry w ↦ rw (w.mode-is, w.if-dry.false) refl ] in
     started a.snapshot.now _ set (carried a.v.now a.x) _ a.i _ _ _ _ _ a.dry _ i.image c.starts.ensures (not-false _ c.if-not-starts.false-raw) m
-    (c.activate.ensures.says set.flat (part_says _ _ _ i.kept a.i n _ _ c.rule_steps-part.ensures c.rule_own-own.ensures))
+    ((rw c.new-image.ensures at c.activate.ensures.says) set.flat (part_says _ _ _ i.kept a.i n _ _ c.rule_steps-part.ensures c.rule_own-own.ensures))

@@ -14,7 +14,7 @@ returns-in-None c =
     let s = a.store.now in
     let v = a.v.now in
     let n = found_none (rule_in s.loaded a.rule) _ c.rule_in.ensures c.in-None.is in
-    rw (ran-nothing s.loaded a.rule a.dry a.snapshot.now (meaning v) n) (nothing-done (begun v) _ _ c.requires.sound)
+    rw (ran-nothing s.loaded a.rule a.dry a.snapshot.now (meaning v) n) (nothing-done (begun v) _ _)
 
 pub returns-in-Some : goal.returns-in-Some
 returns-in-Some c =

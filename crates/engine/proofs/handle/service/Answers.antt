@@ -15,7 +15,7 @@ pub returns-in-None : goal.returns-in-None
 returns-in-None c =
     let v = c.args.v.now in
     let n = none-given c.args.store.now.loaded c.in-None.ensures.value in
-    continues-as (begun v) _ _ _ _ _ _ _ (sym (ap (λ (o : Option RuleSet). ticked_in o c.args.snapshot.now (meaning v)) n)) (nothing-done (begun v) _ _ c.requires.1.sound)
+    continues-as (begun v) _ _ _ _ _ _ _ (sym (ap (λ (o : Option RuleSet). ticked_in o c.args.snapshot.now (meaning v)) n)) (nothing-done (begun v) _ _)
 
 pub service_tick-requires : goal.service_tick-requires
 service_tick-requires c =

@@ -1,14 +1,8 @@
 -- `engine::sets::put_rule` meets its contract. Assumes nothing.
 use Rattle.store.specs.Volatile.{changing_in}
-use Rattle.engine.proofs.SetLaws.{loadable, rule-put}
+use Rattle.engine.proofs.SetLaws.{rule-put}
 use Rattle.engine.proofs.LoadedLaws.{activation-kept, position-kept, activations-all, positions-all}
 use Rattle.engine.proofs.sets.put_rule.Goals as goal
-
-pub name_of-requires : goal.name_of-requires
-name_of-requires c = (loadable _ c.requires.0).sized
-
-pub enabled_of-on-requires : goal.enabled_of-on-requires
-enabled_of-on-requires c = (loadable _ c.requires.0).sized
 
 pub returns : goal.returns
 returns c =

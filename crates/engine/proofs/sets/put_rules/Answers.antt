@@ -3,11 +3,8 @@ use native.Mathlib.Omega.{arith}
 use Rattle.engine.proofs.SetLaws.{loadable, rules-begin, rules-go, rules-end}
 use Rattle.engine.proofs.sets.put_rules.Goals as goal
 
-pub size_of-n-requires : goal.size_of-n-requires
-size_of-n-requires c = (loadable _ c.requires.0).sized
-
 pub unset_rules-requires : goal.unset_rules-requires
-unset_rules-requires c = (c.requires.1, omega (arith, c.size_of-n.ensures, (loadable _ c.requires.0).few))
+unset_rules-requires c = omega (arith, c.size_of-n.ensures, (loadable _ c.requires).few)
 
 pub loop-i-init : goal.loop-i-init
 loop-i-init c = rules-begin _ c.args.store.now _ _ _ c.unset_rules.ensures

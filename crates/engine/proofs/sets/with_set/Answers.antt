@@ -15,12 +15,12 @@ new-old-requires c =
 
 pub rebuild_every-requires : goal.rebuild_every-requires
 rebuild_every-requires c =
-    let l = loadable c.args.image.now c.requires.0 in
-    record { accepted = (l.accepted, l.few_enough); sound = c.begin.ensures.sound }
+    let l = loadable c.args.image.now c.requires in
+    (l.accepted, l.few_enough)
 
 pub returns : goal.returns
 returns c =
     let s = c.args.store.now in
     let v = sym c.begin.ensures.says in
-    set-taken c.args.image.now c.args.time s _ _ _ _ _ (itself c.begin.ensures) v (c.new-old.ensures ∙ old-slots _ s _ c.words-words.ensures c.at-n.ensures ∙ ap (λ (m : Volatile). m.rest.every) v)
+    set-taken c.args.image.now c.args.time s _ _ _ _ _ (rw (c.v.view_is) at c.v.invariant) (itself c.begin.ensures) v (c.new-old.ensures ∙ old-slots _ s _ c.words-words.ensures c.at-n.ensures ∙ ap (λ (m : Volatile). m.rest.every) v)
     c.rebuild_every.ensures c.drop_all.ensures.0 c.put_rules.ensures

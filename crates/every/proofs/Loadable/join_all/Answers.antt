@@ -10,8 +10,8 @@ use Rattle.image.proofs.Slots.{every-slots-few}
 use Rattle.every.proofs.Slots.{starts, room, joins-on, joined-all, rule-left, no-rule-left}
 use Rattle.every.proofs.Loadable.join_all.Goals as goal
 
-pub name_order-order-requires-clause-rules_bound : goal.name_order-order-requires-clause-rules_bound
-name_order-order-requires-clause-rules_bound c = rules-few _ c.args.self.now.few
+pub name_order-order-requires : goal.name_order-order-requires
+name_order-order-requires c = rules-few _ c.args.self.now.few
 
 pub loop-p-init : goal.loop-p-init
 unfolding rebuild_every

@@ -11,7 +11,7 @@ loop-init c =
     let p = c.requires.dry_ready in
     let e = c.new-bodies.ensures in
     let all : c.args.budget - 0 ≡ c.args.budget = omega arith in
-    record { says = λ flat s. rw (all, e); sound = p.sound; based = refl; accepts = refl; grows = omega arith; counts = omega arith; last = refl; queue = omega (arith, p.most, ap length e); long = refl }
+    record { says = λ flat s. rw (all, e); based = refl; accepts = refl; grows = omega arith; counts = omega arith; last = refl; queue = omega (arith, p.most, ap length e); long = refl }
 
 pub returns-in_default : goal.returns-in_default
 returns-in_default c = runs-past _ _ _ _ _ _ _ _ _ _ _ _ _ _ _ _ c.loop.invariant _ _ _ c.next_step.ensures c.in_default.is

@@ -6,7 +6,7 @@ use Rattle.exec.proofs.rules.set_rule_bit.Goals as goal
 
 pub returns : goal.returns
 returns c flat =
-    let d = does-nothing c.set_enabled.ensures.sound in
+    let d = does-nothing {v = c.set_enabled.new.v} in
     rw (sym c.rule_named.ensures ∙ c.in-Some.is, c.if-env.false)
     (record {
       state = subst (Means c.set_enabled.new.v (base c.args.v.now)) (bit-flipped c.args.on c.args.rule c.in-Some.i (meaning c.args.v.now)) c.set_enabled.ensures;

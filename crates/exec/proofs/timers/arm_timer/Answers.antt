@@ -10,4 +10,4 @@ unfolding arm_timer
 returns c image flat s =
     let room = sym c.timers_full.ensures ∙ c.if-timers_full.false in
     let due = due-is _ _ _ _ (c.saturating_add-due.ensures ∙ sum_is _ _ _) c.now_ms.ensures in
-    rw (c.if-env.false, room, ← due) (follows no_effect _ _ _ _ (armed-wet _ _ _ _ room c.arm_timer.ensures) (does-nothing c.arm_timer.ensures.sound))
+    rw (c.if-env.false, room, ← due) (follows no_effect _ _ _ _ (armed-wet _ _ _ _ room c.arm_timer.ensures) does-nothing)

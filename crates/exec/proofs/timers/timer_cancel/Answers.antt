@@ -5,4 +5,4 @@ use Rattle.exec.proofs.timers.timer_cancel.Goals as goal
 
 pub returns : goal.returns
 unfolding run_prim
-returns c flat = rw c.if-env.false (follows no_effect _ _ _ _ c.cancel_timer.ensures (does-nothing c.cancel_timer.ensures.sound))
+returns c flat = rw c.if-env.false (follows no_effect _ _ _ _ c.cancel_timer.ensures does-nothing)

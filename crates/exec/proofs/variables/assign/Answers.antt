@@ -9,4 +9,4 @@ pub returns : goal.returns
 unfolding var_set lacks_room
 returns c e =
     let room = sym c.lacks_room.ensures ∙ c.if-lacks_room.false in
-    rw (c.if-env.false, room) (follows no_effect _ _ _ _ (assigned-wet _ _ _ _ room c.set_variable.ensures) (does-nothing c.set_variable.ensures.sound))
+    rw (c.if-env.false, room) (follows no_effect _ _ _ _ (assigned-wet _ _ _ _ room c.set_variable.ensures) does-nothing)

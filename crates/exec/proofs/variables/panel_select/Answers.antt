@@ -14,7 +14,7 @@ pub returns-in-Ok : goal.returns-in-Ok
 unfolding run_prim
 returns-in-Ok c flat =
     let read = stored_some c.in-Some.n _ (record { sfits = c.in-Some.known_told-1-own.given.0.1 }) (sym c.in-Some.is ∙ c.value_at.ensures flat) in
-    answers (c.emits.ensures _ c.requires)
+    answers (c.emits.ensures _)
     (selects-within (env_of c.args.env.now.snapshot.now c.args.env.now.image.now flat) (job_of c.args.env.now.job) (meaning c.args.v.now).rest _ _ _ _ _ read c.group_limit-most.ensures _ c.in-Ok.ensures c.if-n-most.true)
 
 pub returns-in_default-try_from : goal.returns-in_default-try_from

@@ -3,13 +3,13 @@ use native.Mathlib.Omega.{arith}
 use Rattle.exports.proofs.Givens.{given_is}
 use Rattle.exports.proofs.evaluation.begin.Goals as goal
 
-pub size_of-count-requires : goal.size_of-count-requires
-size_of-count-requires c = (given_is _ _ _ c.requires.0).sized
+pub new-requires : goal.new-requires
+new-requires c = (given_is _ _ _ c.requires).sized
 
 pub begin-requires : goal.begin-requires
 begin-requires c =
-    let g = given_is _ _ _ c.requires.0 in
-    (g.readable, omega (arith, c.size_of-count.ensures, g.few), c.requires.1)
+    let g = given_is _ _ _ c.requires in
+    (g.readable, omega (arith, rw c.new.ensures at c.size_of-count.ensures, g.few))
 
 pub returns : goal.returns
-returns c = rw (← c.size_of-count.ensures) c.begin.ensures
+returns c = rw (← (rw c.new.ensures at c.size_of-count.ensures)) c.begin.ensures

@@ -9,13 +9,13 @@ pub returns-then-not-given : goal.returns-then-not-given
 returns-then-not-given c = no-condition _ _ _ _ (sym c.given.ensures ∙ not-true _ c.if-not-given.true-raw)
 
 pub begin-requires : goal.begin-requires
-begin-requires c = (sym c.given.ensures ∙ not-false _ c.if-not-given.false-raw, refl)
+begin-requires c = sym c.given.ensures ∙ not-false _ c.if-not-given.false-raw
 
-pub invariant_of-env-clause-sized : goal.invariant_of-env-clause-sized
-invariant_of-env-clause-sized c = (given_is _ _ _ (sym c.given.ensures ∙ not-false _ c.if-not-given.false-raw)).sized
+pub new-image-requires : goal.new-image-requires
+new-image-requires c = (given_is _ _ _ (sym c.given.ensures ∙ not-false _ c.if-not-given.false-raw)).sized
 
 pub returns : goal.returns
 returns c =
     condition-told _ _ _ _ (sym c.given.ensures ∙ not-false _ c.if-not-given.false-raw) _ c.begin.ensures
     c.condition_at.result _
-    c.condition_at.ensures c.verdict_code.ensures
+    (rw c.new-image.ensures at c.condition_at.ensures) c.verdict_code.ensures

@@ -3,4 +3,5 @@ use Rattle.state.proofs.TakingNumbers.{last_fits}
 use Rattle.state.proofs.last_number.last_fits.Goals as goal
 
 pub returns : goal.returns
-returns c = last_fits _ c.requires _ c.at.ensures
+returns c =
+    rw (← c.v.view_is) (last_fits _ c.v.invariant _ c.at.ensures)

@@ -3,4 +3,5 @@ use Rattle.state.proofs.KeptForRules.{position-kept}
 use Rattle.state.proofs.rules.cycle_pos.Goals as goal
 
 pub returns : goal.returns
-returns c = position-kept _ c.requires _ _ c.kept.ensures
+returns c =
+    rw (← c.v.view_is) (position-kept _ c.v.invariant _ _ c.kept.ensures)

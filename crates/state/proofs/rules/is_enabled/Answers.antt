@@ -5,7 +5,9 @@ use Rattle.state.proofs.KeptForRules.{bit_at, bit-none}
 use Rattle.state.proofs.rules.is_enabled.Goals as goal
 
 pub returns-then-i-rule_count : goal.returns-then-i-rule_count
-returns-then-i-rule_count c = c.at.ensures ∙ bit_at _ c.requires _ (omega (arith, c.rule_count.ensures.0, c.if-i-rule_count.true))
+returns-then-i-rule_count c =
+    rw (← c.v.view_is) (c.at.ensures ∙ bit_at _ c.v.invariant _ (omega (arith, c.rule_count.ensures.0, c.if-i-rule_count.true)))
 
 pub returns : goal.returns
-returns c = bit-none _ c.requires _ (omega (arith, c.rule_count.ensures.0, c.if-i-rule_count.false))
+returns c =
+    rw (← c.v.view_is) (bit-none _ c.v.invariant _ (omega (arith, c.rule_count.ensures.0, c.if-i-rule_count.false)))

@@ -1,7 +1,10 @@
 -- `state::rules::put_cycle_pos` meets its contract. Assumes nothing.
-use native.Mathlib.Omega.{arith}
 use Rattle.state.proofs.KeptForRules.{position-laid}
+use Rattle.state.proofs.Follows.{means}
 use Rattle.state.proofs.rules.put_cycle_pos.Goals as goal
 
 pub returns : goal.returns
-returns c = position-laid _ c.requires _ _ c.args.x (λ j. omega (arith, c.type_inv.v j)) c.put_kept.ensures
+returns c = rw (← c.v.view_is) (means (position-laid _ c.v.invariant _ _ c.args.x c.put_kept.ensures.words c.put_kept.ensures.laid))
+
+pub invariant_of-v : goal.invariant_of-v
+invariant_of-v c = (position-laid _ c.v.invariant _ _ c.args.x c.put_kept.ensures.words c.put_kept.ensures.laid).sound

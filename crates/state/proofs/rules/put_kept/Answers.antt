@@ -28,13 +28,13 @@ put_option-requires g c =
     let e = ap (λ (n : ℕ). c.args.i * (1 + n)) c.WORDS.ensures in
     omega (arith, w, e, c.WORDS.ensures, c.requires.0.long, c.requires.1, g.met.T.Row.takes.most)
 
-pub returns-then-i-rule_count : goal.returns-then-i-rule_count
+pub returns-then-i-rule_count-clause-laid : goal.returns-then-i-rule_count-clause-laid
 unfolding kept_laid
-returns-then-i-rule_count g c =
+returns-then-i-rule_count-clause-laid g c =
     let v = c.args.v.now in
     rw (lt-ltb c.args.i (rules_of v) (omega (arith, c.rule_count.ensures.0, c.if-i-rule_count.true)))
     (c.put_option.ensures ∙ ap (λ (n : ℕ). laid v (c.args.part + c.args.i * (1 + n)) ((maybe g.T.Row.codec).put c.args.x)) c.WORDS.ensures)
 
-pub returns-else-i-rule_count : goal.returns-else-i-rule_count
+pub returns-else-i-rule_count-clause-laid : goal.returns-else-i-rule_count-clause-laid
 unfolding kept_laid
-returns-else-i-rule_count g c = rw (le-ltb c.args.i (rules_of c.args.v.now) (omega (arith, c.rule_count.ensures.0, c.if-i-rule_count.false))) refl
+returns-else-i-rule_count-clause-laid g c = rw (le-ltb c.args.i (rules_of c.args.v.now) (omega (arith, c.rule_count.ensures.0, c.if-i-rule_count.false))) refl

@@ -1,7 +1,10 @@
 -- `state::rules::put_last_activation` meets its contract. Assumes nothing.
-use native.Mathlib.Omega.{arith}
 use Rattle.state.proofs.KeptForRules.{activation-laid}
+use Rattle.state.proofs.Follows.{means}
 use Rattle.state.proofs.rules.put_last_activation.Goals as goal
 
 pub returns : goal.returns
-returns c = activation-laid _ c.requires _ _ c.args.x (λ j. omega (arith, c.type_inv.v j)) c.put_kept.ensures
+returns c = rw (← c.v.view_is) (means (activation-laid _ c.v.invariant _ _ c.args.x c.put_kept.ensures.words c.put_kept.ensures.laid))
+
+pub invariant_of-v : goal.invariant_of-v
+invariant_of-v c = (activation-laid _ c.v.invariant _ _ c.args.x c.put_kept.ensures.words c.put_kept.ensures.laid).sound

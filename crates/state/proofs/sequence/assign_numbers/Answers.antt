@@ -6,17 +6,20 @@ use Rattle.state.proofs.Assigning.{next_small, offsets-small, all-numbered}
 use Rattle.state.proofs.sequence.assign_numbers.Goals as goal
 
 pub overflow_cast-stored : goal.overflow_cast-stored
-overflow_cast-stored c = omega (arith, stored-small _ c.requires.0)
+overflow_cast-stored c = omega (arith, stored-small _ c.v.invariant)
 
 pub number_all-requires : goal.number_all-requires
 number_all-requires c =
     let n = c.at-next.ensures in
     let a = c.at-accepted.ensures in
-    (records-lent _ c.requires.0, stored-within _ c.requires.0, next_small _ c.requires.0 _ _ n a c.requires.1, offsets-small _ c.requires.0 _ _ n a)
+    (records-lent _ c.v.invariant, stored-within _ c.v.invariant, next_small _ c.v.invariant _ _ n a (rw (← c.v.view_is) at c.requires.0), offsets-small _ c.v.invariant _ _ n a)
 
 pub overflow_add-next : goal.overflow_add-next
-overflow_add-next c = omega (arith, next_small _ c.requires.0 _ _ c.at-next.ensures c.at-accepted.ensures c.requires.1)
+overflow_add-next c = omega (arith, next_small _ c.v.invariant _ _ c.at-next.ensures c.at-accepted.ensures (rw (← c.v.view_is) at c.requires.0))
 
 pub returns : goal.returns
 returns c =
-    all-numbered _ c.requires.0 _ _ c.at-next.ensures c.at-accepted.ensures c.requires.1 c.requires.2 _ _ _ _ _ _ c.number_all.ensures refl refl c.put.ensures c.put-2.ensures c.put-3.ensures
+    rw (← c.v.view_is) (all-numbered _ c.v.invariant _ _ c.at-next.ensures c.at-accepted.ensures (rw (← c.v.view_is) at c.requires.0) (rw (← c.v.view_is) at c.requires.1) _ _ _ _ _ _ c.number_all.ensures refl refl c.put.ensures c.put-2.ensures c.put-3.ensures)
+
+pub invariant_of-v : goal.invariant_of-v
+invariant_of-v c = (all-numbered _ c.v.invariant _ _ c.at-next.ensures c.at-accepted.ensures (rw (← c.v.view_is) at c.requires.0) (rw (← c.v.view_is) at c.requires.1) _ _ _ _ _ _ c.number_all.ensures refl refl c.put.ensures c.put-2.ensures c.put-3.ensures).sound

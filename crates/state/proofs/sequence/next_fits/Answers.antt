@@ -4,4 +4,5 @@ use Rattle.state.proofs.Assigning.{next_fits}
 use Rattle.state.proofs.sequence.next_fits.Goals as goal
 
 pub returns : goal.returns
-returns c = next_fits _ _ _ c.at.ensures c.at-next.ensures (omega arith)
+returns c =
+    rw (← c.v.view_is) (next_fits _ _ _ c.at.ensures c.at-next.ensures (omega arith))

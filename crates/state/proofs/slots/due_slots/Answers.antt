@@ -10,9 +10,9 @@ use Rattle.state.proofs.Lists.{filter-keep}
 use Rattle.state.proofs.slots.due_slots.Goals as goal
 
 pub table_at-due-requires : goal.table_at-due-requires
-table_at-due-requires c = let few = slots-few _ c.requires in (omega arith, (few, omega arith))
+table_at-due-requires c = let few = slots-few _ c.v.invariant in (omega arith, (few, omega arith))
 
 pub returns : goal.returns
 returns c =
-    filter-from_retain _ (slot_due c.args.time) _ (λ x b f' y r. search rules) _ _ c.retain.ensures.filtered
-    ∙ filter-keep (slot_due c.args.time) _ ∙ ap (keep (slot_due c.args.time)) (slots_read _ c.requires _ _ refl c.table_at-due.ensures)
+    rw (← c.v.view_is) (filter-from_retain _ (slot_due c.args.time) _ (λ x b f' y r. search rules) _ _ c.retain.ensures.filtered
+    ∙ filter-keep (slot_due c.args.time) _ ∙ ap (keep (slot_due c.args.time)) (slots_read _ c.v.invariant _ _ refl c.table_at-due.ensures))

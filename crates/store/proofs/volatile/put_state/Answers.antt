@@ -7,12 +7,10 @@ use Rattle.store.proofs.Commit.{state-fits, wrote}
 use Rattle.store.proofs.volatile.put_state.Goals as goal
 
 pub slice_bounds-put_words-end : goal.slice_bounds-put_words-end
-slice_bounds-put_words-end c = sym (length-take-le changing_words c.args.v.now (omega (arith, c.requires.1.sound.long)))
+slice_bounds-put_words-end c = sym (length-take-le changing_words c.v.inside.words (omega (arith, c.v.invariant.long)))
 
 pub put_words-requires : goal.put_words-requires
-put_words-requires c =
-    state-fits c.args.store.now c.args.v.now c.requires.0 c.requires.1.sound
+put_words-requires c = state-fits c.args.store.now c.v.inside.words c.requires.0 c.v.invariant
 
 pub returns : goal.returns
-returns c =
-    wrote _ c.args.v.now _ c.requires.1 c.put_words.ensures
+returns c = rw (← c.v.view_is) (wrote _ c.v.inside.words _ (rw (← c.v.view_is) at c.requires.1) c.put_words.ensures)

@@ -8,12 +8,12 @@ use Rattle.wheel.proofs.continuations.fire_continuations.Goals as goal
 
 pub resume_all-requires : goal.resume_all-requires
 resume_all-requires c =
-    let is = c.as_slice.ensures.value ∙ c.due_now-due.ensures in
+    let is = c.as_slice.ensures.value ∙ c.due_now-due.ensures.indices in
     record {
-      records = (c.as_slice.ensures.fits, due-indices c.args.env.now.store.now c.args.v.now _ _ is c.requires.v_value.1.sound, due-fit (fits_set c.args.env.now.image.now) _ _ _ (due-records c.args.env.now.store.now c.args.v.now _ _ is c.requires.records.1) c.requires.records.0);
+      records = (c.as_slice.ensures.fits, due-indices c.args.env.now.store.now c.args.v.now _ _ is c.due_now-due.ensures.few, due-fit (fits_set c.args.env.now.image.now) _ _ _ (due-records c.args.env.now.store.now c.args.v.now _ _ is c.requires.records.1) c.requires.records.0);
       room = continuations-room c.args.env.now.snapshot.now c.args.env.now.image.now _ c.now_ms-time.ensures (carried c.args.v.now c.args.x) _ c.without_due.ensures 32 c.requires.v_value.1;
     }
 
 pub returns : goal.returns
 returns c =
-    continuations-fire c.args.env.now.snapshot.now c.args.env.now.image.now _ c.now_ms-time.ensures (carried c.args.v.now c.args.x) _ c.without_due.ensures _ (due-records c.args.env.now.store.now c.args.v.now _ _ (c.as_slice.ensures.value ∙ c.due_now-due.ensures) c.requires.records.1) c.resume_all.ensures
+    continuations-fire c.args.env.now.snapshot.now c.args.env.now.image.now _ c.now_ms-time.ensures (carried c.args.v.now c.args.x) _ c.without_due.ensures _ (due-records c.args.env.now.store.now c.args.v.now _ _ (c.as_slice.ensures.value ∙ c.due_now-due.ensures.indices) c.requires.records.1) c.resume_all.ensures

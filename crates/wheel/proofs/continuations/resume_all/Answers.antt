@@ -8,7 +8,7 @@ use Rattle.wheel.proofs.Loops.{resuming-starts, resuming-goes, resuming-ends}
 use Rattle.wheel.proofs.continuations.resume_all.Goals as goal
 
 pub loop-i-init : goal.loop-i-init
-loop-i-init c = resuming-starts _ _ _ _ _ c.requires.room.sound
+loop-i-init c = resuming-starts _ _ _ _ _
 
 pub resume_one-h-requires-clause-fits : goal.resume_one-h-requires-clause-fits
 resume_one-h-requires-clause-fits c =

@@ -10,7 +10,7 @@ use Rattle.wheel.proofs.rules.activate_if_enabled.Goals as goal
 pub returns-then-not-is_enabled : goal.returns-then-not-is_enabled
 returns-then-not-is_enabled c =
     let e = tick_env c.args.rule.now.env.now.snapshot.now c.args.rule.now.env.now.image.now in
-    skips 1 (activate_if_enabled e c.args.kind c.args.rule.now.i) (carried c.args.v.now c.args.x) _ _ c.requires.sound (is-off e c.args.kind c.args.rule.now.i _ c.is_enabled.ensures c.if-not-is_enabled.true-raw)
+    skips 1 (activate_if_enabled e c.args.kind c.args.rule.now.i) (carried c.args.v.now c.args.x) _ _ (is-off e c.args.kind c.args.rule.now.i _ c.is_enabled.ensures c.if-not-is_enabled.true-raw)
 
 pub returns : goal.returns
 returns c =

@@ -9,4 +9,4 @@ returns-then-missed c =
 
 pub returns-else-missed : goal.returns-else-missed
 returns-else-missed c =
-    uncounted _ _ _ _ c.if-missed.false (record { says = refl; sound = c.requires; based = refl })
+    uncounted _ _ _ _ c.if-missed.false (record { says = refl; based = refl })

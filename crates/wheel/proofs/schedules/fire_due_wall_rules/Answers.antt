@@ -7,7 +7,7 @@ use Rattle.wheel.proofs.Names.{order-at, order-few}
 use Rattle.wheel.proofs.schedules.fire_due_wall_rules.Goals as goal
 
 pub loop-i-init : goal.loop-i-init
-loop-i-init c = turning-starts _ _ _ _ _ _ _ c.requires.sound
+loop-i-init c = turning-starts _ _ _ _ _ _ _
 
 pub invariant_of-rule : goal.invariant_of-rule
 invariant_of-rule c = record { inside = order-at _ _ c.args.env.now.ordered _ c.loop-i-test.true }

@@ -10,11 +10,11 @@ use Rattle.wheel.proofs.schedules.fire_window.Goals as goal
 
 pub returns-then-not-has_wall_triggers : goal.returns-then-not-has_wall_triggers
 returns-then-not-has_wall_triggers c =
-    skips 64 (fire_window (tick_env c.args.env.now.snapshot.now c.args.env.now.image.now) c.args.minute c.args.window) (carried c.args.v.now c.args.x) _ _ c.requires.0.sound (no-triggers c.args.env.now.snapshot.now c.args.env.now.image.now c.args.minute c.args.window _ c.has_wall_triggers.ensures c.if-not-has_wall_triggers.true-raw)
+    skips 64 (fire_window (tick_env c.args.env.now.snapshot.now c.args.env.now.image.now) c.args.minute c.args.window) (carried c.args.v.now c.args.x) _ _ (no-triggers c.args.env.now.snapshot.now c.args.env.now.image.now c.args.minute c.args.window _ c.has_wall_triggers.ensures c.if-not-has_wall_triggers.true-raw)
 
 pub returns-then-window-eq0 : goal.returns-then-window-eq0
 returns-then-window-eq0 c =
-    skips 64 (fire_window (tick_env c.args.env.now.snapshot.now c.args.env.now.image.now) c.args.minute c.args.window) (carried c.args.v.now c.args.x) _ _ c.requires.0.sound (no-window c.args.env.now.snapshot.now c.args.env.now.image.now c.args.minute c.args.window _ c.has_wall_triggers.ensures c.if-not-has_wall_triggers.false-raw c.if-window-eq0.true)
+    skips 64 (fire_window (tick_env c.args.env.now.snapshot.now c.args.env.now.image.now) c.args.minute c.args.window) (carried c.args.v.now c.args.x) _ _ (no-window c.args.env.now.snapshot.now c.args.env.now.image.now c.args.minute c.args.window _ c.has_wall_triggers.ensures c.if-not-has_wall_triggers.false-raw c.if-window-eq0.true)
 
 pub returns : goal.returns
 returns c =

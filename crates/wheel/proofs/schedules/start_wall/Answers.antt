@@ -14,4 +14,4 @@ returns-in-Some c =
 pub returns-in-None : goal.returns-in-None
 returns-in-None c =
     let e = tick_env c.args.rule.now.env.now.snapshot.now c.args.rule.now.env.now.image.now in
-    skips 1 (start_wall c.args.kind e c.args.rule.now.i) (carried c.args.v.now c.args.x) _ _ c.requires.sound (rw c.in-None.is)
+    skips 1 (start_wall c.args.kind e c.args.rule.now.i) (carried c.args.v.now c.args.x) _ _ (rw c.in-None.is)

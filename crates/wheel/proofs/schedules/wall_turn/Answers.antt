@@ -4,7 +4,7 @@ use Rattle.wheel.proofs.schedules.wall_turn.Goals as goal
 
 pub returns-then-not-is_enabled : goal.returns-then-not-is_enabled
 returns-then-not-is_enabled c =
-    passes-by c.args.rule.now.env.now.snapshot.now c.args.rule.now.env.now.image.now _ _ _ _ c.args.v.now c.args.x c.is_enabled.ensures _ _ c.requires.sound c.if-not-is_enabled.true-raw
+    passes-by c.args.rule.now.env.now.snapshot.now c.args.rule.now.env.now.image.now _ _ _ _ c.args.v.now c.args.x c.is_enabled.ensures _ _ c.if-not-is_enabled.true-raw
 
 pub returns : goal.returns
 returns c =

@@ -19,4 +19,4 @@ returns-in-Some c =
 pub returns-in-None : goal.returns-in-None
 returns-in-None c =
     let e = tick_env c.args.env.now.snapshot.now c.args.env.now.image.now in
-    skips 1 (activate_each e by_every (rules_of_slot c.args.env.now.image.now c.args.slot)) (carried c.args.v.now c.args.x) _ _ c.requires.sound (slot-none e c.args.env.now.image.now c.args.slot _ (sym c.rule_named.ensures ∙ c.in-None.is))
+    skips 1 (activate_each e by_every (rules_of_slot c.args.env.now.image.now c.args.slot)) (carried c.args.v.now c.args.x) _ _ (slot-none e c.args.env.now.image.now c.args.slot _ (sym c.rule_named.ensures ∙ c.in-None.is))

@@ -7,12 +7,6 @@ use Rattle.wheel.specs.Tick.{tick_env}
 use Rattle.wheel.proofs.Ticks.{whole-tick}
 use Rattle.wheel.proofs.tick.service_tick.Goals as goal
 
-pub name_order-all-requires-clause-sized : goal.name_order-all-requires-clause-sized
-name_order-all-requires-clause-sized c = let a = image-accepted _ c.requires.holds.accepted in (a.least, a.most)
-
-pub size_of-requires : goal.size_of-requires
-size_of-requires c = let a = image-accepted _ c.requires.holds.accepted in (a.least, a.most)
-
 pub invariant_of-env : goal.invariant_of-env
 invariant_of-env c =
     record {

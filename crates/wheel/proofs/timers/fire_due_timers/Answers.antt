@@ -5,7 +5,7 @@ use Rattle.wheel.proofs.Loops.{starting-starts, starting-goes, starting-ends}
 use Rattle.wheel.proofs.timers.fire_due_timers.Goals as goal
 
 pub loop-t-init : goal.loop-t-init
-loop-t-init c = starting-starts _ _ _ _ _ _ _ _ c.requires.room.sound
+loop-t-init c = starting-starts _ _ _ _ _ _ _ _
 
 pub loop-t-preserved : goal.loop-t-preserved
 loop-t-preserved c = starting-goes _ _ _ _ _ c.loop-t.invariant _ _ c.loop-t-test.true refl c.fire_one_timer-h.ensures

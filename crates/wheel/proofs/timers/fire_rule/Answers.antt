@@ -11,7 +11,7 @@ use Rattle.wheel.proofs.timers.fire_rule.Goals as goal
 pub returns-then-not-fires_on : goal.returns-then-not-fires_on
 returns-then-not-fires_on c =
     let e = tick_env c.args.rule.now.env.now.snapshot.now c.args.rule.now.env.now.image.now in
-    skips 1 (activate_each e by_timer (keep (on_timer c.args.rule.now.env.now.image.now c.args.timer) (c.args.rule.now.i ∷ []))) (carried c.args.v.now c.args.x) _ _ c.requires.sound (fires-off e c.args.rule.now.env.now.image.now c.args.timer c.args.rule.now.i _ c.fires_on.ensures c.if-not-fires_on.true-raw)
+    skips 1 (activate_each e by_timer (keep (on_timer c.args.rule.now.env.now.image.now c.args.timer) (c.args.rule.now.i ∷ []))) (carried c.args.v.now c.args.x) _ _ (fires-off e c.args.rule.now.env.now.image.now c.args.timer c.args.rule.now.i _ c.fires_on.ensures c.if-not-fires_on.true-raw)
 
 pub returns : goal.returns
 returns c =

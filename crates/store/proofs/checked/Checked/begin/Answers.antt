@@ -3,7 +3,7 @@ use Rattle.store.proofs.Reading.{as_read, state-read}
 use Rattle.store.proofs.checked.Checked.begin.Goals as goal
 
 pub begin-requires : goal.begin-requires
-begin-requires c = ((as_read _ c.self.invariant).readable, c.rule_count.ensures.few, c.requires)
+begin-requires c = ((as_read _ c.self.invariant).readable, c.rule_count.ensures.few)
 
 pub returns : goal.returns
 returns c =

@@ -1,10 +1,7 @@
 -- `store::hold::Loaded::records_hold` meets its contract. Assumes nothing.
 use Rattle.model.specs.Flat.{flatten_rules, set_of}
-use Rattle.store.proofs.SetRules.{image-sized, records-are}
+use Rattle.store.proofs.SetRules.{records-are}
 use Rattle.store.proofs.hold.Loaded.records_hold.Goals as goal
-
-pub records_fit-requires : goal.records_fit-requires
-records_fit-requires c = image-sized _ c.args.self.now.accepted
 
 pub returns : goal.returns
 returns c =

@@ -16,13 +16,13 @@ returns-then-is_err-clause-holds c =
     laws.tables-refused c.args.self.now.words.now c.args.image.now (refusal_number c.refusal.result) c.refusal.ensures
     (above-zero c.refusal.result (sym c.is_err.ensures.value ∙ c.if-is_err.true))
 
-pub few_enough-requires : goal.few_enough-requires
-few_enough-requires c = sized c.args.image.now (sym c.refusal.ensures ∙ zero-of c.refusal.result (sym c.is_err.ensures.value ∙ c.if-is_err.false))
+pub new-requires : goal.new-requires
+new-requires c = sized c.args.image.now (sym c.refusal.ensures ∙ zero-of c.refusal.result (sym c.is_err.ensures.value ∙ c.if-is_err.false))
 
 pub returns-then-not-few_enough-clause-holds : goal.returns-then-not-few_enough-clause-holds
 returns-then-not-few_enough-clause-holds c =
     laws.counts-refused c.args.self.now.words.now c.args.image.now (sym c.refusal.ensures ∙ zero-of c.refusal.result (sym c.is_err.ensures.value ∙ c.if-is_err.false))
-    (sym c.few_enough.ensures ∙ not-true c.few_enough.result c.if-not-few_enough.true-raw)
+    (sym (rw c.new.ensures at c.few_enough.ensures) ∙ not-true c.few_enough.result c.if-not-few_enough.true-raw)
 
 pub slice_bounds-same_flat-end-2 : goal.slice_bounds-same_flat-end-2
 slice_bounds-same_flat-end-2 c =
@@ -33,14 +33,14 @@ pub same_flat-requires : goal.same_flat-requires
 same_flat-requires c =
     let img = c.args.image.now in record {
       checked = checked img (sym c.refusal.ensures ∙ zero-of c.refusal.result (sym c.is_err.ensures.value ∙ c.if-is_err.false));
-      rules_bound = rules-few img (sym c.few_enough.ensures ∙ not-false c.few_enough.result c.if-not-few_enough.false-raw);
+      rules_bound = rules-few img (sym (rw c.new.ensures at c.few_enough.ensures) ∙ not-false c.few_enough.result c.if-not-few_enough.false-raw);
       steps_len_bound = steps-few c.args.self.now.words.now c.args.self.now.readable _ _ c.at.ensures refl;
     }
 
 pub returns-clause-holds : goal.returns-clause-holds
 returns-clause-holds c =
     laws.image_holds c.args.self.now.words.now c.args.image.now (sym c.refusal.ensures ∙ zero-of c.refusal.result (sym c.is_err.ensures.value ∙ c.if-is_err.false)) c.args.self.now.readable c.requires
-    (sym c.few_enough.ensures ∙ not-false c.few_enough.result c.if-not-few_enough.false-raw) _ _ _ c.at.ensures refl c.same_flat.ensures
+    (sym (rw c.new.ensures at c.few_enough.ensures) ∙ not-false c.few_enough.result c.if-not-few_enough.false-raw) _ _ _ c.at.ensures refl c.same_flat.ensures
 
 pub returns-clause-accepted : goal.returns-clause-accepted
 returns-clause-accepted c = λ t. (laws.loads-and-kept c.args.self.now.words.now c.args.image.now _ (returns-clause-holds c) t).0

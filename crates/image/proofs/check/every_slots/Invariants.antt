@@ -1,9 +1,0 @@
--- `image::check::every_slots` meets its contract. Assumes nothing.
-use mathlib.Core.Path.{◌≡◌}
-use Prim.Native.Nat.{◌≤◌, ◌*◌}
-use Rattle.model.specs.Lists.{total}
-use Rattle.model.specs.Image.{slots_of}
-use Rattle.image.proofs.check.every_slots.Given as goal
-
-abbrev pub invariant-loop-i : goal.invariant-loop-i
-invariant-loop-i l = (l.sum ≡ total l.i (slots_of l.image)) × (l.sum ≤ 4294967295 * l.i)

@@ -1,7 +1,0 @@
--- `image::rule::condition_count` meets its contract. Assumes nothing.
-use mathlib.Core.Path.{sym, ◌∙◌}
-use Rattle.image.proofs.Rules.{condition-count}
-use Rattle.image.proofs.rule.condition_count.Goals as goal
-
-pub returns : goal.returns
-returns c = let a = c.args in c.word_at.ensures ∙ sym (condition-count a.image.now a.i)
