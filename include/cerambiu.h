@@ -14,8 +14,8 @@
  *             Stores of one call do not overlap. A store that is not const is written within its words only. A text is a pointer and its number of
  *             bytes.
  *   threads   Two calls may run at once if they share no store that either of them writes.
- *   stack     In bytes, at most, for every input, on x86-64: tick 28,072, load 23,144, run 23,816, enable 22,488, next_deadline 22,568,
- *             unload 22,456, counters 17,192, next_start 18,472, room 16,312, crontab 600, telegrams 88, new 56. The gate computes them from the machine code. The return address is in;
+ *   stack     In bytes, at most, for every input, on x86-64: tick 28,328, load 23,352, run 24,024, enable 22,696, next_deadline 22,792,
+ *             unload 22,664, counters 17,400, next_start 18,680, room 16,504, crontab 480, telegrams 88, new 56. The gate computes them from the machine code. The return address is in;
  *             not in: what memcpy, memmove and memset use, the arguments that the caller pushes, the dynamic linker, interrupts
  *             (docs/PERFORMANCE.md, "Stack").
  *   refusals  Each call returns 0, or the number of a refusal: the lowest that applies. A refused call has changed nothing: the store is as
