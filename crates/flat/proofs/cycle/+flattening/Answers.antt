@@ -165,11 +165,11 @@ flatten_call-returns t c =
 pub flatten_list-returns-then-q-ge256 : goal.flatten_list-returns-then-q-ge256
 flatten_list-returns-then-q-ge256 t c =
     let o = c.one_step.ensures in
-    rw o.counted (full c.loop-i.invariant.0 c.requires.count_in_bounds c.loop-i-test.true c.if-q-ge256.true _ o.written)
+    rw o.counted (full c.loop-i.invariant.0 c.requires.count_in_bounds c.loop-i-test.true (omega arith) _ o.written)
 
 pub flatten_list-returns-then-q-eq0 : goal.flatten_list-returns-then-q-eq0
 flatten_list-returns-then-q-eq0 t c =
-    refused c.loop-i.invariant.0 c.requires.count_in_bounds c.loop-i-test.true c.if-q-ge256.false [] [] (omega (arith, c.if-q-eq0.true))
+    refused c.loop-i.invariant.0 c.requires.count_in_bounds c.loop-i-test.true (omega arith) [] [] (omega (arith, c.if-q-eq0.true))
 
 pub flatten_list-flatten_action-requires : goal.flatten_list-flatten_action-requires
 flatten_list-flatten_action-requires t c =
@@ -179,8 +179,8 @@ flatten_list-flatten_action-requires t c =
     let Some : a.count ≡ 0 → ⊥ = λ e. omega (arith, l.0.from, c.loop-i-test.true) in (
       omega (arith, left_is a.count (length a.t.now.acts.now / 8 - a.first) Some, c.decreases, q.count_in_bounds, l.0.from, c.loop-i-test.true),
       (
-        start-next (begun c.args.t.now.checked.tables c.args.t.now.resolved c.args.t.now.calls_len c.requires.start) l.1 (omega (arith, c.if-q-ge256.false)) (omega (arith, l.0.less)) (omega (arith, l.0.few')),
-        (omega (arith, q.count_in_bounds, c.loop-i-test.true), c.if-q-ge256.false),
+        start-next (begun c.args.t.now.checked.tables c.args.t.now.resolved c.args.t.now.calls_len c.requires.start) l.1 (omega arith) (omega (arith, l.0.less)) (omega (arith, l.0.few')),
+        (omega (arith, q.count_in_bounds, c.loop-i-test.true), omega arith),
       ),
     )
 
@@ -188,12 +188,12 @@ pub flatten_list-returns-in_err-n : goal.flatten_list-returns-in_err-n
 flatten_list-returns-in_err-n t c =
     let p = err_from_is_err_and c.from_residual.result c.from_residual.ensures.1 in
     let r = rw c.in_err-n.was at c.flatten_action.ensures in
-    rw (p.1, p.2, r.0) (refused c.loop-i.invariant.0 c.requires.count_in_bounds c.loop-i-test.true c.if-q-ge256.false [] [] (omega (arith, r.1, c.if-q-eq0.false)))
+    rw (p.1, p.2, r.0) (refused c.loop-i.invariant.0 c.requires.count_in_bounds c.loop-i-test.true (omega arith) [] [] (omega (arith, r.1, c.if-q-eq0.false)))
 
 pub flatten_list-loop-i-preserved : goal.flatten_list-loop-i-preserved
 flatten_list-loop-i-preserved t c =
     let f = c.flatten_action in (
-      next c.loop-i.invariant.0 c.requires.count_in_bounds c.loop-i-test.true c.if-q-ge256.false c.if-q-eq0.false f.auto.list f.auto.bodies (rw c.in_ok-n.was at f.ensures),
+      next c.loop-i.invariant.0 c.requires.count_in_bounds c.loop-i-test.true (omega arith) c.if-q-eq0.false f.auto.list f.auto.bodies (rw c.in_ok-n.was at f.ensures),
       f.auto.body ∙ c.loop-i.invariant.1,
     )
 
