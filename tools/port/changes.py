@@ -1,7 +1,7 @@
 #!/usr/bin/env python3
 """changes.py LISTED > docs/design-pass/CHANGES.md
 
-LISTED is a file with what `python3 /opt/rattle/port/contracts.py OLD NEW --json` prints, where OLD is a checkout of the commit at which the pass began. Sorts it by crate,
+LISTED is a file with what `port/contracts.py OLD NEW --json` of the toolchain prints, where OLD is a checkout of the commit at which the pass began. Sorts it by crate,
 old and new one below the other, whole. What has the old text once none and some are the library's None and Some, get_elem? its slice_get, and a jump an Option, is named only.
 """
 import collections
