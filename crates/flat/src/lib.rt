@@ -31,6 +31,23 @@ pub struct Source<'a> {
     ghost calls_len: { length acts.now / 8 ≤ length calls.now },
 }
 
+// What flattening all rules makes: how many steps, and whether they are those to be compared.
+#[derive(Clone, Copy)]
+pub struct Made {
+    pub size: usize,
+    pub same: bool,
+}
+
+// The kinds of steps, as the first word of a row has them.
+#[derive(Clone, Copy)]
+pub enum StepKind {
+    Primitive = 0,
+    Wait = 1,
+    Branch = 2,
+    After = 3,
+    Fail = 4,
+}
+
 // Where actions stand: the calls left, and what is around them.
 #[derive(Clone, Copy)]
 pub struct Around {
