@@ -10,9 +10,9 @@ use Rattle.model.specs.declared.Refusal.{Refusal}
 use Rattle.model.specs.declared.Refusal.TheVariants.{FlatSteps}
 use Rattle.model.specs.Flat.{Row, Flattened, part_of, too_many_steps}
 use Rattle.flat.specs.Words.{layout, same_at}
+use Rattle.flat.specs.declared.Done.{Done}
 use Rattle.flat.specs.Outcome.{Tables, list_at}
 use Rattle.flat.specs.declared.Made.{Made}
-use Rattle.flat.specs.declared.Progress.{Progress}
 
 -- THE WORDS OF A FLAT PART ----------------------------------------------------------------------------------------------------------
 -- the stored steps, the part of one rule behind the other
@@ -51,7 +51,7 @@ pub record RuleWrote (f : Flattened) (allowed : ℕ) (same : Bool) (seen words :
   pub agrees : same' ≡ same && same_at seen 0 (layout (part_of f))
   pub few : m + n + 514 * left ≤ 514 * allowed + 1
 
-abbrev pub RuleOut : Flattened → ℕ → Bool → List ℕ → List ℕ → Result Progress Refusal → Type 0
+abbrev pub RuleOut : Flattened → ℕ → Bool → List ℕ → List ℕ → Result Done Refusal → Type 0
 RuleOut f allowed same seen words (Err refusal) = (refusal ≡ FlatSteps) × (allowed < f.taken)
 RuleOut f allowed same seen words (Ok p) = RuleWrote f allowed same seen words p.n p.m p.left p.same
 

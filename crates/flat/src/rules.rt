@@ -8,7 +8,7 @@ ghost use Rattle.flat.specs.Load.{RuleOut, EachOut, rule_at, Checked, Loading, S
 use crate::cycle::flatten_list;
 use crate::records::find_calls;
 use crate::steps::{append_steps, clear, place};
-use crate::{Around, Made, Progress, Source};
+use crate::{Around, Bodies, Done, Made, Progress, Source};
 use model::{FlattenCtx, Refusal};
 
 // The row of list k: where it begins, and how many steps it has; written if there is room.
@@ -41,7 +41,7 @@ fn flatten_rule(
     k: usize,
     left: usize,
     same: bool,
-) -> Result<Progress, Refusal>
+) -> Result<Done, Refusal>
     requires in_bounds { (1072 ≤ length own.old) × (1072 ≤ length body.old) × (k < length t.now.rules.now / 16) × (left ≤ 65536) }
     ensures { RuleOut (rule_at t.now.acts.now t.now.blocks.now t.now.rules.now t.now.depth t.now.limit k) left same seen.now words.new result }
 {
@@ -56,15 +56,21 @@ fn flatten_rule(
             in_after: false,
         },
     };
-    let p = Progress {
-        n: 0,
-        m: 0,
-        left,
+    let mut bodies = Bodies {
+        words,
+        seen,
+        count: 0,
         same,
     };
-    let q = flatten_list(t, own, body, words, seen, first, count, at, p)?;
-    let agrees = append_steps(words, seen, q.m, &own[..q.n * 4], q.same);
-    Ok(Progress { same: agrees, ..q })
+    let p = Progress { n: 0, left };
+    let q = flatten_list(t, own, body, &mut bodies, first, count, at, p)?;
+    append_steps(&mut bodies, &own[..q.n * 4]);
+    Ok(Done {
+        n: q.n,
+        m: bodies.count,
+        left: q.left,
+        same: bodies.same,
+    })
 }
 
 // The parts of all rules, one behind the other in `words`, and their rows in `lists`.
