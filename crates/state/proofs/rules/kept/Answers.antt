@@ -32,8 +32,11 @@ pub returns-then-i-rule_count : goal.returns-then-i-rule_count
 unfolding kept_for
 returns-then-i-rule_count g c =
     let v = c.v.inside.words in
-    rw (← c.v.view_is) (rw (lt-ltb c.args.i (rules_of v) (omega (arith, c.rule_count.ensures.0, c.if-i-rule_count.true)))
-    (c.option_at.ensures ∙ ap (λ (n : ℕ). row_at (maybe g.T.Row.codec) v (c.args.part + c.args.i * (1 + n))) c.WORDS.ensures), c.v.invariant)
+    rw (← c.v.view_is) (
+      rw (lt-ltb c.args.i (rules_of v) (omega (arith, c.rule_count.ensures.0, c.if-i-rule_count.true)))
+          (c.option_at.ensures ∙ ap (λ (n : ℕ). row_at (maybe g.T.Row.codec) v (c.args.part + c.args.i * (1 + n))) c.WORDS.ensures),
+      c.v.invariant,
+    )
 
 pub returns : goal.returns
 unfolding kept_for
