@@ -116,12 +116,7 @@ pub fn activate(
         }
         Decision::Unevaluable => {
             execute::note_wet_partial(v, dry);
-            x.push_outcome(
-                outcomes,
-                job,
-                Reason::ConditionUnevaluable as u32,
-                x.effects,
-            )
+            x.push_outcome(outcomes, job, Some(Reason::ConditionUnevaluable), x.effects)
         }
     }
 }
