@@ -52,12 +52,6 @@ const WEEK: u32 = 10080;
 // kept: the specification's `first_from` answers it where no minute passes, so that the least of two needs no case.
 const NEVER: u32 = 10081;
 
-fn least(a: u32, b: u32) -> u32
-    ensures { result ≡ min a b }
-{
-    if a < b { a } else { b }
-}
-
 // The earlier of two starts, and of two in one minute the one of the lower name.
 fn earlier(minutes: u32, name: u32, best: Best) -> Best
     ensures { result ≡ better minutes name best }
@@ -70,7 +64,7 @@ fn earlier(minutes: u32, name: u32, best: Best) -> Best
     }
     Best {
         minutes,
-        name: least(name, best.name),
+        name: name.min(best.name),
     }
 }
 
@@ -105,7 +99,7 @@ impl Asked<'_> {
     {
         let mut best = NEVER;
         for day in (0..7).rev() {
-            best = least(self.day_minutes(days, minute, day), best);
+            best = self.day_minutes(days, minute, day).min(best);
         }
         best
     }
@@ -143,7 +137,7 @@ impl Asked<'_> {
         }
         let mut best = NEVER;
         for k in (0..self.image.trigger_count(i)).rev() {
-            best = least(self.trigger_minutes(self.image.trigger_at(i, k)), best);
+            best = self.trigger_minutes(self.image.trigger_at(i, k)).min(best);
         }
         best
     }

@@ -9,4 +9,4 @@ pub returns-then-best-minutes : goal.returns-then-best-minutes
 returns-then-best-minutes c = higher _ _ _ c.if-best-minutes.true
 
 pub returns : goal.returns
-returns c = same _ _ _ _ c.if-minutes-best.false c.if-best-minutes.false c.least.ensures
+returns c = same _ _ _ _ c.if-minutes-best.false c.if-best-minutes.false c.min.ensures
