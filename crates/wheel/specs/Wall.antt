@@ -1,6 +1,6 @@
 -- Which wall trigger of a rule is due.
-use Rattle.std.specs.Prelude.{ℕ, ◌+◌, ◌*◌, ◌≡◌, Bool, cond, ◌&&◌, ◌||◌, List}
-use Rattle.std.specs.Prelude.{None, Some}
+use Rattle.std.specs.Prelude.{ℕ, ◌+◌, ◌*◌, ◌≡◌, Bool, ◌&&◌, ◌||◌, List}
+use Rattle.std.specs.Bool.{then_some}
 use Rattle.model.specs.Arith.{has_day}
 use Rattle.model.specs.Lists.{any}
 use Rattle.model.specs.Rules.{triggers_of}
@@ -17,7 +17,7 @@ unfoldable pub day_due : ℕ → ℕ → ℕ → ℕ → ℕ → Bool
 day_due base window days minute d = has_day days d && in_window base window (d * 1440 + minute)
 
 abbrev pub kind_if : Bool → ℕ → Bool → WallKind
-kind_if due kind unsynced = record { kind = cond due (Some kind) None; unsynced = unsynced }
+kind_if due kind unsynced = record { kind = then_some due kind; unsynced = unsynced }
 
 abbrev pub wall_kind : WallKind → model.WallKind
 wall_kind w = record { kind = w.kind; unsynced = w.unsynced }

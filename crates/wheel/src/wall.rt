@@ -1,5 +1,5 @@
 // Wall schedules: which trigger of a rule is due, and whether a rule has one.
-ghost use Rattle.std.specs.Prelude.{◌≡◌, [], ◌∷◌, ◌<◌};
+ghost use Rattle.std.specs.Prelude.{◌≡◌, false, [], ◌∷◌, ◌<◌};
 ghost use Rattle.model.specs.Image.{size_of};
 ghost use Rattle.model.specs.Rows.{rules};
 ghost use Rattle.model.specs.Rules.{triggers_of};
@@ -28,12 +28,14 @@ pub struct WallKind {
     pub unsynced: bool,
 }
 
-// No trigger is due, or one of a kind is.
-fn kind_if(due: bool, kind: u32, unsynced: bool) -> WallKind
-    ensures { result ≡ kind_if due kind unsynced }
+// No trigger is due, whether or not a sun was missed.
+fn not_due(unsynced: bool) -> WallKind
+    ensures { result ≡ kind_if false 0 unsynced }
 {
-    let kind = if due { Some(kind) } else { None };
-    WallKind { kind, unsynced }
+    WallKind {
+        kind: None,
+        unsynced,
+    }
 }
 
 // A trigger that is due at a minute of the day, as the sun has it.
@@ -50,9 +52,12 @@ fn solar_kind(
     match world::sun(snapshot) {
         Some(t) => {
             let minute = eval::time::solar_minute(t, event, offset_ms) as u64;
-            kind_if(minute_due(base, window, 127, minute), BY_SOLAR, missed)
+            WallKind {
+                kind: minute_due(base, window, 127, minute).then_some(BY_SOLAR),
+                unsynced: missed,
+            }
         }
-        None => kind_if(false, 0, true),
+        None => not_due(true),
     }
 }
 
@@ -60,7 +65,10 @@ fn time_kind(base: u64, window: u64, hour: u32, minute: u32, days: u32, missed: 
     ensures { KindAnywhere base window missed (trigger.AtTime hour minute days ∷ []) result }
 {
     let minute = hour as u64 * 60 + minute as u64;
-    kind_if(minute_due(base, window, days, minute), BY_TIME, missed)
+    WallKind {
+        kind: minute_due(base, window, days, minute).then_some(BY_TIME),
+        unsynced: missed,
+    }
 }
 
 // What one trigger gives, where a sun was missed before it or not.
@@ -74,15 +82,15 @@ fn trigger_kind(
     ensures { Kind snapshot.now base window missed (trigger ∷ []) result }
 {
     match trigger {
-        Trigger::TimerFires { timer } => kind_if(false, 0, missed),
-        Trigger::Every { period_ms } => kind_if(false, 0, missed),
+        Trigger::TimerFires { timer } => not_due(missed),
+        Trigger::Every { period_ms } => not_due(missed),
         Trigger::AtTime { hour, minute, days } => time_kind(
             base, window, hour, minute, days, missed,
         ),
         Trigger::AtSolar { event, offset_ms } => solar_kind(
             snapshot, base, window, event, offset_ms, missed,
         ),
-        Trigger::Other => kind_if(false, 0, missed),
+        Trigger::Other => not_due(missed),
     }
 }
 
@@ -107,7 +115,7 @@ pub fn due_wall_kind(
         }
         unsynced = w.unsynced;
     }
-    kind_if(false, 0, unsynced)
+    not_due(unsynced)
 }
 
 fn is_wall_trigger(trigger: Trigger) -> bool

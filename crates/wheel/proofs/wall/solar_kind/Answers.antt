@@ -6,8 +6,8 @@ use Rattle.wheel.proofs.wall.solar_kind.Goals as goal
 
 pub returns-in-Some : goal.returns-in-Some
 returns-in-Some c = λ image flat.
-    rw c.kind_if.ensures (at-sun (env_of _ image flat) _ _ _ _ _ (sym c.sun.ensures ∙ c.in-Some.is) (rw c.solar_minute-minute.ensures at c.minute_due.ensures))
+    rw c.then_some.ensures (at-sun (env_of _ image flat) _ _ _ _ _ (sym c.sun.ensures ∙ c.in-Some.is) (rw c.solar_minute-minute.ensures at c.minute_due.ensures))
 
 pub returns-in-None : goal.returns-in-None
 returns-in-None c = λ image flat.
-    rw c.kind_if-in-None.ensures (no-sun (env_of _ image flat) _ _ c.args.missed _ _ (sym c.sun.ensures ∙ c.in-None.is))
+    rw c.not_due.ensures (no-sun (env_of _ image flat) _ _ c.args.missed _ _ (sym c.sun.ensures ∙ c.in-None.is))
