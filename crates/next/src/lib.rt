@@ -2,7 +2,7 @@
 // the least of them: no minute is asked for by itself.
 #![tactic(auto)]
 
-ghost use Rattle.std.specs.Prelude.{◌≡◌, map, ◌+◌, ◌*◌, ◌%◌, ◌<◌, ◌≤◌, min, eqb};
+ghost use Rattle.std.specs.Prelude.{◌≡◌, map, ◌+◌, ◌*◌, ◌%◌, ◌<◌, ◌≤◌, eqb};
 ghost use Rattle.words.specs.Saturating.{max32};
 ghost use Rattle.model.specs.Arith.{has_day};
 ghost use Rattle.model.specs.Image.{size_of};
@@ -27,8 +27,8 @@ pub enum NextStart {
     Start(u32, u32),
 }
 
-// The least minutes so far, and the lowest name of a rule that starts then.
-#[derive(Clone, Copy)]
+// The least minutes so far, and the lowest name of a rule that starts then. The order is by the minutes, and then by the name.
+#[derive(Clone, Copy, PartialEq, Eq, PartialOrd, Ord)]
 struct Best {
     minutes: u32,
     name: u32,
@@ -56,16 +56,7 @@ const NEVER: u32 = 10081;
 fn earlier(minutes: u32, name: u32, best: Best) -> Best
     ensures { result ≡ better minutes name best }
 {
-    if minutes < best.minutes {
-        return Best { minutes, name };
-    }
-    if best.minutes < minutes {
-        return best;
-    }
-    Best {
-        minutes,
-        name: name.min(best.name),
-    }
+    Best { minutes, name }.min(best)
 }
 
 impl Asked<'_> {
