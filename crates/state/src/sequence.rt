@@ -8,14 +8,12 @@ use crate::{State, place};
 use rows::PENDING_WORDS;
 use rows::row::Row;
 
-const MAX_U64: u64 = 0xFFFF_FFFF_FFFF_FFFF;
-
 // Whether the next number is at most 2^64 - 1: where it is not, the call is refused with 31.
 pub fn next_fits(v: &State) -> bool
     ensures { result ≡ leb (meaning v.now).next max64 }
 {
     let next = u64::at(&v.words, place::NEXT);
-    u64::at(&v.words, place::ACCEPTED) <= MAX_U64 - next
+    u64::at(&v.words, place::ACCEPTED) <= u64::MAX - next
 }
 
 // Each record behind the stored ones gets the number at its offset.

@@ -119,12 +119,7 @@ fn window_of(prev: u64, minute: u64) -> u64
     requires { minute < 10080 }
     ensures { (result ≡ window_of prev minute) × (result ≤ 60) }
 {
-    let dist = cyclic_dist(prev, minute);
-    if dist < CATCH_UP_MINUTES {
-        dist
-    } else {
-        CATCH_UP_MINUTES
-    }
+    cyclic_dist(prev, minute).min(CATCH_UP_MINUTES)
 }
 
 // The clock was set back: the minute lies 1 to 120 minutes behind the one before, round the week.
