@@ -15,7 +15,7 @@ use exec::runs::run_steps;
 use exec::{Env, FlatRule, Job};
 use model::Point;
 use state::State;
-use state::reasons::{Reason, reason_word};
+use state::reasons::Reason;
 
 // Where a rule's own list begins.
 const START: Point = Point {
@@ -70,7 +70,7 @@ pub fn run_wet(
 {
     let run = run_steps(env, rule, effects, v, from, most, x.effects);
     finish_wet(v, run.count - x.effects, run.reason);
-    x.push_outcome(outcomes, env.job, reason_word(run.reason), run.count)
+    x.push_outcome(outcomes, env.job, run.reason, run.count)
 }
 
 // A dry run of the whole rule, and its outcome.
@@ -87,7 +87,7 @@ fn run_dry(
 {
     let most = env.image.budget();
     let run = run_steps_dry(env, rule, effects, v, START, most, x.effects);
-    x.push_outcome(outcomes, env.job, reason_word(run.reason), run.count)
+    x.push_outcome(outcomes, env.job, run.reason, run.count)
 }
 
 // kept: that the image is accepted, not only sized, is asked here and where it decides the budget; exec's Env asks less of its callers

@@ -9,6 +9,7 @@ mod outcomes;
 ghost use Rattle.std.specs.Prelude.{◌≡◌, ◌≤◌, ◌<◌};
 ghost use Rattle.std.specs.Prelude.{Some};
 ghost use Rattle.model.specs.Image.{size_of};
+ghost use Rattle.model.specs.Kinds.{trigger_number};
 ghost use Rattle.model.specs.Rows.{rules};
 ghost use Rattle.model.specs.Rules.{rule_named, hold_hcl_of};
 ghost use Rattle.image.specs.Accepted.{Accepted};
@@ -21,7 +22,7 @@ use crate::decide::Decision;
 use counters::Counter;
 use exec::{Env, FlatRule, Job};
 use image::layout::Image;
-use model::Pending;
+use model::{Pending, TriggerKind};
 use state::State;
 use state::reasons::Reason;
 
@@ -60,14 +61,15 @@ impl Mode {
 pub const OUTCOME_WORDS: usize = 8;
 
 // Rule `name`, at place i of the image, under an activation number.
-fn job_of(image: &Image, name: u32, i: u32, kind: u32, dry: bool, number: u64) -> Job
-    ensures { result ≡ record { rule = name; index = i; hold = hold_hcl_of image.now i; trigger = kind; dry = dry; number = number } }
+// kept: the trigger is a word: a continuation brings the one of its `Pending`, the record that the specification shares
+fn job_of(image: &Image, name: u32, i: u32, trigger: u32, dry: bool, number: u64) -> Job
+    ensures { result ≡ record { rule = name; index = i; hold = hold_hcl_of image.now i; trigger = trigger; dry = dry; number = number } }
 {
     Job {
         rule: name,
         index: i,
         hold: image.hold_hcl_of(i),
-        trigger: kind,
+        trigger,
         dry,
         number,
     }
@@ -84,16 +86,16 @@ pub fn activate(
     v: &mut State,
     x: Handled,
     i: u32,
-    kind: u32,
+    kind: TriggerKind,
     mode: Mode,
 ) -> Handled
     requires accepted { Accepted image.now × FlatWords part.now own × (i < size_of image.now rules) }
     requires room { Room 1 (carried v.old x) }
-    ensures { Activates snapshot.now image.now part.now own i kind mode (carried v.old x) outcomes.old effects.old (carried v.new result) outcomes.new effects.new }
+    ensures { Activates snapshot.now image.now part.now own i (trigger_number kind) mode (carried v.old x) outcomes.old effects.old (carried v.new result) outcomes.new effects.new }
 {
     let rule = FlatRule { part, own };
     let dry = mode.is_dry();
-    let job = job_of(image, image.name_of(i), i, kind, dry, 0);
+    let job = job_of(image, image.name_of(i), i, u32::from(kind), dry, 0);
     let env = Env {
         snapshot,
         image,
@@ -116,12 +118,7 @@ pub fn activate(
         }
         Decision::Unevaluable => {
             execute::note_wet_partial(v, dry);
-            x.push_outcome(
-                outcomes,
-                job,
-                Reason::ConditionUnevaluable as u32,
-                x.effects,
-            )
+            x.push_outcome(outcomes, job, Some(Reason::ConditionUnevaluable), x.effects)
         }
     }
 }

@@ -2,14 +2,16 @@
 // word is written.
 ghost use Rattle.std.specs.Prelude.{◌≤◌, ◌<◌};
 ghost use Rattle.words.specs.Saturating.{max32};
+ghost use Rattle.state.specs.Reasons.{reason_number};
 ghost use Rattle.activate.specs.Outcomes.{Puts, Pushes};
 
 use crate::{Handled, OUTCOME_WORDS};
 use exec::Job;
+use state::reasons::{Reason, reason_word};
 
 // Outcome n, of a job, with `count` effects from effect `first` on.
-fn put_outcome(lent: &mut [u32], n: u32, job: Job, reason: u32, first: u32, count: u32)
-    ensures { Puts lent.old n job reason first count lent.new }
+fn put_outcome(lent: &mut [u32], n: u32, job: Job, reason: Option<Reason>, first: u32, count: u32)
+    ensures { Puts lent.old n job (reason_number reason) first count lent.new }
 {
     let k = n as usize * OUTCOME_WORDS;
     if k + OUTCOME_WORDS <= lent.len() {
@@ -17,7 +19,7 @@ fn put_outcome(lent: &mut [u32], n: u32, job: Job, reason: u32, first: u32, coun
             job.rule,
             u32::from(job.dry),
             job.trigger,
-            reason,
+            reason_word(reason),
             first,
             count,
             words::low_word(job.number),
@@ -28,9 +30,15 @@ fn put_outcome(lent: &mut [u32], n: u32, job: Job, reason: u32, first: u32, coun
 
 impl Handled {
     // The next outcome: with it there are `effects` effects.
-    pub fn push_outcome(self, words: &mut [u32], job: Job, reason: u32, effects: u32) -> Handled
+    pub fn push_outcome(
+        self,
+        words: &mut [u32],
+        job: Job,
+        reason: Option<Reason>,
+        effects: u32,
+    ) -> Handled
         requires { (self.outcomes < max32) × (self.effects ≤ effects) }
-        ensures { Pushes self words.old job reason effects result words.new }
+        ensures { Pushes self words.old job (reason_number reason) effects result words.new }
     {
         let count = effects - self.effects;
         put_outcome(words, self.outcomes, job, reason, self.effects, count);

@@ -9,7 +9,7 @@ use native.Mathlib.Numerals.{add-one}
 use native.Mathlib.Omega.{arith}
 use borrow.Author.Tests.{not-true, not-false, le-leb, lt-leb, leb-true}
 use lib.Dec.{leb, lit<}
-use lib.ListN.{length, take, drop, replicate, set, length-set, length-replicate, length-append}
+use lib.ListN.{length, get_or, take, drop, replicate, set, length-set, length-replicate, length-append}
 use lib.Seq.{drop-drop, sets, sets-eq, length-sets, get_or-set_same, get_or-set_other}
 use Rattle.std.specs.List.{filter, range_with_len, sum_by}
 use Rattle.std.proofs.lemmas.List.FromFn.{sum_by-map-range_with_len_more}
@@ -26,16 +26,21 @@ use Rattle.model.specs.Crontab.{field_fits, field_covers, field_free, starts, mi
 use Rattle.crontab.specs.Scanned.{written, Marked, marked, marked_minutes, form_refusal}
 
 -- MARKS
-module _ (f : ℕ → Bool) where
-  pub marks-more : (a : List Bool) (v : ℕ) (r : Bool) → Marked f v a → v < 60 → r ≡ f v → Marked f (v + 1) (set a v r)
+-- the numbers below v are marked, of n
+pub record Begun (f : ℕ → Bool) (n v : ℕ) (a : List Bool) : Type 0 where
+  pub long : length a ≡ n
+  pub same : (i : ℕ) → i < v → get_or a i false ≡ f i
+
+module _ (f : ℕ → Bool) (n : ℕ) where
+  pub marks-more : (a : List Bool) (v : ℕ) (r : Bool) → Begun f n v a → v < n → r ≡ f v → Begun f n (v + 1) (set a v r)
   marks-more a v r m h e =
       record {
         long = length-set a v r ∙ m.long;
         same = λ i l. ⊎_elim (λ q. rw q (get_or-set_same a v r false (omega (arith, m.long)) ∙ e)) (λ q. get_or-set_other a v i r false (λ z. omega arith) ∙ m.same i q) (eq-or-lt_of_le (omega arith));
       }
 
-  pub marks-all : (n v : ℕ) (a : List Bool) → Marked f v a → v ≤ n → n ≤ v → Marked f n a
-  marks-all n v a m h k = let e : v ≡ n = omega arith in rw e at m
+  pub marks-all : (v : ℕ) (a : List Bool) → Begun f n v a → n ≤ v → Marked f n a
+  marks-all v a m k = record { long = m.long; same = λ i l. m.same i (omega arith) }
 
 -- the minutes from t on of which a test holds
 unfoldable pub left : (ℕ → Bool) → ℕ → List ℕ

@@ -16,9 +16,9 @@ abbrev pub written : ℕ → List ℕ → ℕ → List ℕ → List ℕ
 written ds w n [] = w
 written ds w n (t ∷ ts) = written ds (sets w (8 * n) (2 ∷ t / 60 ∷ t % 60 ∷ ds ∷ [])) (n + 1) ts
 
--- the numbers below n that a test holds of are marked in an array of 60
+-- the numbers below n that a test holds of are marked in an array of n
 pub record Marked (f : ℕ → Bool) (n : ℕ) (a : List Bool) : Type 0 where
-  pub long : length a ≡ 60
+  pub long : length a ≡ n
   pub same : (v : ℕ) → v < n → get_or a v false ≡ f v
 
 -- minute t of a day is marked, and the marked minutes of a day

@@ -58,8 +58,8 @@ pub fn read(line: &[u8], sunday: u32, triggers: &mut [u32]) -> Result<u32, Refus
 {
     lent_words::clear(triggers);
     check_form(line, sunday)?;
-    let hours = table::marks(line, Field::Hour, 24);
-    let minutes = table::marks(line, Field::Minute, 60);
+    let hours = table::marks::<24>(line, Field::Hour);
+    let minutes = table::marks::<60>(line, Field::Minute);
     let n = table::count(&hours, &minutes);
     if triggers.len() / 8 < n as usize {
         return Err(Refusal::TriggerStore);

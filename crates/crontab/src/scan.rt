@@ -39,8 +39,6 @@ pub fn field(line: &[u8], k: usize) -> &[u8]
     &rest[..first_length(rest)]
 }
 
-const MOST: u64 = 4_294_967_295;
-
 // The number that decimal digits stand for, if 32 bits hold it.
 pub fn number(s: &[u8]) -> Option<u32>
     ensures { result ≡ word_sized (number_of s.now) }
@@ -48,7 +46,7 @@ pub fn number(s: &[u8]) -> Option<u32>
     if s.is_empty() {
         return None;
     }
-    match decimal::read(s, MOST) {
+    match decimal::read(s, u32::MAX as u64) {
         Ok(n) => Some(n as u32),
         Err(_) => None,
     }

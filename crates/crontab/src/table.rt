@@ -7,20 +7,20 @@ ghost use Rattle.crontab.specs.Scanned.{Marked, marked, marked_minutes, written}
 
 use crate::parts::Field;
 
-// Which of the first n numbers a field of a line covers.
-pub fn marks(line: &[u8], field: Field, n: usize) -> [bool; 60]
-    requires { n ≤ 60 }
-    ensures { Marked (field_covers line.now (number field)) n result }
+// Which of the first N numbers a field of a line covers.
+pub fn marks<const N: usize>(line: &[u8], field: Field) -> [bool; N]
+    requires { N ≤ 60 }
+    ensures { Marked (field_covers line.now (number field)) N result }
 {
-    let mut a = [false; 60];
-    for v in 0..n {
+    let mut a = [false; N];
+    for v in 0..N {
         a[v] = field.covers(line, v as u32);
     }
     a
 }
 
 // Whether minute t of a day is marked.
-fn is_marked(hours: &[bool; 60], minutes: &[bool; 60], t: u32) -> bool
+fn is_marked(hours: &[bool; 24], minutes: &[bool; 60], t: u32) -> bool
     ensures { result ≡ marked hours.now minutes.now t }
 {
     let hour = hours.get((t / 60) as usize).copied().unwrap_or(false);
@@ -28,7 +28,7 @@ fn is_marked(hours: &[bool; 60], minutes: &[bool; 60], t: u32) -> bool
 }
 
 // How many minutes of a day are marked.
-pub fn count(hours: &[bool; 60], minutes: &[bool; 60]) -> u32
+pub fn count(hours: &[bool; 24], minutes: &[bool; 60]) -> u32
     ensures { (result ≡ length (marked_minutes hours.now minutes.now)) × (result ≤ 1440) }
 {
     let marked = (0..1440).filter(|t| is_marked(hours, minutes, *t));
@@ -64,7 +64,7 @@ fn put(store: &mut [u32], n: u32, t: u32, ds: u32)
 }
 
 // The triggers of the marked minutes, one behind the other.
-pub fn write(hours: &[bool; 60], minutes: &[bool; 60], ds: u32, store: &mut [u32])
+pub fn write(hours: &[bool; 24], minutes: &[bool; 60], ds: u32, store: &mut [u32])
     requires { 8 * length (marked_minutes hours.now minutes.now) ≤ length store.old }
     ensures { store.new ≡ written ds store.old 0 (marked_minutes hours.now minutes.now) }
 {

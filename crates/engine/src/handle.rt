@@ -15,7 +15,7 @@ ghost use Rattle.engine.specs.Handling.{begun, ran_in, ticked_in, Commits};
 use activate::{Handled, Mode};
 use counters::Counter;
 use image::layout::Image;
-use model::Refusal;
+use model::{Refusal, TriggerKind};
 use state::State;
 use store::checked::Checked;
 use store::set::image_in;
@@ -99,7 +99,17 @@ fn run_at(
     let part = store::flat_part::rule_steps(words, i);
     let own = store::flat_part::rule_own(words, i);
     activate::activate(
-        snapshot, &image, part, own, outcomes, effects, v, x, i, 0, mode,
+        snapshot,
+        &image,
+        part,
+        own,
+        outcomes,
+        effects,
+        v,
+        x,
+        i,
+        TriggerKind::HttpTrigger,
+        mode,
     )
 }
 

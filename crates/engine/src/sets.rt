@@ -24,6 +24,7 @@ pub fn without_set(store: &Checked, v: &mut State)
     state::pending::drop_all(v);
     state::slots::drop_every(v);
     state::rules::unset_rules(v, 0);
+    // This opens the value, so that what is known of it can be cited; no code comes of it.
     let _ = &v.words;
 }
 
@@ -76,5 +77,6 @@ pub fn with_set(store: &Checked, image: &Image, time: u64, v: &mut State)
     every::rebuild_every(image, &old, time, v);
     state::pending::drop_all(v);
     put_rules(store, image, v);
+    // This opens the value, so that what is known of it can be cited; no code comes of it.
     let _ = &v.words;
 }

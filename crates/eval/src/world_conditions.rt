@@ -1,7 +1,7 @@
 // The conditions on the world, one function for each kind.
 ghost use Rattle.std.specs.Prelude.{◌≡◌};
 ghost use Rattle.model.specs.declared.Condition.TheVariants as condition;
-ghost use Rattle.eval.specs.Equals.{Decides, Evaluates, Evaluates, LevelIs};
+ghost use Rattle.eval.specs.Equals.{Decides, Evaluates, LevelIs};
 
 use crate::Env;
 use crate::compare::compare_i64;

@@ -33,11 +33,11 @@ struct Loadable<'a> {
 }
 
 // The slot of an Every trigger.
-#[tactic(auto, unfolding(model::specs::Slots::slots_from))]
+#[tactic(auto, unfolding(model::specs::Slots::slots_from, words::specs::Saturating::saturating_add))]
 fn slot_of(old: &Slots, time: u64, key: Key) -> EverySlot
     ensures { slots_from old.now time key.rule key.place (Every key.period ∷ []) ≡ result ∷ [] }
 {
-    let fresh = words::saturating_add_u64(time, key.period as u64);
+    let fresh = time.saturating_add(key.period as u64);
     let due = old.due_of(key, fresh);
     EverySlot {
         rule: key.rule,

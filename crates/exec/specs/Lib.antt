@@ -1,5 +1,4 @@
 -- What the contracts of `exec` cite.
-pub mod Kinds
 pub mod Done
 pub mod Results
 pub mod Paid

@@ -2,11 +2,11 @@
 ghost use Rattle.exec.specs.Done.{action_done};
 ghost use Rattle.exec.specs.Results.{PerformsIn, PerformsAt};
 
-use crate::answers::{EffectKind, emits, fails};
+use crate::answers::{emits, fails};
 use crate::{Env, PrimResult, lights, rules, timers, variables};
 use image::action::action_of;
 use image::layout::Table;
-use model::Action;
+use model::{Action, EffectKind};
 use state::State;
 
 // One arm for each kind.

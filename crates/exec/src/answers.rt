@@ -1,32 +1,14 @@
 // What an action answers: an effect, none, or that it cannot be evaluated.
 ghost use Rattle.model.specs.Actions as model_actions;
+ghost use Rattle.model.specs.Kinds.{kind_number};
 ghost use Rattle.state.specs.Meaning.{meaning};
 ghost use Rattle.exec.specs.Done.{action_done};
-ghost use Rattle.exec.specs.Kinds.{kind_number};
 ghost use Rattle.exec.specs.Results.{AnswersOnly, Does};
 
 use crate::{PrimResult, Unevaluable};
 use counters::Counter;
-use model::Effect;
+use model::{Effect, EffectKind};
 use state::State;
-
-// The kinds of effects: document 01, "Outcomes and effects".
-#[derive(Clone, Copy)]
-pub enum EffectKind {
-    Light = 0,
-    SceneRecall = 1,
-    SceneApply = 2,
-    HclResume = 3,
-    HclHold = 4,
-    HclSchedule = 5,
-    InputFeedback = 6,
-    PanelSelect = 7,
-    CancelHold = 8,
-    CatchMovement = 9,
-    MqttPublish = 10,
-    Log = 11,
-    Level = 12,
-}
 
 pub fn emits(kind: EffectKind, a: u32, b: u32, c: u32, d: u32) -> PrimResult
     ensures { AnswersOnly (λ s. model_actions.emits s (kind_number kind) a b c d) result }

@@ -8,10 +8,11 @@ ghost use Rattle.state.specs.Meaning.{meaning};
 ghost use Rattle.exec.specs.Done.{action_done};
 ghost use Rattle.exec.specs.Results.{Performs, PerformsIn, LevelAt};
 
-use crate::answers::{EffectKind, emits, fails};
+use crate::answers::{emits, fails};
 use crate::{Env, PrimResult};
 use eval::values::value_at;
 use image::layout::Table;
+use model::EffectKind;
 use state::State;
 
 // A light's own hold_hcl, or the rule's where 2 says that it has none.

@@ -7,6 +7,7 @@ use crate::FlatRule;
 use flat::body::list_of;
 use model::{Point, Step};
 
+// kept: the numbers of `flat::StepKind`: an arm takes no cast, and a const for each, or a chain of `if`, is no plainer.
 fn decode(kind: u32, a: u32, b: u32, c: u32) -> Step
     ensures { result ≡ step_of (kind, (a, (b, c))) }
 {

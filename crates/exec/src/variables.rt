@@ -5,10 +5,10 @@ ghost use Rattle.model.specs.declared.Action.TheVariants.{VarSet, VarAdd, PanelS
 ghost use Rattle.exec.specs.Done.{action_done};
 ghost use Rattle.exec.specs.Results.{PerformsIn, Assigns, Adds};
 
-use crate::answers::{EffectKind, emits, fails};
+use crate::answers::{emits, fails};
 use crate::{Env, PrimResult};
 use eval::values::value_at;
-use model::VarValue;
+use model::{EffectKind, VarValue};
 use state::State;
 
 #[tactic(auto, unfolding(model::specs::Actions::var_set, state::specs::Named::lacks_room))]

@@ -72,6 +72,15 @@ module _ {acts blocks calls : List ℕ} {scratch d : ℕ} {c : FlattenCtx} {n m 
               few' = omega (arith, w.few);
             })
 
+        -- an after in an after adds no bodies
+        pub none-more : m1 ≡ m
+        none-more = omega (arith, w.stored, ap (λ (rs : List Row). length rs) (none_within acts blocks d first count c 0 m))
+
+        pub after-there : {r : Bool} {list b2 l : List ℕ} → length x ≡ scratch → length b1 ≡ length bodies → Put list n (3 ∷ ms ∷ m1 ∷ size ∷ []) l
+            → ((rs : List Row) → take (size * 4) x1 ≡ layout rs → Behinds b1 m1 rs b2 (m1 + length rs) × (r ≡ same1 && holds_at seen m1 rs))
+            → take (m1 * 4) b2 ≡ take (m1 * 4) b1 → Wrote 257 257 after n m a same seen list bodies l b2 (n + 1) (m1 + size) left r
+        after-there ex eb p append kept = rw none-more (after-wrote ex eb (rw none-more at p) (rw none-more at append) (rw none-more at kept))
+
   -- A REPEAT --------------------------------------------------------------------------------------------------------------------------
   module _ (times : ℕ) {i first count : ℕ} (g : Behind (length acts / 8) i first count) where
     abbrev repeated : Flattened

@@ -135,6 +135,11 @@ module _ (f : Flattened) (allowed : ℕ) (same : Bool) (seen own₀ words₀ own
         few = omega (arith, h.few, h.few');
       }
 
+-- where the words that were lent are told by the name of what was lent
+pub rule-ends : {G : Type 0} {a b : G} {f : Flattened} {allowed : ℕ} {same : Bool} {seen words ends : List ℕ} {n m left : ℕ} {s : Bool} → a ≡ b → (a ≡ b → ends ≡ words)
+    → RuleWrote f allowed same seen words n m left s → RuleWrote f allowed same seen ends n m left s
+rule-ends e g h = rw (g e) h
+
 -- the tail behind `size` steps, empty if there are not so many, is compared
 pub same-tail : (seen : List ℕ) (k size : ℕ) (w : List ℕ) → Placed size (length seen) k → same_at (tail_of seen k) 0 w ≡ same_at seen (size * 4) w
 same-tail seen k size w p =

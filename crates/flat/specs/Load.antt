@@ -10,8 +10,9 @@ use Rattle.model.specs.declared.Refusal.{Refusal}
 use Rattle.model.specs.declared.Refusal.TheVariants.{FlatSteps}
 use Rattle.model.specs.Flat.{Row, Flattened, part_of, too_many_steps}
 use Rattle.flat.specs.Words.{layout, same_at}
+use Rattle.flat.specs.declared.Done.{Done}
 use Rattle.flat.specs.Outcome.{Tables, list_at}
-use Rattle.flat.specs.declared.Progress.{Progress}
+use Rattle.flat.specs.declared.Made.{Made}
 
 -- THE WORDS OF A FLAT PART ----------------------------------------------------------------------------------------------------------
 -- the stored steps, the part of one rule behind the other
@@ -50,7 +51,7 @@ pub record RuleWrote (f : Flattened) (allowed : ℕ) (same : Bool) (seen words :
   pub agrees : same' ≡ same && same_at seen 0 (layout (part_of f))
   pub few : m + n + 514 * left ≤ 514 * allowed + 1
 
-abbrev pub RuleOut : Flattened → ℕ → Bool → List ℕ → List ℕ → Result Progress Refusal → Type 0
+abbrev pub RuleOut : Flattened → ℕ → Bool → List ℕ → List ℕ → Result Done Refusal → Type 0
 RuleOut f allowed same seen words (Err refusal) = (refusal ≡ FlatSteps) × (allowed < f.taken)
 RuleOut f allowed same seen words (Ok p) = RuleWrote f allowed same seen words p.n p.m p.left p.same
 
@@ -63,9 +64,9 @@ pub record EachWrote (fs : List Flattened) (n : ℕ) (same : Bool) (seen words l
   pub listed : length fs * 2 ≤ length lists → take (length fs * 2) lists ≡ list_part fs
   pub agrees : same ≡ same_at seen 0 (step_part fs)
 
-abbrev pub EachOut : List Flattened → List ℕ → List ℕ → List ℕ → Result (ℕ × Bool) Refusal → Type 0
+abbrev pub EachOut : List Flattened → List ℕ → List ℕ → List ℕ → Result Made Refusal → Type 0
 EachOut fs seen words lists (Err refusal) = (refusal ≡ FlatSteps) × (too_many_steps fs ≡ true)
-EachOut fs seen words lists (Ok m) = EachWrote fs m.0 m.1 seen words lists
+EachOut fs seen words lists (Ok m) = EachWrote fs m.size m.same seen words lists
 
 -- with 0 behind the parts
 pub record MadeOf (fs : List Flattened) (n : ℕ) (same : Bool) (seen words lists : List ℕ) : Type 0 where
@@ -74,9 +75,9 @@ pub record MadeOf (fs : List Flattened) (n : ℕ) (same : Bool) (seen words list
   pub parts : Parts fs n words lists
   pub agrees : same ≡ same_at seen 0 (step_part fs)
 
-abbrev pub Loading : List Flattened → List ℕ → List ℕ → List ℕ → Result (ℕ × Bool) Refusal → Type 0
+abbrev pub Loading : List Flattened → List ℕ → List ℕ → List ℕ → Result Made Refusal → Type 0
 Loading fs seen words lists (Err refusal) = (refusal ≡ FlatSteps) × (too_many_steps fs ≡ true)
-Loading fs seen words lists (Ok m) = MadeOf fs m.0 m.1 seen words lists
+Loading fs seen words lists (Ok m) = MadeOf fs m.size m.same seen words lists
 
 -- the words of a store's flat part are those of the set's flat form
 unfoldable pub same_flat : List Flattened → List ℕ → List ℕ → Bool

@@ -10,6 +10,7 @@ use Rattle.model.specs.declared.FlattenCtx.{FlattenCtx}
 use Rattle.model.specs.Rules.{record_in, flow_of}
 use Rattle.model.specs.Flat.{Row, Flattened, Flattening, copies, flatten_list, flatten_action, flatten_call, flattenings, block_named}
 use Rattle.flat.specs.Words.{layout, same_at}
+use Rattle.flat.specs.declared.Done.{Done}
 use Rattle.flat.specs.declared.Progress.{Progress}
 
 -- PARTS OF THE ACTION TABLE ---------------------------------------------------------------------------------------------------------
@@ -57,7 +58,7 @@ Behinds list n rows after n' = n' * 4 ≤ length list → take (n' * 4) after �
 
 -- one step more in the list
 abbrev pub one_more : Progress → Progress
-one_more p = record { n = p.n + 1; m = p.m; left = p.left; same = p.same }
+one_more p = record { n = p.n + 1; left = p.left }
 
 -- these rows stand in `seen` behind m steps
 abbrev pub holds_at : List ℕ → ℕ → List Row → Bool
@@ -112,15 +113,20 @@ pub record Wrote (e e' : ℕ) (f : Flattened) (n m allowed : ℕ) (same : Bool) 
   pub few : n' + 257 * left ≤ n + 257 * allowed + e
   pub few' : m' + 257 * left ≤ m + 257 * allowed + e'
 
-abbrev pub Outcome : ℕ → ℕ → Flattened → ℕ → ℕ → ℕ → Bool → List ℕ → List ℕ → List ℕ → List ℕ → List ℕ → Result Progress Refusal → Type 0
+-- how far it is then, of the list and of the bodies
+abbrev pub told : ℕ → Bool → Result Progress Refusal → Result Done Refusal
+told m same (Err refusal) = Err refusal
+told m same (Ok p) = Ok (record { n = p.n; m = m; left = p.left; same = same })
+
+abbrev pub Outcome : ℕ → ℕ → Flattened → ℕ → ℕ → ℕ → Bool → List ℕ → List ℕ → List ℕ → List ℕ → List ℕ → Result Done Refusal → Type 0
 Outcome e e' f n m allowed same seen list bodies list' bodies' (Err refusal) = (refusal ≡ FlatSteps) × (allowed < f.taken)
 Outcome e e' f n m allowed same seen list bodies list' bodies' (Ok p) = Wrote e e' f n m allowed same seen list bodies list' bodies' p.n p.m p.left p.same
 
 -- of a list, and of an action, which has been counted by the list around it
-abbrev pub ListOut : Flattened → ℕ → ℕ → ℕ → Bool → List ℕ → List ℕ → List ℕ → List ℕ → List ℕ → Result Progress Refusal → Type 0
+abbrev pub ListOut : Flattened → ℕ → ℕ → ℕ → Bool → List ℕ → List ℕ → List ℕ → List ℕ → List ℕ → Result Done Refusal → Type 0
 ListOut = Outcome 1 0
 
-abbrev pub ActOut : Flattened → ℕ → ℕ → ℕ → Bool → List ℕ → List ℕ → List ℕ → List ℕ → List ℕ → Result Progress Refusal → Type 0
+abbrev pub ActOut : Flattened → ℕ → ℕ → ℕ → Bool → List ℕ → List ℕ → List ℕ → List ℕ → List ℕ → Result Done Refusal → Type 0
 ActOut = Outcome 257 257
 
 -- the copies of a repeat's body, whose first copy stands behind the n steps that `list` has

@@ -2,6 +2,7 @@
 ghost use Rattle.std.specs.Prelude.{◌≡◌, ◌+◌, ◌*◌, ◌<◌};
 ghost use Rattle.flat.specs.Words.{body_words, list_words};
 
+use crate::StepKind;
 use crate::steps::place;
 
 // The body of the after in row i of a rule's part of the flat steps: the part of its words that holds it.
@@ -9,7 +10,7 @@ pub fn after_body(part: &[u32], i: usize) -> &[u32]
     ensures { result.now ≡ body_words part.now i }
 {
     let len = part.len();
-    if len / 4 <= i || part[i * 4] != 3 {
+    if len / 4 <= i || part[i * 4] != StepKind::After as u32 {
         return &part[len..];
     }
     let from = place(part[i * 4 + 2] as usize, len);

@@ -1,19 +1,19 @@
 // The cycle of flattening. "A block may call itself, down to the call depth limit": it falls on the calls left, then on the records
 // left in the table. At most 12 lists are open at once (specs/OpenLists.antt, proofs/OpenBound.antt). A rule's own list is written into
-// `list`, an after's body into `body`, and from there into the lent tail of the flat steps, `bodies`; it is compared with `seen` too.
+// `list`, an after's body into `body`, and from there into the lent tail of the flat steps, that of `bodies`, which are compared too.
 // More actions than the caller allowed are refused. The six functions call each other: they are read, and proved, together.
-// kept: the four slices stand beside each other in each call, because they change their parts: an after's body is the list of what is inside.
+// kept: `list` and `body` stand beside each other in each call, because they change their parts: an after's body is the list of what is inside.
 // kept: `Start`, that record i is one of the table, and that there are fewer than 256 steps stand in each `requires`: they are of the numbers of one call
 // and of the length of the body that is lent to it, which no value goes with.
 ghost use Rattle.std.specs.Prelude.{◌≡◌, ◌+◌, ◌/◌, ◌<◌, ◌≤◌, length};
 ghost use Rattle.model.specs.declared.FlowAction.TheVariants.{After, Call, Repeat, Conditional};
 ghost use Rattle.model.specs.Flat.{flatten_call};
-ghost use Rattle.flat.specs.Outcome.{Start, Behind, ListOut, ActOut, action_in, list_at, action_at, form_at};
+ghost use Rattle.flat.specs.Outcome.{Start, told, Behind, ListOut, ActOut, action_in, list_at, action_at, form_at};
 
 use crate::context::repeat_fails;
 use crate::records::{called_block, read_action};
 use crate::steps::{append_steps, copies, one_step, place, put, put_after};
-use crate::{Around, Progress, Source};
+use crate::{Around, Bodies, Progress, Source};
 use model::{FlowAction, Refusal, Step};
 
 // `count` actions from record `first` on, one after the other. Only nested lists and calls recurse.
@@ -22,16 +22,18 @@ pub fn flatten_list(
     t: &Source,
     list: &mut [u32],
     body: &mut [u32],
-    bodies: &mut [u32],
-    seen: &[u32],
+    bodies: &mut Bodies,
     first: usize,
     count: usize,
     at: Around,
     p: Progress,
 ) -> Result<Progress, Refusal>
-    requires start { Start (length body.old) at.depth at.ctx p.n p.m p.left }
+    requires start { Start (length body.old) at.depth at.ctx p.n bodies.old.count p.left }
     requires count_in_bounds { first + count ≤ length t.now.acts.now / 8 }
-    ensures { ListOut (list_at t.now.acts.now t.now.blocks.now at.depth first count at.ctx p.n p.m) p.n p.m p.left p.same seen.now list.old bodies.old list.new bodies.new result }
+    ensures out { ListOut (list_at t.now.acts.now t.now.blocks.now at.depth first count at.ctx p.n bodies.old.count) p.n bodies.old.count p.left bodies.old.same bodies.old.seen.now list.old bodies.old.words.now list.new bodies.new.words.now (told bodies.new.count bodies.new.same result) }
+    ensures same_reference { bodies.new.words.ghost_name ≡ bodies.old.words.ghost_name }
+    ensures same_seen { bodies.new.seen.now ≡ bodies.old.seen.now }
+    ensures same_length { length bodies.new.words.now ≡ length bodies.old.words.now }
 {
     let mut q = p;
     for i in first..first + count {
@@ -45,11 +47,7 @@ pub fn flatten_list(
             left: q.left - 1,
             ..q
         };
-        // Field by field: copied as one value, the padding behind `same` goes in overlapping halves, and a list takes three times as long.
-        let Progress { n, m, left, same } = flatten_action(
-            t, list, body, bodies, seen, i, at, here,
-        )?;
-        q = Progress { n, m, left, same };
+        q = flatten_action(t, list, body, bodies, i, at, here)?;
     }
     Ok(q)
 }
@@ -60,15 +58,17 @@ fn flatten_action(
     t: &Source,
     list: &mut [u32],
     body: &mut [u32],
-    bodies: &mut [u32],
-    seen: &[u32],
+    bodies: &mut Bodies,
     i: usize,
     at: Around,
     p: Progress,
 ) -> Result<Progress, Refusal>
-    requires start { Start (length body.old) at.depth at.ctx p.n p.m p.left }
+    requires start { Start (length body.old) at.depth at.ctx p.n bodies.old.count p.left }
     requires i_in_bounds { (i < length t.now.acts.now / 8) × (p.n < 256) }
-    ensures { ActOut (action_at t.now.acts.now t.now.blocks.now at.depth i at.ctx p.n p.m) p.n p.m p.left p.same seen.now list.old bodies.old list.new bodies.new result }
+    ensures out { ActOut (action_at t.now.acts.now t.now.blocks.now at.depth i at.ctx p.n bodies.old.count) p.n bodies.old.count p.left bodies.old.same bodies.old.seen.now list.old bodies.old.words.now list.new bodies.new.words.now (told bodies.new.count bodies.new.same result) }
+    ensures same_reference { bodies.new.words.ghost_name ≡ bodies.old.words.ghost_name }
+    ensures same_seen { bodies.new.seen.now ≡ bodies.old.seen.now }
+    ensures same_length { length bodies.new.words.now ≡ length bodies.old.words.now }
 {
     match read_action(t.acts, i) {
         FlowAction::Wait { duration_ms } => Ok(one_step(list, p, Step::Wait(duration_ms))),
@@ -81,7 +81,6 @@ fn flatten_action(
             list,
             body,
             bodies,
-            seen,
             i,
             delay_ms,
             first as usize,
@@ -89,7 +88,7 @@ fn flatten_action(
             at,
             p,
         ),
-        FlowAction::Call { block } => { flatten_call(t, list, body, bodies, seen, i, block, at, p) }
+        FlowAction::Call { block } => { flatten_call(t, list, body, bodies, i, block, at, p) }
         FlowAction::Repeat {
             times,
             first,
@@ -99,7 +98,6 @@ fn flatten_action(
             list,
             body,
             bodies,
-            seen,
             i,
             times,
             first as usize,
@@ -118,7 +116,6 @@ fn flatten_action(
             list,
             body,
             bodies,
-            seen,
             i,
             condition,
             then_first as usize,
@@ -138,8 +135,7 @@ fn flatten_after(
     t: &Source,
     list: &mut [u32],
     body: &mut [u32],
-    bodies: &mut [u32],
-    seen: &[u32],
+    bodies: &mut Bodies,
     i: usize,
     ms: u32,
     first: usize,
@@ -147,9 +143,12 @@ fn flatten_after(
     at: Around,
     p: Progress,
 ) -> Result<Progress, Refusal>
-    requires start { Start (length body.old) at.depth at.ctx p.n p.m p.left }
+    requires start { Start (length body.old) at.depth at.ctx p.n bodies.old.count p.left }
     requires i_in_bounds { (i < length t.now.acts.now / 8) × (p.n < 256) × Behind (length t.now.acts.now / 8) i first count }
-    ensures { ActOut (form_at t.now.acts.now t.now.blocks.now at.depth i (After ms first count) at.ctx p.n p.m) p.n p.m p.left p.same seen.now list.old bodies.old list.new bodies.new result }
+    ensures out { ActOut (form_at t.now.acts.now t.now.blocks.now at.depth i (After ms first count) at.ctx p.n bodies.old.count) p.n bodies.old.count p.left bodies.old.same bodies.old.seen.now list.old bodies.old.words.now list.new bodies.new.words.now (told bodies.new.count bodies.new.same result) }
+    ensures same_reference { bodies.new.words.ghost_name ≡ bodies.old.words.ghost_name }
+    ensures same_seen { bodies.new.seen.now ≡ bodies.old.seen.now }
+    ensures same_length { length bodies.new.words.now ≡ length bodies.old.words.now }
 {
     if at.ctx.in_after {
         return Ok(one_step(list, p, Step::Fail));
@@ -161,19 +160,17 @@ fn flatten_after(
         body,
         &mut none,
         bodies,
-        seen,
         first,
         count,
         inner,
         Progress { n: 0, ..p },
     )?;
-    put_after(list, p.n, ms, p.m as u32, q.n as u32);
-    let same = append_steps(bodies, seen, p.m, &body[..q.n * 4], q.same);
+    put_after(list, p.n, ms, bodies.count as u32, q.n as u32);
+    append_steps(bodies, &body[..q.n * 4]);
+    bodies.count += q.n;
     Ok(Progress {
         n: p.n + 1,
-        m: p.m + q.n,
         left: q.left,
-        same,
     })
 }
 
@@ -183,16 +180,18 @@ fn flatten_call(
     t: &Source,
     list: &mut [u32],
     body: &mut [u32],
-    bodies: &mut [u32],
-    seen: &[u32],
+    bodies: &mut Bodies,
     i: usize,
     name: u32,
     at: Around,
     p: Progress,
 ) -> Result<Progress, Refusal>
-    requires start { Start (length body.old) at.depth at.ctx p.n p.m p.left }
+    requires start { Start (length body.old) at.depth at.ctx p.n bodies.old.count p.left }
     requires i_in_bounds { (i < length t.now.acts.now / 8) × (p.n < 256) × (action_in t.now.acts.now i ≡ Call name) }
-    ensures { ListOut (flatten_call t.now.acts.now t.now.blocks.now at.depth name at.ctx p.n p.m) p.n p.m p.left p.same seen.now list.old bodies.old list.new bodies.new result }
+    ensures out { ListOut (flatten_call t.now.acts.now t.now.blocks.now at.depth name at.ctx p.n bodies.old.count) p.n bodies.old.count p.left bodies.old.same bodies.old.seen.now list.old bodies.old.words.now list.new bodies.new.words.now (told bodies.new.count bodies.new.same result) }
+    ensures same_reference { bodies.new.words.ghost_name ≡ bodies.old.words.ghost_name }
+    ensures same_seen { bodies.new.seen.now ≡ bodies.old.seen.now }
+    ensures same_length { length bodies.new.words.now ≡ length bodies.old.words.now }
 {
     if at.depth == 0 {
         return Ok(one_step(list, p, Step::Fail));
@@ -209,7 +208,6 @@ fn flatten_call(
         list,
         body,
         bodies,
-        seen,
         block.a as usize,
         block.b as usize,
         inside,
@@ -224,8 +222,7 @@ fn flatten_repeat(
     t: &Source,
     list: &mut [u32],
     body: &mut [u32],
-    bodies: &mut [u32],
-    seen: &[u32],
+    bodies: &mut Bodies,
     i: usize,
     times: u32,
     first: usize,
@@ -233,27 +230,33 @@ fn flatten_repeat(
     at: Around,
     p: Progress,
 ) -> Result<Progress, Refusal>
-    requires start { Start (length body.old) at.depth at.ctx p.n p.m p.left }
+    requires start { Start (length body.old) at.depth at.ctx p.n bodies.old.count p.left }
     requires i_in_bounds { (i < length t.now.acts.now / 8) × (p.n < 256) × Behind (length t.now.acts.now / 8) i first count }
-    ensures { ActOut (form_at t.now.acts.now t.now.blocks.now at.depth i (Repeat times first count) at.ctx p.n p.m) p.n p.m p.left p.same seen.now list.old bodies.old list.new bodies.new result }
+    ensures out { ActOut (form_at t.now.acts.now t.now.blocks.now at.depth i (Repeat times first count) at.ctx p.n bodies.old.count) p.n bodies.old.count p.left bodies.old.same bodies.old.seen.now list.old bodies.old.words.now list.new bodies.new.words.now (told bodies.new.count bodies.new.same result) }
+    ensures same_reference { bodies.new.words.ghost_name ≡ bodies.old.words.ghost_name }
+    ensures same_seen { bodies.new.seen.now ≡ bodies.old.seen.now }
+    ensures same_length { length bodies.new.words.now ≡ length bodies.old.words.now }
 {
     if repeat_fails(at.ctx, times) {
         return Ok(one_step(list, p, Step::Fail));
     }
     let inner = at.within_repeat();
+    let count_before = bodies.count;
+    let same_before = bodies.same;
     let from = place(p.n, list.len());
     let q = flatten_list(
         t,
         &mut list[from..],
         body,
         bodies,
-        seen,
         first,
         count,
         inner,
         Progress { n: 0, ..p },
     )?;
     if 256 < p.n + q.n {
+        bodies.count = count_before;
+        bodies.same = same_before;
         let over = Progress { left: q.left, ..p };
         return Ok(one_step(list, over, Step::Fail));
     }
@@ -267,8 +270,7 @@ fn flatten_branch(
     t: &Source,
     list: &mut [u32],
     body: &mut [u32],
-    bodies: &mut [u32],
-    seen: &[u32],
+    bodies: &mut Bodies,
     i: usize,
     condition: u32,
     then_first: usize,
@@ -278,21 +280,20 @@ fn flatten_branch(
     at: Around,
     p: Progress,
 ) -> Result<Progress, Refusal>
-    requires start { Start (length body.old) at.depth at.ctx p.n p.m p.left }
+    requires start { Start (length body.old) at.depth at.ctx p.n bodies.old.count p.left }
     requires i_in_bounds { (i < length t.now.acts.now / 8) × (p.n < 256) × Behind (length t.now.acts.now / 8) i then_first then_count × Behind (length t.now.acts.now / 8) i else_first else_count }
-    ensures { ActOut (form_at t.now.acts.now t.now.blocks.now at.depth i (Conditional condition then_first then_count else_first else_count) at.ctx p.n p.m) p.n p.m p.left p.same seen.now list.old bodies.old list.new bodies.new result }
+    ensures out { ActOut (form_at t.now.acts.now t.now.blocks.now at.depth i (Conditional condition then_first then_count else_first else_count) at.ctx p.n bodies.old.count) p.n bodies.old.count p.left bodies.old.same bodies.old.seen.now list.old bodies.old.words.now list.new bodies.new.words.now (told bodies.new.count bodies.new.same result) }
+    ensures same_reference { bodies.new.words.ghost_name ≡ bodies.old.words.ghost_name }
+    ensures same_seen { bodies.new.seen.now ≡ bodies.old.seen.now }
+    ensures same_length { length bodies.new.words.now ≡ length bodies.old.words.now }
 {
     if at.ctx.in_conditional {
         return Ok(one_step(list, p, Step::Fail));
     }
     let inner = at.within_conditional();
     let region = Progress { n: p.n + 1, ..p };
-    let q = flatten_list(
-        t, list, body, bodies, seen, then_first, then_count, inner, region,
-    )?;
-    let r = flatten_list(
-        t, list, body, bodies, seen, else_first, else_count, inner, q,
-    )?;
+    let q = flatten_list(t, list, body, bodies, then_first, then_count, inner, region)?;
+    let r = flatten_list(t, list, body, bodies, else_first, else_count, inner, q)?;
     let step = Step::Branch(condition, (q.n - p.n - 1) as u32, (r.n - q.n) as u32);
     put(list, p.n, step);
     Ok(r)

@@ -31,6 +31,33 @@ pub struct Source<'a> {
     ghost calls_len: { length acts.now / 8 ≤ length calls.now },
 }
 
+// What flattening a rule makes: how many steps its list has and how many its bodies, how many more actions may be taken, and whether all
+// so far are those to be compared.
+#[derive(Clone, Copy)]
+pub struct Done {
+    pub n: usize,
+    pub m: usize,
+    pub left: usize,
+    pub same: bool,
+}
+
+// What flattening all rules makes: how many steps, and whether they are those to be compared.
+#[derive(Clone, Copy)]
+pub struct Made {
+    pub size: usize,
+    pub same: bool,
+}
+
+// The kinds of steps, as the first word of a row has them.
+#[derive(Clone, Copy)]
+pub enum StepKind {
+    Primitive = 0,
+    Wait = 1,
+    Branch = 2,
+    After = 3,
+    Fail = 4,
+}
+
 // Where actions stand: the calls left, and what is around them.
 #[derive(Clone, Copy)]
 pub struct Around {
@@ -38,12 +65,19 @@ pub struct Around {
     pub ctx: FlattenCtx,
 }
 
-// How far flattening is: how many steps the list has and how many the bodies, how many more actions may be taken, and whether the bodies so
-// far are those to be compared.
+// How far flattening is: how many steps the list has, and how many more actions may be taken.
 #[derive(Clone, Copy)]
 pub struct Progress {
     pub n: usize,
-    pub m: usize,
     pub left: usize,
+}
+
+// The bodies of a rule's afters: the words that they are written into, those that they are compared with, how many steps they are, and
+// whether they are so far those to be compared.
+#[derive(Drop)]
+pub struct Bodies<'a> {
+    pub words: &'a mut [u32],
+    pub seen: &'a [u32],
+    pub count: usize,
     pub same: bool,
 }

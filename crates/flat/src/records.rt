@@ -58,8 +58,9 @@ pub fn read_action(acts: &[u32], i: usize) -> FlowAction
 }
 
 // Which block has this name: 0 for none, k + 1 for block k. "Of two blocks of one name the first counts."
-// kept: a number, and no Option, as 512 of them stand on the stack: an Option<u16> takes twice the room. That there are few blocks is asked here and by
-// its two callers, before there is a `Source`: it is made of what they find.
+// kept: a number, and no Option, as 512 of them stand on the stack: an Option<u16> takes twice the room, so 1,024 bytes more in each call that flattens, of
+// which `run` takes 24,024 where the limit is 24,576. That there are few blocks is asked here and by its two callers, before there is a `Source`: it is
+// made of what they find.
 fn find_block(blocks: &[u32], name: u32) -> u16
     requires { length blocks.now ≤ 4096 }
     ensures result_value { block_at blocks.now result ≡ block_named [] blocks.now name }

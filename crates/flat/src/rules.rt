@@ -8,7 +8,7 @@ ghost use Rattle.flat.specs.Load.{RuleOut, EachOut, rule_at, Checked, Loading, S
 use crate::cycle::flatten_list;
 use crate::records::find_calls;
 use crate::steps::{append_steps, clear, place};
-use crate::{Around, Progress, Source};
+use crate::{Around, Bodies, Done, Made, Progress, Source};
 use model::{FlattenCtx, Refusal};
 
 // The row of list k: where it begins, and how many steps it has; written if there is room.
@@ -41,7 +41,7 @@ fn flatten_rule(
     k: usize,
     left: usize,
     same: bool,
-) -> Result<Progress, Refusal>
+) -> Result<Done, Refusal>
     requires in_bounds { (1072 ≤ length own.old) × (1072 ≤ length body.old) × (k < length t.now.rules.now / 16) × (left ≤ 65536) }
     ensures { RuleOut (rule_at t.now.acts.now t.now.blocks.now t.now.rules.now t.now.depth t.now.limit k) left same seen.now words.new result }
 {
@@ -56,15 +56,21 @@ fn flatten_rule(
             in_after: false,
         },
     };
-    let p = Progress {
-        n: 0,
-        m: 0,
-        left,
+    let mut bodies = Bodies {
+        words,
+        seen,
+        count: 0,
         same,
     };
-    let q = flatten_list(t, own, body, words, seen, first, count, at, p)?;
-    let agrees = append_steps(words, seen, q.m, &own[..q.n * 4], q.same);
-    Ok(Progress { same: agrees, ..q })
+    let p = Progress { n: 0, left };
+    let q = flatten_list(t, own, body, &mut bodies, first, count, at, p)?;
+    append_steps(&mut bodies, &own[..q.n * 4]);
+    Ok(Done {
+        n: q.n,
+        m: bodies.count,
+        left: q.left,
+        same: bodies.same,
+    })
 }
 
 // The parts of all rules, one behind the other in `words`, and their rows in `lists`.
@@ -77,7 +83,7 @@ fn flatten_each(
     words: &mut [u32],
     lists: &mut [u32],
     seen: &[u32],
-) -> Result<(usize, bool), Refusal>
+) -> Result<Made, Refusal>
     requires in_bounds { (1072 ≤ length own.old) × (1072 ≤ length body.old) × (length words.old ≤ 8192) × (length seen.now ≤ 8192) }
     ensures { EachOut (flatten_tables t.now.acts.now t.now.blocks.now t.now.rules.now t.now.depth t.now.limit) seen.now words.new lists.new result }
 {
@@ -105,7 +111,7 @@ fn flatten_each(
     if 2048 < size {
         return Err(Refusal::FlatSteps);
     }
-    Ok((size, same))
+    Ok(Made { size, same })
 }
 
 // The flat part of the set of these tables: its steps in `words`, the rows of its lists in `lists`, and 0 behind each.
@@ -114,18 +120,18 @@ fn flatten_tables(
     words: &mut [u32],
     lists: &mut [u32],
     seen: &[u32],
-) -> Result<(usize, bool), Refusal>
+) -> Result<Made, Refusal>
     requires words_len_bound { (length words.old ≤ 8192) × (length seen.now ≤ 8192) }
     ensures { Loading (flatten_tables t.now.acts.now t.now.blocks.now t.now.rules.now t.now.depth t.now.limit) seen.now words.new lists.new result }
 {
     let mut own = [0u32; 1072];
     let mut body = [0u32; 1072];
-    let (size, same) = flatten_each(t, &mut own, &mut body, words, lists, seen)?;
-    let end = place(size, words.len());
+    let made = flatten_each(t, &mut own, &mut body, words, lists, seen)?;
+    let end = place(made.size, words.len());
     clear(words, end);
     let last = rows_end(t.rules.len() / 16, lists.len());
     clear(lists, last);
-    Ok((size, same))
+    Ok(made)
 }
 
 // Word j of the trailer.
@@ -163,7 +169,7 @@ fn flatten_image(
     words: &mut [u32],
     lists: &mut [u32],
     seen: &[u32],
-) -> Result<(usize, bool), Refusal>
+) -> Result<Made, Refusal>
     requires checked { Checked image.now }
     requires words_len_bound { (length words.old ≤ 8192) × (length seen.now ≤ 8192) }
     ensures { Loading (flatten_rules image.now) seen.now words.new lists.new result }
@@ -192,8 +198,8 @@ pub fn flatten_rules(image: &[u32], words: &mut [u32], lists: &mut [u32]) -> Res
     ensures stored { Stored (flatten_rules image.now) words.new lists.new result }
 {
     let end = image.len();
-    let (n, _) = flatten_image(image, words, lists, &image[end..])?;
-    Ok(n)
+    let made = flatten_image(image, words, lists, &image[end..])?;
+    Ok(made.size)
 }
 
 // Whether the words of a store's flat part, the rows of its lists and its steps, are the flat form of its image. The steps are compared
@@ -206,8 +212,8 @@ pub fn same_flat(image: &[u32], lists: &[u32], steps: &[u32]) -> bool
 {
     let mut none = [0u32; 1];
     let mut rows = [0u32; 128];
-    let Ok((n, same)) = flatten_image(image, &mut none, &mut rows, steps) else {
+    let Ok(Made { size, same }) = flatten_image(image, &mut none, &mut rows, steps) else {
         return false;
     };
-    same && n * 4 == steps.len() && lists == rows.as_slice()
+    same && size * 4 == steps.len() && lists == rows.as_slice()
 }

@@ -2,6 +2,7 @@ pub mod Lists
 pub mod Arith
 pub mod Field
 pub mod Refusals
+pub mod Kinds
 pub mod Rows
 pub mod Image
 pub mod Rules

@@ -5,6 +5,7 @@
 #![tactic(auto)]
 
 ghost use Rattle.std.specs.Prelude.{◌≡◌};
+ghost use Rattle.model.specs.Kinds.{trigger_number};
 ghost use Rattle.model.specs.Refusals.{refusal_code, refusal_number};
 
 #[derive(Clone, Copy)]
@@ -447,6 +448,43 @@ pub struct Pending {
     pub trigger: u32,
     pub seq: u64,
     pub number: u64,
+}
+
+// The kinds of effects: document 01, "Outcomes and effects".
+#[derive(Clone, Copy)]
+pub enum EffectKind {
+    Light = 0,
+    SceneRecall = 1,
+    SceneApply = 2,
+    HclResume = 3,
+    HclHold = 4,
+    HclSchedule = 5,
+    InputFeedback = 6,
+    PanelSelect = 7,
+    CancelHold = 8,
+    CatchMovement = 9,
+    MqttPublish = 10,
+    Log = 11,
+    Level = 12,
+}
+
+// What started the rule of an outcome: document 01, "Outcomes and effects".
+#[derive(Clone, Copy)]
+pub enum TriggerKind {
+    HttpTrigger = 0,
+    TimerFires = 1,
+    Every = 2,
+    AtTime = 3,
+    AtSolar = 4,
+}
+
+// What an outcome says.
+impl From<TriggerKind> for u32 {
+    ghost from_gives = { λ kind number. number ≡ trigger_number kind };
+
+    fn from(kind: TriggerKind) -> u32 {
+        kind as u32
+    }
 }
 
 // Kind 0 to 11 in `Effect` order, 12 a level, and four words of fields: document 01, "Outcomes and effects".

@@ -2,7 +2,7 @@
 // the least of them: no minute is asked for by itself.
 #![tactic(auto)]
 
-ghost use Rattle.std.specs.Prelude.{◌≡◌, map, ◌+◌, ◌*◌, ◌%◌, ◌<◌, ◌≤◌, min, eqb};
+ghost use Rattle.std.specs.Prelude.{◌≡◌, map, ◌+◌, ◌*◌, ◌%◌, ◌<◌, ◌≤◌, eqb};
 ghost use Rattle.words.specs.Saturating.{max32};
 ghost use Rattle.model.specs.Arith.{has_day};
 ghost use Rattle.model.specs.Image.{size_of};
@@ -27,8 +27,8 @@ pub enum NextStart {
     Start(u32, u32),
 }
 
-// The least minutes so far, and the lowest name of a rule that starts then.
-#[derive(Clone, Copy)]
+// The least minutes so far, and the lowest name of a rule that starts then. The order is by the minutes, and then by the name.
+#[derive(Clone, Copy, PartialEq, Eq, PartialOrd, Ord)]
 struct Best {
     minutes: u32,
     name: u32,
@@ -52,26 +52,11 @@ const WEEK: u32 = 10080;
 // kept: the specification's `first_from` answers it where no minute passes, so that the least of two needs no case.
 const NEVER: u32 = 10081;
 
-fn least(a: u32, b: u32) -> u32
-    ensures { result ≡ min a b }
-{
-    if a < b { a } else { b }
-}
-
 // The earlier of two starts, and of two in one minute the one of the lower name.
 fn earlier(minutes: u32, name: u32, best: Best) -> Best
     ensures { result ≡ better minutes name best }
 {
-    if minutes < best.minutes {
-        return Best { minutes, name };
-    }
-    if best.minutes < minutes {
-        return best;
-    }
-    Best {
-        minutes,
-        name: least(name, best.name),
-    }
+    Best { minutes, name }.min(best)
 }
 
 impl Asked<'_> {
@@ -105,7 +90,7 @@ impl Asked<'_> {
     {
         let mut best = NEVER;
         for day in (0..7).rev() {
-            best = least(self.day_minutes(days, minute, day), best);
+            best = self.day_minutes(days, minute, day).min(best);
         }
         best
     }
@@ -143,7 +128,7 @@ impl Asked<'_> {
         }
         let mut best = NEVER;
         for k in (0..self.image.trigger_count(i)).rev() {
-            best = least(self.trigger_minutes(self.image.trigger_at(i, k)), best);
+            best = self.trigger_minutes(self.image.trigger_at(i, k)).min(best);
         }
         best
     }

@@ -193,7 +193,7 @@ impl Param {
     {
         match self {
             Param::Time => u64::MAX,
-            Param::Rule | Param::WordCount | Param::Word | Param::Sunday => 4294967295,
+            Param::Rule | Param::WordCount | Param::Word | Param::Sunday => u32::MAX as u64,
             Param::Mark | Param::DryMark => 1,
             Param::OutcomeWords => 24576,
             Param::EffectWords => 327680,

@@ -41,7 +41,7 @@ fn numbers(text: &[u8], call: Call) -> Result<([u64; 4], &[u8]), Wrong>
 fn item(word: &[u8], call: Call, n: usize) -> Result<u32, Wrong>
     ensures { result ≡ word_number call n (argument_of max32 word.now) }
 {
-    match decimal::read(word, 4294967295) {
+    match decimal::read(word, u32::MAX as u64) {
         Ok(v) => Ok(v as u32),
         Err(NotANumber::NoNumber) => Err(Wrong::WordNotDecimal { call, word: n }),
         Err(NotANumber::TooLarge) => Err(Wrong::WordOutOfRange { call, word: n }),

@@ -1,17 +1,17 @@
 -- Words that are 0 are those of a state in which nothing is kept. Assumes nothing.
-use mathlib.Core.Path.{◌≡◌, refl, ap}
+use mathlib.Core.Path.{◌≡◌, refl}
 use mathlib.Core.Logic.{inl}
 use mathlib.Core.Bool.{Bool, true, false, ◌&&◌, false≢true}
 use mathlib.Core.List.{List, [], ◌∷◌}
 use Prim.Native.Nat.{ℕ, zero, suc, ◌<◌}
 use native.Mathlib.Omega.{arith}
-use lib.ListN.{length, get_or, replicate, drop}
+use lib.ListN.{length, get_or, replicate}
 use Rattle.model.specs.Layout.{Part, fixed, part_fits, row_fits, rows_fit, zeros}
 use Rattle.model.specs.Codec.{rows_at}
 use Rattle.model.proofs.Bools.{both}
 use Rattle.words.specs.Pairs.{joined}
 use Rattle.state.specs.Cuts.{cut}
-use Rattle.state.specs.Meaning.{state_parts, part_sizes, state_words, SoundOf, Sound}
+use Rattle.state.specs.Meaning.{state_parts, part_sizes, state_words, Sound}
 
 abbrev fits_all : List Part → List (List ℕ) → Bool
 fits_all [] ps = true

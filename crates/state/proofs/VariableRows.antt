@@ -139,6 +139,10 @@ module _ (name : ℕ) where
       says (y ∷ l) zero d b = refl
       says (y ∷ l) (suc i) d b = says l i d (omega arith)
 
+  pub variable-absent : (w : List ℕ) → Finds (variable_has_name name) (meaning w).rest.vars None → None ≡ var_named (meaning w).rest name
+  unfolding var_named
+  variable-absent w f = sym (ap value_in (not_found (variable_has_name name) (meaning w).rest.vars _ f (omega arith)))
+
   module _ (w : List ℕ) (s : Sound w) where
     abbrev rows : List R
     rows = (most 16 variable_row).get (part variables_part w)
@@ -204,14 +208,10 @@ module _ (name : ℕ) where
           let g : get_or (meaning w).rest.vars i d ≡ variable_of (get_or rows i (0, (0, 0))) = ap (λ (l : List Variable). get_or l i d) variables-are ∙ get_or-map variable_of rows i (0, (0, 0)) in
           sym (ap value_in (found (variable_has_name name) (meaning w).rest.vars i finds.0 d finds.1 ∙ ap (λ (y : Variable). Some y) (g ∙ sym q)))
 
-    pub variable-absent : Finds (variable_has_name name) (meaning w).rest.vars None → None ≡ var_named (meaning w).rest name
-    unfolding var_named
-    variable-absent f = sym (ap value_in (not_found (variable_has_name name) (meaning w).rest.vars _ f (omega arith)))
-
     -- whether there is one, and no room for another
     pub lacks : (i : Option ℕ) (none : Bool) → is_some i ≡ not none → Finds (variable_has_name name) (meaning w).rest.vars i → none && leb 16 (get_or w (place_of variables_part) 0) ≡ lacks_room name (meaning w)
     unfolding lacks_room var_named
-    lacks None true e f = rw (← variable-absent f, variables-count) refl
+    lacks None true e f = rw (← variable-absent w f, variables-count) refl
     lacks None false e f = let z : ◌≡◌ {A = ℕ} 0 1 = cc in absurd (omega arith)
     lacks (Some i) false e f = rw (found (variable_has_name name) (meaning w).rest.vars i f.0 (variable_of (0, (0, 0))) f.1) refl
     lacks (Some i) true e f = let z : ◌≡◌ {A = ℕ} 0 1 = cc in absurd (omega arith)

@@ -12,7 +12,7 @@ use rows::put::clear;
 use rows::row::{Row, option_at, put_option};
 
 // How many rules there are.
-// kept: `Sound` is asked where a function takes the words of a state that is open: this, `kept`, `put_kept`, and those of the timers, variables and records.
+// kept: `Sound` is asked where a function takes the words of a state that is open: this, `put_kept`, and those of the timers, variables and records.
 fn rule_count(v: &[u32]) -> usize
     requires { Sound v.now }
     ensures { (result ≡ rules_of v.now) × (result ≤ 64) }
@@ -49,12 +49,12 @@ pub fn set_enabled(v: &mut State, rule: u32, i: usize, on: bool)
 }
 
 // What the part at `part`, which has an option for each rule, says of rule i.
-fn kept<T: Row>(v: &[u32], part: usize, i: usize) -> Option<T>
-    requires { Sound v.now × (part ≤ 16384) }
-    ensures { result ≡ kept_for T.codec T.WORDS v.now part i }
+fn kept<T: Row>(v: &State, part: usize, i: usize) -> Option<T>
+    requires { part ≤ 16384 }
+    ensures { (result ≡ kept_for T.codec T.WORDS v.now part i) × Sound v.now }
 {
-    if i < rule_count(v) {
-        return option_at(v, part + i * (1 + T::WORDS));
+    if i < rule_count(&v.words) {
+        return option_at(&v.words, part + i * (1 + T::WORDS));
     }
     None
 }
@@ -72,7 +72,7 @@ fn put_kept<T: Row>(v: &mut [u32], part: usize, i: usize, x: Option<T>)
 pub fn last_activation(v: &State, i: usize) -> Option<u64>
     ensures { result ≡ last_activation_at (meaning v.now).rest i }
 {
-    kept(&v.words, place::ACTIVATIONS, i)
+    kept(v, place::ACTIVATIONS, i)
 }
 
 // What is kept of rule i's last activation.
@@ -91,7 +91,7 @@ pub fn set_last_activation(v: &mut State, i: usize, time: u64)
 pub fn cycle_pos(v: &State, i: usize) -> Option<u32>
     ensures { result ≡ cycle_pos_at (meaning v.now).rest i }
 {
-    kept(&v.words, place::POSITIONS, i)
+    kept(v, place::POSITIONS, i)
 }
 
 // What is kept of rule i's cycle position.

@@ -8,17 +8,16 @@ use crate::{State, place};
 use rows::PENDING_WORDS;
 use rows::row::Row;
 
-const MAX_U64: u64 = 0xFFFF_FFFF_FFFF_FFFF;
-
 // Whether the next number is at most 2^64 - 1: where it is not, the call is refused with 31.
 pub fn next_fits(v: &State) -> bool
     ensures { result ≡ leb (meaning v.now).next max64 }
 {
     let next = u64::at(&v.words, place::NEXT);
-    u64::at(&v.words, place::ACCEPTED) <= MAX_U64 - next
+    u64::at(&v.words, place::ACCEPTED) <= u64::MAX - next
 }
 
 // Each record behind the stored ones gets the number at its offset.
+// kept: not one map with `slots::move_all`: the sum fits only for offsets that stand in these rows, and a closure has to promise it for any.
 fn number_all(t: &mut [u32], stored: usize, next: u64, accepted: u64)
     requires { Counted 32 pending_row t.old × (stored ≤ get_or t.old 0 0) × (next + accepted ≤ max64) × Below accepted (drop stored ((most 32 pending_row).get t.old)) }
     ensures { Holds 32 pending_row t.new (numbered next stored ((most 32 pending_row).get t.old)) }

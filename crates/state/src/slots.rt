@@ -20,11 +20,12 @@ use rows::tables::table_at;
 pub const DUE: usize = 3;
 
 // A due slot is due again a period from now.
+#[tactic(auto, unfolding(words::specs::Saturating::saturating_add))]
 fn move_on(x: EverySlot, time: u64) -> EverySlot
     ensures { result ≡ moved time x }
 {
     if x.due <= time {
-        let due = words::saturating_add_u64(time, x.period as u64);
+        let due = time.saturating_add(x.period as u64);
         EverySlot { due, ..x }
     } else {
         x

@@ -8,7 +8,8 @@ use rows::put::clear;
 use rows::row::Row;
 
 // Row i.
-// kept: `Fits` is of the words of one table, lent from a state that is open, and rows move in them before the count is written: no value of a type stands between.
+// kept: `Fits` would be asked where a view of it is made: at six callers, one of them `close_up` at each turn, since rows move in the words
+// before the count is written. Five functions ask it here.
 fn row_of(t: &[u32], width: usize, i: usize) -> &[u32]
     requires { Fits width t.now × (i < get_or t.now 0 0) }
     ensures is { result.now ≡ get_or (rows_in width t.now) i [] }

@@ -18,12 +18,11 @@ use rows::row::Row;
 const NAME: usize = 0;
 
 // The place of the variable of a name.
-fn place_of(v: &[u32], name: u32) -> Option<usize>
-    requires { Sound v.now }
+fn place_of(v: &State, name: u32) -> Option<usize>
     ensures { Finds (variable_has_name name) (meaning v.now).rest.vars result }
 {
     table::first_with(
-        &v[place::VARIABLES..place::TIMERS],
+        &v.words[place::VARIABLES..place::TIMERS],
         VARIABLE_WORDS,
         NAME,
         name,
@@ -34,7 +33,7 @@ fn place_of(v: &[u32], name: u32) -> Option<usize>
 pub fn variable(v: &State, name: u32) -> Option<VarValue>
     ensures { result ≡ var_named (meaning v.now).rest name }
 {
-    let i = place_of(&v.words, name)?;
+    let i = place_of(v, name)?;
     let x = Variable::at(&v.words, place::VARIABLES + 1 + i * VARIABLE_WORDS);
     Some(x.value)
 }
@@ -43,7 +42,7 @@ pub fn variable(v: &State, name: u32) -> Option<VarValue>
 pub fn lacks_room(v: &State, name: u32) -> bool
     ensures { result ≡ lacks_room name (meaning v.now) }
 {
-    place_of(&v.words, name).is_none() && MAX_VARIABLES <= v.words[place::VARIABLES] as usize
+    place_of(v, name).is_none() && MAX_VARIABLES <= v.words[place::VARIABLES] as usize
 }
 
 // The variable of the name holds the value; a new one goes behind the others, where there is room.

@@ -7,7 +7,7 @@ ghost use Rattle.telegrams.specs.Recursion.{is_set, set_again, kept_head, keep_l
 ghost use Rattle.lent_words.specs.PutEffects.{put_effects};
 
 use lent_words::EFFECT_WORDS;
-use model::{Effect, Refusal};
+use model::{Effect, EffectKind, Refusal};
 
 // Record k.
 #[tactic(auto, unfolding(model::specs::Telegrams::effect_at))]
@@ -31,21 +31,22 @@ fn are_effects(effects: &[u32]) -> bool
     ensures { result ≡ are_effects effects.now }
 {
     effects.len() % EFFECT_WORDS == 0
-        && (0..effects.len() / EFFECT_WORDS).all(|k| effect_at(effects, k).kind <= 12)
+        && (0..effects.len() / EFFECT_WORDS).all(|k| effect_at(effects, k).kind
+            <= EffectKind::Level as u32)
 }
 
 #[tactic(auto, unfolding(model::specs::Telegrams::cuts))]
 fn cuts(x: Effect) -> bool
     ensures { result ≡ cuts x }
 {
-    x.kind < 11
+    x.kind < EffectKind::Log as u32
 }
 
 #[tactic(auto, unfolding(model::specs::Telegrams::is_level))]
 fn is_level(x: Effect) -> bool
     ensures { result ≡ is_level x }
 {
-    x.kind == 12
+    x.kind == EffectKind::Level as u32
 }
 
 // Whether an effect sets the lamp.

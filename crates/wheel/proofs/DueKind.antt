@@ -12,11 +12,14 @@ use Rattle.model.specs.Eval.{solar_of}
 use Rattle.model.specs.State.{Env}
 use Rattle.model.specs.Wheel as model
 use Rattle.model.specs.Wheel.{by_time, by_solar, minute_due, solar_due, without_sun, due_wall_kind}
+use Rattle.model.specs.Kinds.{trigger_number}
+use Rattle.model.specs.declared.TriggerKind.{TriggerKind}
+use Rattle.model.specs.declared.TriggerKind.TheVariants as by
 use Rattle.model.specs.declared.Trigger.{Trigger}
 use Rattle.model.specs.declared.Trigger.TheVariants.{TimerFires, Every, AtTime, AtSolar, Other}
 use Rattle.model.proofs.Bools.{or-true, or-false}
 use Rattle.model.specs.declared.SunTimes.{SunTimes}
-use Rattle.wheel.specs.Wall.{kind_if, wall_kind, missed_too}
+use Rattle.wheel.specs.Wall.{kind_if, no_kind, number_if, wall_kind, missed_too}
 use Rattle.wheel.specs.declared.wall.WallKind.{WallKind}
 
 or_assoc : (a b c : Bool) → a || (b || c) ≡ (a || b) || c
@@ -33,41 +36,46 @@ time_kind due kind rest = elim due [ true ↦ record { kind = Some kind; unsynce
 abbrev solar_kind : Option Bool → model.WallKind → model.WallKind
 solar_kind o rest = elim o [ None ↦ without_sun rest | Some due ↦ time_kind due by_solar rest ]
 
+-- there is a number where there is a kind
+number-some : (o : Option TriggerKind) → is_some (number_if o) ≡ is_some o
+number-some None = refl
+number-some (Some kind) = refl
+
 -- ONE TRIGGER -------------------------------------------------------------------------------------------------------------------------------
-due-or-not : (b missed : Bool) (kind : ℕ) → wall_kind (kind_if b kind missed) ≡ missed_too missed (time_kind b kind nothing)
+due-or-not : (b missed : Bool) (kind : TriggerKind) → wall_kind (kind_if b kind missed) ≡ missed_too missed (time_kind b (trigger_number kind) nothing)
 due-or-not true missed kind = rw or-false
 due-or-not false missed kind = rw or-false
 
 module _ (e : Env) (base window : ℕ) (missed : Bool) where
-  pub at-time : (h m days : ℕ) {b : Bool} → b ≡ minute_due base window days (h * 60 + m) → wall_kind (kind_if b by_time missed) ≡ missed_too missed (due_wall_kind e base window (AtTime h m days ∷ []))
+  pub at-time : (h m days : ℕ) {b : Bool} → b ≡ minute_due base window days (h * 60 + m) → wall_kind (kind_if b by.AtTime missed) ≡ missed_too missed (due_wall_kind e base window (AtTime h m days ∷ []))
   unfolding due_wall_kind
-  at-time h m days is = ap (λ (b : Bool). wall_kind (kind_if b by_time missed)) is ∙ due-or-not (minute_due base window days (h * 60 + m)) missed by_time
+  at-time h m days is = ap (λ (b : Bool). wall_kind (kind_if b by.AtTime missed)) is ∙ due-or-not (minute_due base window days (h * 60 + m)) missed by.AtTime
 
   sun-due : (event offset : ℕ) {sun : SunTimes} {b : Bool} → e.world.sun ≡ Some sun → b ≡ minute_due base window 127 (solar_of sun event offset) → solar_due e base window event offset ≡ Some b
   unfolding solar_due
   sun-due event offset h is = rw h (ap Some (sym is))
 
-  pub at-sun : (event offset : ℕ) {sun : SunTimes} {b : Bool} → e.world.sun ≡ Some sun → b ≡ minute_due base window 127 (solar_of sun event offset) → wall_kind (kind_if b by_solar missed) ≡ missed_too missed (due_wall_kind e base window (AtSolar event offset ∷ []))
+  pub at-sun : (event offset : ℕ) {sun : SunTimes} {b : Bool} → e.world.sun ≡ Some sun → b ≡ minute_due base window 127 (solar_of sun event offset) → wall_kind (kind_if b by.AtSolar missed) ≡ missed_too missed (due_wall_kind e base window (AtSolar event offset ∷ []))
   unfolding due_wall_kind
-  at-sun event offset {b = b} h is = due-or-not b missed by_solar ∙ ap (λ (o : Option Bool). missed_too missed (solar_kind o nothing)) (sym (sun-due event offset h is))
+  at-sun event offset {b = b} h is = due-or-not b missed by.AtSolar ∙ ap (λ (o : Option Bool). missed_too missed (solar_kind o nothing)) (sym (sun-due event offset h is))
 
   without : (event offset : ℕ) → e.world.sun ≡ None → solar_due e base window event offset ≡ None
   unfolding solar_due
   without event offset h = rw h
 
-  pub no-sun : (event offset : ℕ) → e.world.sun ≡ None → wall_kind (kind_if false 0 true) ≡ missed_too missed (due_wall_kind e base window (AtSolar event offset ∷ []))
+  pub no-sun : (event offset : ℕ) → e.world.sun ≡ None → wall_kind (no_kind true) ≡ missed_too missed (due_wall_kind e base window (AtSolar event offset ∷ []))
   unfolding due_wall_kind
-  no-sun event offset h = (let z : wall_kind (kind_if false 0 true) ≡ missed_too missed (without_sun nothing) = rw (or-true missed) in z) ∙ ap (λ (o : Option Bool). missed_too missed (solar_kind o nothing)) (sym (without event offset h))
+  no-sun event offset h = (let z : wall_kind (no_kind true) ≡ missed_too missed (without_sun nothing) = rw (or-true missed) in z) ∙ ap (λ (o : Option Bool). missed_too missed (solar_kind o nothing)) (sym (without event offset h))
 
-  pub no-timer : (x : ℕ) → wall_kind (kind_if false 0 missed) ≡ missed_too missed (due_wall_kind e base window (TimerFires x ∷ []))
+  pub no-timer : (x : ℕ) → wall_kind (no_kind missed) ≡ missed_too missed (due_wall_kind e base window (TimerFires x ∷ []))
   unfolding due_wall_kind
   no-timer x = rw (or-false missed)
 
-  pub no_slot : (ms : ℕ) → wall_kind (kind_if false 0 missed) ≡ missed_too missed (due_wall_kind e base window (Every ms ∷ []))
+  pub no_slot : (ms : ℕ) → wall_kind (no_kind missed) ≡ missed_too missed (due_wall_kind e base window (Every ms ∷ []))
   unfolding due_wall_kind
   no_slot ms = rw (or-false missed)
 
-  pub no_other : wall_kind (kind_if false 0 missed) ≡ missed_too missed (due_wall_kind e base window (Other ∷ []))
+  pub no_other : wall_kind (no_kind missed) ≡ missed_too missed (due_wall_kind e base window (Other ∷ []))
   unfolding due_wall_kind
   no_other = rw (or-false missed)
 
@@ -117,7 +125,7 @@ module _ (e : Env) (base window : ℕ) where
 
     -- a turn, by what trigger k gives
     module _ (missed now : Bool) (k : ℕ) {t : Trigger} (r : WallKind) (l : k < length ts) (inv : Left missed k now) (here : t ≡ get_or ts k Other) (is : wall_kind r ≡ missed_too now (one t)) where
-      kind-is : r.kind ≡ (one t).kind
+      kind-is : number_if r.kind ≡ (one t).kind
       kind-is = ap (λ (w : model.WallKind). w.kind) is
 
       rest : model.WallKind
@@ -130,12 +138,12 @@ module _ (e : Env) (base window : ℕ) where
           ap (missed_too now) (sym (first_then t (drop (k + 1) ts))) ∙ ap (λ (l : List Trigger). missed_too now (due_wall_kind e base window l)) (sym eq) ∙ inv
 
       pub ends-here : is_some r.kind ≡ true → wall_kind r ≡ missed_too missed (due_wall_kind e base window ts)
-      ends-here h = is ∙ ap (missed_too now) (sym (chosen (one t).kind (one t) rest (rw kind-is at h))) ∙ turn
+      ends-here h = is ∙ ap (missed_too now) (sym (chosen (one t).kind (one t) rest (rw kind-is at (number-some r.kind ∙ h)))) ∙ turn
 
       pub goes : is_some r.kind ≡ false → Left missed (k + 1) r.unsynced
       unfolding Left rest
-      goes h = passed now r.unsynced (one t).kind (one t) rest (rw kind-is at h) (ap (λ (w : model.WallKind). w.unsynced) is) ∙ turn
+      goes h = passed now r.unsynced (one t).kind (one t) rest (rw kind-is at (number-some r.kind ∙ h)) (ap (λ (w : model.WallKind). w.unsynced) is) ∙ turn
 
-    pub ends : (missed now : Bool) (k : ℕ) → length ts ≤ k → Left missed k now → wall_kind (kind_if false 0 now) ≡ missed_too missed (due_wall_kind e base window ts)
+    pub ends : (missed now : Bool) (k : ℕ) → length ts ≤ k → Left missed k now → wall_kind (no_kind now) ≡ missed_too missed (due_wall_kind e base window ts)
     unfolding Left due_wall_kind
-    ends missed now k h inv = (let z : wall_kind (kind_if false 0 now) ≡ missed_too now nothing = rw (or-false now) in z) ∙ rw (drop_of_length-le ts {i = k} h) at inv
+    ends missed now k h inv = (let z : wall_kind (no_kind now) ≡ missed_too now nothing = rw (or-false now) in z) ∙ rw (drop_of_length-le ts {i = k} h) at inv

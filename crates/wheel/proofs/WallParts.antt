@@ -22,7 +22,7 @@ use Rattle.activate.specs.declared.Handled.{Handled}
 use Rattle.activate.proofs.Continues.{with_vol}
 use Rattle.wheel.specs.Tick.{tick_env, Fires, turn_handled, count_missed, remembering, without_wall}
 use Rattle.wheel.specs.Turns.{Turns}
-use Rattle.wheel.specs.Wall.{wall_kind, missed_too, Kind}
+use Rattle.wheel.specs.Wall.{number_if, wall_kind, missed_too, Kind}
 use Rattle.wheel.specs.declared.wall.WallKind.{WallKind}
 use Rattle.wheel.proofs.Fires.{same-part, more-part, skips, changed, after-change, room_after}
 use Rattle.wheel.proofs.WallTurns.{turn-off, missed-off, turn_on, missed-on}
@@ -55,12 +55,12 @@ module _ (snapshot image : List ℕ) (from window i : ℕ) (missed : Bool) (v : 
   due-here w k = k image (set_of image (flatten_rules image)).flat
 
   pub takes-turn : (w : WallKind) {ow ew u : List ℕ} (r : Handled) {ow' ew' : List ℕ} → not on ≡ false → Kind snapshot from window missed (triggers_of image i) w
-      → Fires 1 (start_wall w.kind env i) (carried v x) ow ew (carried u r) ow' ew' → Turns env from window i missed (carried v x) ow ew u (record { handled = r; missed = w.unsynced }) ow' ew'
+      → Fires 1 (start_wall (number_if w.kind) env i) (carried v x) ow ew (carried u r) ow' ew' → Turns env from window i missed (carried v x) ow ew u (record { handled = r; missed = w.unsynced }) ow' ew'
   takes-turn w r h k f =
       let d = due-here w k in
       let m = meaning v in
       record {
-        fires = same-part 1 (start_wall w.kind env i) (turn_handled env from window i) (turn_on env from window i missed m is h ∙ ap (λ (o : Option ℕ). start_wall o env i m) (sym (ap (λ (y : wheel.WallKind). y.kind) d))) f;
+        fires = same-part 1 (start_wall (number_if w.kind) env i) (turn_handled env from window i) (turn_on env from window i missed m is h ∙ ap (λ (o : Option ℕ). start_wall o env i m) (sym (ap (λ (y : wheel.WallKind). y.kind) d))) f;
         missed = ap (λ (y : wheel.WallKind). y.unsynced) d ∙ sym (missed-on env from window i missed m is h);
       }
 

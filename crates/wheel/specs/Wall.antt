@@ -1,7 +1,8 @@
 -- Which wall trigger of a rule is due.
 use Rattle.std.specs.Prelude.{ℕ, ◌+◌, ◌*◌, ◌≡◌, Bool, cond, ◌&&◌, ◌||◌, List}
-use Rattle.std.specs.Prelude.{None, Some}
+use Rattle.std.specs.Prelude.{Option, None, Some}
 use Rattle.model.specs.Arith.{has_day}
+use Rattle.model.specs.Kinds.{trigger_number}
 use Rattle.model.specs.Lists.{any}
 use Rattle.model.specs.Rules.{triggers_of}
 use Rattle.model.specs.State.{Env, Rest, is_enabled}
@@ -9,6 +10,7 @@ use Rattle.model.specs.Steps.{FlatStep}
 use Rattle.model.specs.Wheel as model
 use Rattle.model.specs.Wheel.{in_window, is_wall_trigger, due_wall_kind}
 use Rattle.model.specs.declared.Trigger.{Trigger}
+use Rattle.model.specs.declared.TriggerKind.{TriggerKind}
 use Rattle.eval.specs.Answers.{env_of}
 use Rattle.wheel.specs.declared.wall.WallKind.{WallKind}
 
@@ -16,11 +18,19 @@ use Rattle.wheel.specs.declared.wall.WallKind.{WallKind}
 unfoldable pub day_due : ℕ → ℕ → ℕ → ℕ → ℕ → Bool
 day_due base window days minute d = has_day days d && in_window base window (d * 1440 + minute)
 
-abbrev pub kind_if : Bool → ℕ → Bool → WallKind
+abbrev pub kind_if : Bool → TriggerKind → Bool → WallKind
 kind_if due kind unsynced = record { kind = cond due (Some kind) None; unsynced = unsynced }
 
+abbrev pub no_kind : Bool → WallKind
+no_kind unsynced = record { kind = None; unsynced = unsynced }
+
+-- the number of a kind, where there is one
+abbrev pub number_if : Option TriggerKind → Option ℕ
+number_if None = None
+number_if (Some kind) = Some (trigger_number kind)
+
 abbrev pub wall_kind : WallKind → model.WallKind
-wall_kind w = record { kind = w.kind; unsynced = w.unsynced }
+wall_kind w = record { kind = number_if w.kind; unsynced = w.unsynced }
 
 -- a sun was missed before, or is now
 abbrev pub missed_too : Bool → model.WallKind → model.WallKind

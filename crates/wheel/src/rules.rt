@@ -1,5 +1,6 @@
 // A rule starts, with the part of the flat steps that the store has for it.
 ghost use Rattle.model.specs.Activate as model;
+ghost use Rattle.model.specs.Kinds.{trigger_number};
 ghost use Rattle.model.specs.Wheel.{activate_if_enabled};
 ghost use Rattle.activate.specs.Carried.{carried};
 ghost use Rattle.activate.specs.Handled.{Room};
@@ -8,6 +9,7 @@ ghost use Rattle.wheel.specs.Tick.{Fires};
 
 use crate::Rule;
 use activate::{Handled, Mode, activate};
+use model::TriggerKind;
 use state::State;
 use state::rules::is_enabled;
 use store::flat_part::{rule_own, rule_steps};
@@ -18,10 +20,10 @@ pub fn activate_rule(
     effects: &mut [u32],
     v: &mut State,
     x: Handled,
-    kind: u32,
+    kind: TriggerKind,
 ) -> Handled
     requires { Room 1 (carried v.old x) }
-    ensures { Fires 1 (model.activate (env_of rule.now.env.now) rule.now.i kind model.Auto) (carried v.old x) outcomes.old effects.old (carried v.new result) outcomes.new effects.new }
+    ensures { Fires 1 (model.activate (env_of rule.now.env.now) rule.now.i (trigger_number kind) model.Auto) (carried v.old x) outcomes.old effects.old (carried v.new result) outcomes.new effects.new }
 {
     let env = rule.env;
     let part = rule_steps(env.store, rule.i);
@@ -48,10 +50,10 @@ pub fn activate_if_enabled(
     effects: &mut [u32],
     v: &mut State,
     x: Handled,
-    kind: u32,
+    kind: TriggerKind,
 ) -> Handled
     requires { Room 1 (carried v.old x) }
-    ensures { Fires 1 (activate_if_enabled (env_of rule.now.env.now) kind rule.now.i) (carried v.old x) outcomes.old effects.old (carried v.new result) outcomes.new effects.new }
+    ensures { Fires 1 (activate_if_enabled (env_of rule.now.env.now) (trigger_number kind) rule.now.i) (carried v.old x) outcomes.old effects.old (carried v.new result) outcomes.new effects.new }
 {
     if !is_enabled(v, rule.i as usize) {
         return x;

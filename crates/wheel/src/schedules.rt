@@ -11,6 +11,7 @@ ghost use Rattle.activate.specs.Carried.{carried};
 ghost use Rattle.activate.specs.Handled.{Room};
 ghost use Rattle.wheel.specs.Given.{env_of};
 ghost use Rattle.wheel.specs.Tick.{Fires, count_missed, remembering, without_wall};
+ghost use Rattle.wheel.specs.Wall.{number_if};
 ghost use Rattle.wheel.specs.Turns.{Turns};
 
 use crate::minutes::{WEEK_MINUTES, cyclic_dist, in_window, week_minute};
@@ -19,7 +20,7 @@ use crate::wall::{due_wall_kind, has_wall_triggers};
 use crate::{Env, Rule};
 use activate::Handled;
 use counters::Counter;
-use model::WallTime;
+use model::{TriggerKind, WallTime};
 use state::State;
 use state::rules::is_enabled;
 
@@ -44,10 +45,10 @@ fn start_wall(
     effects: &mut [u32],
     v: &mut State,
     x: Handled,
-    kind: Option<u32>,
+    kind: Option<TriggerKind>,
 ) -> Handled
     requires { Room 1 (carried v.old x) }
-    ensures { Fires 1 (start_wall kind (env_of rule.now.env.now) rule.now.i) (carried v.old x) outcomes.old effects.old (carried v.new result) outcomes.new effects.new }
+    ensures { Fires 1 (start_wall (number_if kind) (env_of rule.now.env.now) rule.now.i) (carried v.old x) outcomes.old effects.old (carried v.new result) outcomes.new effects.new }
 {
     match kind {
         Some(kind) => activate_rule(rule, outcomes, effects, v, x, kind),
@@ -118,12 +119,7 @@ fn window_of(prev: u64, minute: u64) -> u64
     requires { minute < 10080 }
     ensures { (result ≡ window_of prev minute) × (result ≤ 60) }
 {
-    let dist = cyclic_dist(prev, minute);
-    if dist < CATCH_UP_MINUTES {
-        dist
-    } else {
-        CATCH_UP_MINUTES
-    }
+    cyclic_dist(prev, minute).min(CATCH_UP_MINUTES)
 }
 
 // The clock was set back: the minute lies 1 to 120 minutes behind the one before, round the week.

@@ -9,12 +9,9 @@ ghost use Rattle.wheel.specs.Tick.{Fires, rules_of_slot, rules_of_slots};
 use crate::rules::activate_if_enabled;
 use crate::{Env, Rule};
 use activate::Handled;
-use model::EverySlot;
+use model::{EverySlot, TriggerKind};
 use state::State;
 use state::slots::{due_slots, move_slots};
-
-// The trigger of an outcome.
-const BY_EVERY: u32 = 2;
 
 fn fire_slot(
     env: &Env,
@@ -30,7 +27,7 @@ fn fire_slot(
     match env.image.rule_named(slot.rule) {
         Some(i) => {
             let rule = Rule { env, i };
-            activate_if_enabled(&rule, outcomes, effects, v, x, BY_EVERY)
+            activate_if_enabled(&rule, outcomes, effects, v, x, TriggerKind::Every)
         }
         None => x,
     }

@@ -11,12 +11,9 @@ ghost use Rattle.wheel.specs.Tick.{Fires, on_timer, rules_of_timers};
 use crate::rules::activate_if_enabled;
 use crate::{Env, Rule};
 use activate::Handled;
-use model::{NamedTimer, Trigger};
+use model::{NamedTimer, Trigger, TriggerKind};
 use state::State;
 use state::timers::{due_timers, without_due};
-
-// The trigger of an outcome.
-const BY_TIMER: u32 = 1;
 
 fn is_timer(trigger: Trigger, timer: u32) -> bool
     ensures { result ≡ fires_on timer trigger }
@@ -51,7 +48,7 @@ fn fire_rule(
     if !fires_on(rule, timer) {
         return x;
     }
-    activate_if_enabled(rule, outcomes, effects, v, x, BY_TIMER)
+    activate_if_enabled(rule, outcomes, effects, v, x, TriggerKind::TimerFires)
 }
 
 fn fire_one_timer(

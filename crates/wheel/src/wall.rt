@@ -7,33 +7,37 @@ ghost use Rattle.model.specs.Wheel.{is_wall_trigger, has_wall_triggers};
 ghost use Rattle.model.specs.declared.Trigger.TheVariants as trigger;
 ghost use Rattle.image.specs.Accepted.{Accepted};
 ghost use Rattle.state.specs.Meaning.{meaning};
-ghost use Rattle.wheel.specs.Wall.{kind_if, Kind, KindAnywhere, enabled_wall};
+ghost use Rattle.wheel.specs.Wall.{kind_if, no_kind, Kind, KindAnywhere, enabled_wall};
 
 use crate::minutes::minute_due;
 use image::layout::{Image, Table};
-use model::Trigger;
+use model::{Trigger, TriggerKind};
 use state::State;
 use state::rules::is_enabled;
-
-// The triggers of an outcome.
-const BY_TIME: u32 = 3;
-
-const BY_SOLAR: u32 = 4;
 
 // The kind of the first due trigger, and whether a sun was asked for that is not known.
 // kept: `unsynced` says no kind that is missing: a trigger can be due where an earlier one missed the sun, as the specification's record has it.
 #[derive(Clone, Copy)]
 pub struct WallKind {
-    pub kind: Option<u32>,
+    pub kind: Option<TriggerKind>,
     pub unsynced: bool,
 }
 
 // No trigger is due, or one of a kind is.
-fn kind_if(due: bool, kind: u32, unsynced: bool) -> WallKind
+fn kind_if(due: bool, kind: TriggerKind, unsynced: bool) -> WallKind
     ensures { result ≡ kind_if due kind unsynced }
 {
     let kind = if due { Some(kind) } else { None };
     WallKind { kind, unsynced }
+}
+
+fn no_kind(unsynced: bool) -> WallKind
+    ensures { result ≡ no_kind unsynced }
+{
+    WallKind {
+        kind: None,
+        unsynced,
+    }
 }
 
 // A trigger that is due at a minute of the day, as the sun has it.
@@ -50,9 +54,13 @@ fn solar_kind(
     match world::sun(snapshot) {
         Some(t) => {
             let minute = eval::time::solar_minute(t, event, offset_ms) as u64;
-            kind_if(minute_due(base, window, 127, minute), BY_SOLAR, missed)
+            kind_if(
+                minute_due(base, window, 127, minute),
+                TriggerKind::AtSolar,
+                missed,
+            )
         }
-        None => kind_if(false, 0, true),
+        None => no_kind(true),
     }
 }
 
@@ -60,7 +68,11 @@ fn time_kind(base: u64, window: u64, hour: u32, minute: u32, days: u32, missed: 
     ensures { KindAnywhere base window missed (trigger.AtTime hour minute days ∷ []) result }
 {
     let minute = hour as u64 * 60 + minute as u64;
-    kind_if(minute_due(base, window, days, minute), BY_TIME, missed)
+    kind_if(
+        minute_due(base, window, days, minute),
+        TriggerKind::AtTime,
+        missed,
+    )
 }
 
 // What one trigger gives, where a sun was missed before it or not.
@@ -74,15 +86,15 @@ fn trigger_kind(
     ensures { Kind snapshot.now base window missed (trigger ∷ []) result }
 {
     match trigger {
-        Trigger::TimerFires { timer } => kind_if(false, 0, missed),
-        Trigger::Every { period_ms } => kind_if(false, 0, missed),
+        Trigger::TimerFires { timer } => no_kind(missed),
+        Trigger::Every { period_ms } => no_kind(missed),
         Trigger::AtTime { hour, minute, days } => time_kind(
             base, window, hour, minute, days, missed,
         ),
         Trigger::AtSolar { event, offset_ms } => solar_kind(
             snapshot, base, window, event, offset_ms, missed,
         ),
-        Trigger::Other => kind_if(false, 0, missed),
+        Trigger::Other => no_kind(missed),
     }
 }
 
@@ -107,7 +119,7 @@ pub fn due_wall_kind(
         }
         unsynced = w.unsynced;
     }
-    kind_if(false, 0, unsynced)
+    no_kind(unsynced)
 }
 
 fn is_wall_trigger(trigger: Trigger) -> bool

@@ -1,18 +1,10 @@
 // Words as parts of larger numbers, and the minute of the day. Each contract is one equation with a definition of specs/, over ℕ for unsigned numbers and
 // over ℤ for signed ones; what the library's methods give in these words is in proofs/Laws.antt.
-#![tactic(auto, unfolding(crate::specs::Saturating::saturating_add, crate::specs::Pairs::joined, crate::specs::Pairs::low_of, crate::specs::Pairs::high_of))]
+#![tactic(auto, unfolding(crate::specs::Pairs::joined, crate::specs::Pairs::low_of, crate::specs::Pairs::high_of))]
 
 ghost use Rattle.std.specs.Prelude.{◌≡◌};
-ghost use Rattle.words.specs.Saturating.{max64, saturating_add};
 ghost use Rattle.words.specs.Pairs.{joined, low_of, high_of};
 ghost use Rattle.words.specs.Signed.{solar_minute};
-
-// u64::saturating_add
-pub fn saturating_add_u64(x: u64, y: u64) -> u64
-    ensures { result ≡ saturating_add max64 x y }
-{
-    x.saturating_add(y)
-}
 
 // Two words as one 64-bit number, and back.
 pub fn join_words(low: u32, high: u32) -> u64

@@ -19,4 +19,4 @@ push_outcome-requires c = (omega (arith, c.requires.2.outcomes), c.run_steps_dry
 pub returns : goal.returns
 returns c =
     let few = (budget-fits c.args.env.now.image.now c.requires.0.passes).1 in
-    runs-dry c.args.env.now.snapshot.now c.args.env.now.image.now c.args.rule.now.part.now c.args.rule.now.own c.args.env.now.job c.args.v.now c.args.x c.budget-most.result _ _ _ c.run_steps_dry-run.ensures _ c.push_outcome.result _ (rw c.budget-most.ensures few) c.budget-most.ensures (rw c.reason_word.ensures at c.push_outcome.ensures)
+    runs-dry c.args.env.now.snapshot.now c.args.env.now.image.now c.args.rule.now.part.now c.args.rule.now.own c.args.env.now.job c.args.v.now c.args.x c.budget-most.result _ _ _ c.run_steps_dry-run.ensures _ c.push_outcome.result _ (rw c.budget-most.ensures few) c.budget-most.ensures c.push_outcome.ensures

@@ -16,4 +16,4 @@ push_outcome-requires c = (omega (arith, c.requires.1.outcomes), c.run_steps-run
 
 pub returns : goal.returns
 returns c =
-    runs-wet c.args.env.now.snapshot.now c.args.env.now.image.now c.args.rule.now.part.now c.args.rule.now.own c.args.env.now.job c.args.v.now c.args.x c.args.most _ _ _ c.args.from c.run_steps-run.ensures _ _ _ c.push_outcome.result _ c.requires.0 refl c.finish_wet.ensures (rw c.reason_word.ensures at c.push_outcome.ensures)
+    runs-wet c.args.env.now.snapshot.now c.args.env.now.image.now c.args.rule.now.part.now c.args.rule.now.own c.args.env.now.job c.args.v.now c.args.x c.args.most _ _ _ c.args.from c.run_steps-run.ensures _ _ _ c.push_outcome.result _ c.requires.0 refl c.finish_wet.ensures c.push_outcome.ensures

@@ -1,6 +1,6 @@
 -- `crontab::table::day_bit` meets its contract. Assumes nothing.
 use borrow.Author.Rules.{rules}
-use Rattle.crontab.proofs.Lines.{bit-off, bit-on}
+use Rattle.crontab.proofs.Lines.{bit-on}
 use Rattle.crontab.proofs.table.day_bit.Goals as goal
 
 pub returns : goal.returns

@@ -3,33 +3,34 @@ use Rattle.std.proofs.Common.{◌≡◌, refl, sym, ◌∙◌, [], ◌-◌, ◌*
 use Rattle.std.proofs.lemmas.Result.{err_from_is_err_and}
 use lib.Seq.{length-take-le}
 use Rattle.model.specs.declared.Step.TheVariants as step
+use Rattle.flat.specs.Outcome.{told}
 use Rattle.flat.proofs.Starts.{begun, start-after, start-repeat, start-region, start-next, start-call, call-number, call-found}
 use Rattle.flat.proofs.Calls.{one-act, call-zero, call-unknown, call_known, call-inside}
-use Rattle.flat.proofs.Forms.{after-fails, after-refused, body-fits, after-wrote, repeat-fails, repeat-refused, repeat-over, repeat-wrote, branch-fails, branch-refused, else-refused, branch-wrote}
+use Rattle.flat.proofs.Forms.{after-fails, after-refused, body-fits, after-there, repeat-fails, repeat-refused, repeat-over, repeat-wrote, branch-fails, branch-refused, else-refused, branch-wrote}
 use Rattle.flat.proofs.Lists.{finished, full, refused, next}
 use Rattle.flat.proofs.cycle.+flattening.Invariants.{left_le, left_is, left_behind}
 use Rattle.flat.proofs.cycle.+flattening.Goals as goal
 
 -- AN ACTION -------------------------------------------------------------------------------------------------------------------------
-pub flatten_action-returns-in-Wait : goal.flatten_action-returns-in-Wait
-flatten_action-returns-in-Wait t c =
+pub flatten_action-returns-in-Wait-clause-out : goal.flatten_action-returns-in-Wait-clause-out
+flatten_action-returns-in-Wait-clause-out t c =
     let a = c.args in
     let o = c.one_step.ensures in
     rw o.counted
-    (one-act (begun c.args.t.now.checked.tables c.args.t.now.resolved c.args.t.now.calls_len c.requires.start) a.i a.p.same a.seen.now a.list.now a.bodies.now _ (step.Wait c.in-Wait.duration_ms)
+    (one-act (begun c.args.t.now.checked.tables c.args.t.now.resolved c.args.t.now.calls_len c.requires.start) a.i a.bodies.now.same a.bodies.now.seen.now a.list.now a.bodies.now.words.now _ (step.Wait c.in-Wait.duration_ms)
     (sym c.read_action.ensures ∙ c.in-Wait.is) refl o.written)
 
-pub flatten_action-returns-in-Plain : goal.flatten_action-returns-in-Plain
-flatten_action-returns-in-Plain t c =
+pub flatten_action-returns-in-Plain-clause-out : goal.flatten_action-returns-in-Plain-clause-out
+flatten_action-returns-in-Plain-clause-out t c =
     let a = c.args in
     let o = c.one_step-in-Plain.ensures in
     rw o.counted
-    (one-act (begun c.args.t.now.checked.tables c.args.t.now.resolved c.args.t.now.calls_len c.requires.start) a.i a.p.same a.seen.now a.list.now a.bodies.now _ (step.Primitive a.i)
+    (one-act (begun c.args.t.now.checked.tables c.args.t.now.resolved c.args.t.now.calls_len c.requires.start) a.i a.bodies.now.same a.bodies.now.seen.now a.list.now a.bodies.now.words.now _ (step.Primitive a.i)
     (sym c.read_action.ensures ∙ c.in-Plain.is) refl o.written)
 
 -- AN AFTER --------------------------------------------------------------------------------------------------------------------------
-pub flatten_after-returns-then-at : goal.flatten_after-returns-then-at
-flatten_after-returns-then-at t c =
+pub flatten_after-returns-then-at-clause-out : goal.flatten_after-returns-then-at-clause-out
+flatten_after-returns-then-at-clause-out t c =
     let o = c.one_step.ensures in rw o.counted (after-fails (begun c.args.t.now.checked.tables c.args.t.now.resolved c.args.t.now.calls_len c.requires.start) c.args.ms c.requires.i_in_bounds.2 c.if-at.true o.written)
 
 pub flatten_after-flatten_list-requires : goal.flatten_after-flatten_list-requires
@@ -42,38 +43,39 @@ flatten_after-flatten_list-requires t c =
       (rw e.0 (start-after (begun c.args.t.now.checked.tables c.args.t.now.resolved c.args.t.now.calls_len c.requires.start) e.1), b.inside),
     )
 
-pub flatten_after-returns-in_err-q : goal.flatten_after-returns-in_err-q
-flatten_after-returns-in_err-q t c =
+pub flatten_after-returns-in_err-q-clause-out : goal.flatten_after-returns-in_err-q-clause-out
+flatten_after-returns-in_err-q-clause-out t c =
     let p = err_from_is_err_and c.from_residual.result c.from_residual.ensures.1 in
     let e = c.within_after-inner.ensures in
-    let r = rw (c.in_err-q.was, e.0, e.1) at c.flatten_list.ensures in
+    let r = rw (c.in_err-q.was, e.0, e.1) at c.flatten_list.ensures.out in
     rw (p.1, p.2) (r.0, after-refused (begun c.args.t.now.checked.tables c.args.t.now.resolved c.args.t.now.calls_len c.requires.start) c.args.ms c.requires.i_in_bounds.2 c.if-at.false r.1)
 
 pub flatten_after-slice_bounds-append_steps-end : goal.flatten_after-slice_bounds-append_steps-end
 flatten_after-slice_bounds-append_steps-end t c =
     let e = c.within_after-inner.ensures in
-    let w = rw (c.in_ok-q.was, e.0, e.1) at c.flatten_list.ensures in
+    let w = rw (c.in_ok-q.was, e.0, e.1) at c.flatten_list.ensures.out in
     omega (arith, body-fits (begun c.args.t.now.checked.tables c.args.t.now.resolved c.args.t.now.calls_len c.requires.start) c.args.ms c.requires.i_in_bounds.2 c.if-at.false w, c.flatten_list.auto.list)
 
 pub flatten_after-slice_bounds-append_steps-end-2 :
     goal.flatten_after-slice_bounds-append_steps-end-2
 flatten_after-slice_bounds-append_steps-end-2 t c =
     let e = c.within_after-inner.ensures in
-    let w = rw (c.in_ok-q.was, e.0, e.1) at c.flatten_list.ensures in
+    let w = rw (c.in_ok-q.was, e.0, e.1) at c.flatten_list.ensures.out in
     let fits = body-fits (begun c.args.t.now.checked.tables c.args.t.now.resolved c.args.t.now.calls_len c.requires.start) c.args.ms c.requires.i_in_bounds.2 c.if-at.false w in
     sym (length-take-le (c.in_ok-q.q.n * 4) c.flatten_list.new.list (omega (arith, fits, c.flatten_list.auto.list)))
 
-pub flatten_after-returns : goal.flatten_after-returns
-flatten_after-returns t c =
+pub flatten_after-returns-clause-out : goal.flatten_after-returns-clause-out
+flatten_after-returns-clause-out t c =
     let e = c.within_after-inner.ensures in
-    let w = rw (c.in_ok-q.was, e.0, e.1) at c.flatten_list.ensures in
-    let x = c.append_steps-same in
-    after-wrote (begun c.args.t.now.checked.tables c.args.t.now.resolved c.args.t.now.calls_len c.requires.start) c.args.ms c.requires.i_in_bounds.2 c.if-at.false w refl c.flatten_list.auto.bodies c.put_after.ensures
-    x.ensures.behinds x.ensures.words_unchanged
+    let w = rw (c.in_ok-q.was, e.0, e.1) at c.flatten_list.ensures.out in
+    let x = c.append_steps in
+    rw x.ensures.same_count
+    (after-there (begun c.args.t.now.checked.tables c.args.t.now.resolved c.args.t.now.calls_len c.requires.start) c.args.ms c.requires.i_in_bounds.2 c.if-at.false w refl c.flatten_list.ensures.same_length c.put_after.ensures
+    (rw c.flatten_list.ensures.same_seen at x.ensures.behinds) x.ensures.words_unchanged)
 
 -- A CONDITIONAL ---------------------------------------------------------------------------------------------------------------------
-pub flatten_branch-returns-then-at : goal.flatten_branch-returns-then-at
-flatten_branch-returns-then-at t c =
+pub flatten_branch-returns-then-at-clause-out : goal.flatten_branch-returns-then-at-clause-out
+flatten_branch-returns-then-at-clause-out t c =
     let h = c.requires.i_in_bounds in
     let o = c.one_step.ensures in rw o.counted (branch-fails (begun c.args.t.now.checked.tables c.args.t.now.resolved c.args.t.now.calls_len c.requires.start) c.args.condition h.2 h.3 c.if-at.true o.written)
 
@@ -86,12 +88,12 @@ flatten_branch-flatten_list-requires t c =
       (rw e.0 (start-region (begun c.args.t.now.checked.tables c.args.t.now.resolved c.args.t.now.calls_len c.requires.start) refl (omega (arith, h.1)) (omega arith) (omega arith) e.1), h.2.inside),
     )
 
-pub flatten_branch-returns-in_err-q : goal.flatten_branch-returns-in_err-q
-flatten_branch-returns-in_err-q t c =
+pub flatten_branch-returns-in_err-q-clause-out : goal.flatten_branch-returns-in_err-q-clause-out
+flatten_branch-returns-in_err-q-clause-out t c =
     let p = err_from_is_err_and c.from_residual.result c.from_residual.ensures.1 in
     let h = c.requires.i_in_bounds in
     let e = c.within_conditional-inner.ensures in
-    let r = rw (c.in_err-q.was, e.0, e.1) at c.flatten_list.ensures in
+    let r = rw (c.in_err-q.was, e.0, e.1) at c.flatten_list.ensures.out in
     rw (p.1, p.2) (r.0, branch-refused (begun c.args.t.now.checked.tables c.args.t.now.resolved c.args.t.now.calls_len c.requires.start) c.args.condition h.2 h.3 c.if-at.false r.1)
 
 pub flatten_branch-flatten_list-requires-2 : goal.flatten_branch-flatten_list-requires-2
@@ -100,7 +102,7 @@ flatten_branch-flatten_list-requires-2 t c =
     let s = c.requires.start in
     let h = c.requires.i_in_bounds in
     let e = c.within_conditional-inner.ensures in
-    let w = rw (c.in_ok-q.was, e.0, e.1) at c.flatten_list.ensures in (
+    let w = rw (c.in_ok-q.was, e.0, e.1) at c.flatten_list.ensures.out in (
       omega (arith, left_behind (length a.t.now.acts.now / 8) a.i a.else_first a.else_count h.3 h.0, c.decreases, e.0),
       (
         rw e.0 (start-region (begun c.args.t.now.checked.tables c.args.t.now.resolved c.args.t.now.calls_len c.requires.start) c.flatten_list.auto.body (omega (arith, w.few, h.1, s.allowed-le)) (omega (arith, w.taken)) (omega (arith, w.few')) e.1),
@@ -108,34 +110,34 @@ flatten_branch-flatten_list-requires-2 t c =
       ),
     )
 
-pub flatten_branch-returns-in_err-r : goal.flatten_branch-returns-in_err-r
-flatten_branch-returns-in_err-r t c =
+pub flatten_branch-returns-in_err-r-clause-out : goal.flatten_branch-returns-in_err-r-clause-out
+flatten_branch-returns-in_err-r-clause-out t c =
     let p = err_from_is_err_and c.from_residual-in_err-r.result c.from_residual-in_err-r.ensures.1 in
     let h = c.requires.i_in_bounds in
     let e = c.within_conditional-inner.ensures in
-    let w = rw (c.in_ok-q.was, e.0, e.1) at c.flatten_list.ensures in
-    let r = rw (c.in_err-r.was, e.0, e.1) at c.flatten_list-2.ensures in
+    let w = rw (c.in_ok-q.was, e.0, e.1) at c.flatten_list.ensures.out in
+    let r = rw (c.in_err-r.was, e.0, e.1) at c.flatten_list-2.ensures.out in
     rw (p.1, p.2) (r.0, else-refused (begun c.args.t.now.checked.tables c.args.t.now.resolved c.args.t.now.calls_len c.requires.start) c.args.condition h.2 h.3 c.if-at.false w r.1)
 
-pub flatten_branch-returns : goal.flatten_branch-returns
-flatten_branch-returns t c =
+pub flatten_branch-returns-clause-out : goal.flatten_branch-returns-clause-out
+flatten_branch-returns-clause-out t c =
     let h = c.requires.i_in_bounds in
     let f = c.flatten_list in
     let e = c.within_conditional-inner.ensures in
-    let w = rw (c.in_ok-q.was, e.0, e.1) at f.ensures in
-    let v = rw (c.in_ok-r.was, e.0, e.1) at c.flatten_list-2.ensures in
-    branch-wrote (begun c.args.t.now.checked.tables c.args.t.now.resolved c.args.t.now.calls_len c.requires.start) c.args.condition h.2 h.3 c.if-at.false w f.auto.list f.auto.bodies c.flatten_list-2.auto.list v c.put.ensures
+    let w = rw (c.in_ok-q.was, e.0, e.1) at f.ensures.out in
+    let v = rw (c.in_ok-r.was, e.0, e.1, f.ensures.same_seen) at c.flatten_list-2.ensures.out in
+    branch-wrote (begun c.args.t.now.checked.tables c.args.t.now.resolved c.args.t.now.calls_len c.requires.start) c.args.condition h.2 h.3 c.if-at.false w f.auto.list f.ensures.same_length c.flatten_list-2.auto.list v c.put.ensures
 
 -- A CALL ----------------------------------------------------------------------------------------------------------------------------
-pub flatten_call-returns-then-at-eq0 : goal.flatten_call-returns-then-at-eq0
-flatten_call-returns-then-at-eq0 t c =
+pub flatten_call-returns-then-at-eq0-clause-out : goal.flatten_call-returns-then-at-eq0-clause-out
+flatten_call-returns-then-at-eq0-clause-out t c =
     let o = c.one_step.ensures in rw o.counted (call-zero (begun c.args.t.now.checked.tables c.args.t.now.resolved c.args.t.now.calls_len c.requires.start) c.args.name c.if-at-eq0.true o.written)
 
 pub flatten_call-called_block-requires : goal.flatten_call-called_block-requires
 flatten_call-called_block-requires t c = call-number (begun c.args.t.now.checked.tables c.args.t.now.resolved c.args.t.now.calls_len c.requires.start) c.requires.i_in_bounds.0
 
-pub flatten_call-returns-in_default : goal.flatten_call-returns-in_default
-flatten_call-returns-in_default t c =
+pub flatten_call-returns-in_default-clause-out : goal.flatten_call-returns-in_default-clause-out
+flatten_call-returns-in_default-clause-out t c =
     let h = c.requires.i_in_bounds in
     let o = c.one_step-in_default.ensures in
     let found = call-found (begun c.args.t.now.checked.tables c.args.t.now.resolved c.args.t.now.calls_len c.requires.start) h.0 c.args.name h.2 in
@@ -152,23 +154,23 @@ flatten_call-flatten_list-requires t c =
       (start-call (begun c.args.t.now.checked.tables c.args.t.now.resolved c.args.t.now.calls_len c.requires.start), b),
     )
 
-pub flatten_call-returns : goal.flatten_call-returns
-flatten_call-returns t c =
+pub flatten_call-returns-clause-out : goal.flatten_call-returns-clause-out
+flatten_call-returns-clause-out t c =
     let a = c.args in
     let h = c.requires.i_in_bounds in
     let f = c.flatten_list in
     let found = call-found (begun c.args.t.now.checked.tables c.args.t.now.resolved c.args.t.now.calls_len c.requires.start) h.0 a.name h.2 in
-    call_known (begun c.args.t.now.checked.tables c.args.t.now.resolved c.args.t.now.calls_len c.requires.start) a.name c.if-at-eq0.false a.p.same a.seen.now a.list.now a.bodies.now f.new.list f.new.bodies f.result _
-    (sym found ∙ sym c.called_block.ensures ∙ c.in-Some.is) f.ensures
+    call_known (begun c.args.t.now.checked.tables c.args.t.now.resolved c.args.t.now.calls_len c.requires.start) a.name c.if-at-eq0.false a.bodies.now.same a.bodies.now.seen.now a.list.now a.bodies.now.words.now f.new.list f.new.bodies.words.now (told f.new.bodies.count f.new.bodies.same f.result) _
+    (sym found ∙ sym c.called_block.ensures ∙ c.in-Some.is) f.ensures.out
 
 -- A LIST ----------------------------------------------------------------------------------------------------------------------------
-pub flatten_list-returns-then-q-ge256 : goal.flatten_list-returns-then-q-ge256
-flatten_list-returns-then-q-ge256 t c =
+pub flatten_list-returns-then-q-ge256-clause-out : goal.flatten_list-returns-then-q-ge256-clause-out
+flatten_list-returns-then-q-ge256-clause-out t c =
     let o = c.one_step.ensures in
     rw o.counted (full c.loop-i.invariant.0 c.requires.count_in_bounds c.loop-i-test.true (omega arith) _ o.written)
 
-pub flatten_list-returns-then-q-eq0 : goal.flatten_list-returns-then-q-eq0
-flatten_list-returns-then-q-eq0 t c =
+pub flatten_list-returns-then-q-eq0-clause-out : goal.flatten_list-returns-then-q-eq0-clause-out
+flatten_list-returns-then-q-eq0-clause-out t c =
     refused c.loop-i.invariant.0 c.requires.count_in_bounds c.loop-i-test.true (omega arith) [] [] (omega (arith, c.if-q-eq0.true))
 
 pub flatten_list-flatten_action-requires : goal.flatten_list-flatten_action-requires
@@ -184,25 +186,27 @@ flatten_list-flatten_action-requires t c =
       ),
     )
 
-pub flatten_list-returns-in_err-n : goal.flatten_list-returns-in_err-n
-flatten_list-returns-in_err-n t c =
+pub flatten_list-returns-in_err-q-clause-out : goal.flatten_list-returns-in_err-q-clause-out
+flatten_list-returns-in_err-q-clause-out t c =
     let p = err_from_is_err_and c.from_residual.result c.from_residual.ensures.1 in
-    let r = rw c.in_err-n.was at c.flatten_action.ensures in
+    let r = rw c.in_err-q.was at c.flatten_action.ensures.out in
     rw (p.1, p.2, r.0) (refused c.loop-i.invariant.0 c.requires.count_in_bounds c.loop-i-test.true (omega arith) [] [] (omega (arith, r.1, c.if-q-eq0.false)))
 
 pub flatten_list-loop-i-preserved : goal.flatten_list-loop-i-preserved
 flatten_list-loop-i-preserved t c =
     let f = c.flatten_action in (
-      next c.loop-i.invariant.0 c.requires.count_in_bounds c.loop-i-test.true (omega arith) c.if-q-eq0.false f.auto.list f.auto.bodies (rw c.in_ok-n.was at f.ensures),
+      next c.loop-i.invariant.0 c.requires.count_in_bounds c.loop-i-test.true (omega arith) c.if-q-eq0.false f.auto.list f.ensures.same_length (rw (c.in_ok-q.was, c.loop-i.invariant.3) at f.ensures.out),
       f.auto.body ∙ c.loop-i.invariant.1,
+      f.ensures.same_reference ∙ c.loop-i.invariant.2,
+      f.ensures.same_seen ∙ c.loop-i.invariant.3,
     )
 
-pub flatten_list-returns : goal.flatten_list-returns
-flatten_list-returns t c = finished c.loop-i.invariant.0 c.requires.count_in_bounds (λ h. omega (arith, c.loop-i-test.false))
+pub flatten_list-returns-clause-out : goal.flatten_list-returns-clause-out
+flatten_list-returns-clause-out t c = finished c.loop-i.invariant.0 c.requires.count_in_bounds (λ h. omega (arith, c.loop-i-test.false))
 
 -- A REPEAT --------------------------------------------------------------------------------------------------------------------------
-pub flatten_repeat-returns-then-repeat_fails : goal.flatten_repeat-returns-then-repeat_fails
-flatten_repeat-returns-then-repeat_fails t c =
+pub flatten_repeat-returns-then-repeat_fails-clause-out : goal.flatten_repeat-returns-then-repeat_fails-clause-out
+flatten_repeat-returns-then-repeat_fails-clause-out t c =
     let o = c.one_step.ensures in
     rw o.counted (repeat-fails (begun c.args.t.now.checked.tables c.args.t.now.resolved c.args.t.now.calls_len c.requires.start) c.args.times c.requires.i_in_bounds.2 (sym c.repeat_fails.ensures ∙ c.if-repeat_fails.true) o.written)
 
@@ -216,30 +220,30 @@ flatten_repeat-flatten_list-requires t c =
       (rw e.0 (start-repeat (begun c.args.t.now.checked.tables c.args.t.now.resolved c.args.t.now.calls_len c.requires.start) e.1), b.inside),
     )
 
-pub flatten_repeat-returns-in_err-q : goal.flatten_repeat-returns-in_err-q
-flatten_repeat-returns-in_err-q t c =
+pub flatten_repeat-returns-in_err-q-clause-out : goal.flatten_repeat-returns-in_err-q-clause-out
+flatten_repeat-returns-in_err-q-clause-out t c =
     let p = err_from_is_err_and c.from_residual.result c.from_residual.ensures.1 in
     let e = c.within_repeat-inner.ensures in
-    let r = rw (c.in_err-q.was, e.0, e.1) at c.flatten_list.ensures in
+    let r = rw (c.in_err-q.was, e.0, e.1) at c.flatten_list.ensures.out in
     rw (p.1, p.2) (r.0, repeat-refused (begun c.args.t.now.checked.tables c.args.t.now.resolved c.args.t.now.calls_len c.requires.start) c.args.times c.requires.i_in_bounds.2 (sym c.repeat_fails.ensures ∙ c.if-repeat_fails.false) r.1)
 
-pub flatten_repeat-returns-then-p-q-gt256 : goal.flatten_repeat-returns-then-p-q-gt256
-flatten_repeat-returns-then-p-q-gt256 t c =
+pub flatten_repeat-returns-then-p-q-gt256-clause-out : goal.flatten_repeat-returns-then-p-q-gt256-clause-out
+flatten_repeat-returns-then-p-q-gt256-clause-out t c =
     let f = c.flatten_list in
     let p = c.place-from in
     let o = c.one_step-then-p-q-gt256.ensures in
     let e = c.within_repeat-inner.ensures in
-    let w = rw (c.in_ok-q.was, e.0, e.1) at f.ensures in
+    let w = rw (c.in_ok-q.was, e.0, e.1) at f.ensures.out in
     rw o.counted
     (repeat-over (begun c.args.t.now.checked.tables c.args.t.now.resolved c.args.t.now.calls_len c.requires.start) c.args.times c.requires.i_in_bounds.2 (sym c.repeat_fails.ensures ∙ c.if-repeat_fails.false)
     c.args.list.now f.new.list p.result p.ensures.0 p.ensures.1 p.ensures.2 f.auto.list w c.if-p-q-gt256.true o.written)
 
-pub flatten_repeat-returns : goal.flatten_repeat-returns
-flatten_repeat-returns t c =
+pub flatten_repeat-returns-clause-out : goal.flatten_repeat-returns-clause-out
+flatten_repeat-returns-clause-out t c =
     let f = c.flatten_list in
     let p = c.place-from in
     let e = c.within_repeat-inner.ensures in
-    let w = rw (c.in_ok-q.was, e.0, e.1) at f.ensures in
+    let w = rw (c.in_ok-q.was, e.0, e.1) at f.ensures.out in
     repeat-wrote (begun c.args.t.now.checked.tables c.args.t.now.resolved c.args.t.now.calls_len c.requires.start) c.args.times c.requires.i_in_bounds.2 (sym c.repeat_fails.ensures ∙ c.if-repeat_fails.false)
     c.args.list.now f.new.list p.result p.ensures.0 p.ensures.1 p.ensures.2 f.auto.list w c.requires.i_in_bounds.1
     c.if-p-q-gt256.false (c.copies-n.ensures _)

@@ -57,10 +57,11 @@ invariant-flatten_list-loop-i l =
       count = l.count;
       ctx = l.at.ctx;
       n = l.initial.q.n;
-      m = l.initial.q.m;
+      m = l.initial.bodies.count;
       left = l.initial.q.left;
-      same = l.initial.q.same;
-      seen = l.seen;
+      same = l.initial.bodies.same;
+      seen = l.initial.bodies.seen.now;
       list = l.initial.list;
-      bodies = l.initial.bodies;
-    }) l.i l.q.n l.q.m l.q.left l.q.same l.list l.bodies × (length l.body ≡ length l.initial.body)
+      bodies = l.initial.bodies.words.now;
+    }) l.i l.q.n l.bodies.count l.q.left l.bodies.same l.list l.bodies.words.now
+    × (length l.body ≡ length l.initial.body) × (l.bodies.words.ghost_name ≡ l.initial.bodies.words.ghost_name) × (l.bodies.seen.now ≡ l.initial.bodies.seen.now)

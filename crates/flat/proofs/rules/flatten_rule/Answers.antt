@@ -1,29 +1,31 @@
 -- `flat::rules::flatten_rule` meets its contract: the bodies, then the own list. Assumes nothing.
-use Rattle.std.proofs.Common.{◌*◌, sym, arith}
+use Rattle.std.proofs.Common.{◌∙◌, ◌*◌, sym, arith, rules}
 use lib.Seq.{length-take-le}
-use Rattle.flat.proofs.RuleLists.{rule-short, rule-room, rule-wrote}
+use Rattle.flat.proofs.RuleLists.{rule-short, rule-room, rule-wrote, rule-ends}
 use Rattle.flat.proofs.rules.flatten_rule.Goals as goal
 
 pub slice_bounds-append_steps-end : goal.slice_bounds-append_steps-end
 slice_bounds-append_steps-end c =
     let a = c.args in
     let f = c.flatten_list in
-    let z = rw c.in_ok-q.was at f.ensures in
-    (rule-room _ a.left a.same a.seen.now a.own.now a.words.now f.new.list f.new.bodies _ _ _ _ (rule-short a.t.now.acts.now a.t.now.blocks.now a.t.now.rules.now a.t.now.depth a.t.now.limit a.k a.left a.t.now.checked) z c.requires.in_bounds.3 (omega (arith, c.requires.in_bounds.0, f.auto.list))).1
+    let z = rw c.in_ok-q.was at f.ensures.out in
+    (rule-room _ a.left a.same a.seen.now a.own.now a.words.now f.new.list f.new.bodies.words.now _ _ _ _ (rule-short a.t.now.acts.now a.t.now.blocks.now a.t.now.rules.now a.t.now.depth a.t.now.limit a.k a.left a.t.now.checked) z c.requires.in_bounds.3 (omega (arith, c.requires.in_bounds.0, f.auto.list))).1
 
 pub slice_bounds-append_steps-end-2 : goal.slice_bounds-append_steps-end-2
 slice_bounds-append_steps-end-2 c =
     let a = c.args in
     let f = c.flatten_list in
-    let z = rw c.in_ok-q.was at f.ensures in
-    let fits = (rule-room _ a.left a.same a.seen.now a.own.now a.words.now f.new.list f.new.bodies _ _ _ _ (rule-short a.t.now.acts.now a.t.now.blocks.now a.t.now.rules.now a.t.now.depth a.t.now.limit a.k a.left a.t.now.checked) z c.requires.in_bounds.3 (omega (arith, c.requires.in_bounds.0, f.auto.list))).1 in
+    let z = rw c.in_ok-q.was at f.ensures.out in
+    let fits = (rule-room _ a.left a.same a.seen.now a.own.now a.words.now f.new.list f.new.bodies.words.now _ _ _ _ (rule-short a.t.now.acts.now a.t.now.blocks.now a.t.now.rules.now a.t.now.depth a.t.now.limit a.k a.left a.t.now.checked) z c.requires.in_bounds.3 (omega (arith, c.requires.in_bounds.0, f.auto.list))).1 in
     sym (length-take-le (c.in_ok-q.q.n * 4) f.new.list fits)
 
 pub returns : goal.returns
 returns c =
     let a = c.args in
     let f = c.flatten_list in
-    let p = c.append_steps-agrees in
-    let z = rw c.in_ok-q.was at f.ensures in
-    rule-wrote _ a.left a.same a.seen.now a.own.now a.words.now f.new.list f.new.bodies _ _ _ _ (rule-short a.t.now.acts.now a.t.now.blocks.now a.t.now.rules.now a.t.now.depth a.t.now.limit a.k a.left a.t.now.checked)
-    z p.new.words p.result c.requires.in_bounds.0 f.auto.bodies p.auto.words p.ensures.behinds
+    let p = c.append_steps in
+    let z = rw c.in_ok-q.was at f.ensures.out in
+    rw p.ensures.same_count
+    (rule-ends (sym (p.ensures.same_reference ∙ f.ensures.same_reference)) (search rules)
+    (rule-wrote _ a.left a.same a.seen.now a.own.now a.words.now f.new.list f.new.bodies.words.now _ _ _ _ (rule-short a.t.now.acts.now a.t.now.blocks.now a.t.now.rules.now a.t.now.depth a.t.now.limit a.k a.left a.t.now.checked)
+    z p.new.b.words.now p.new.b.same c.requires.in_bounds.0 f.ensures.same_length p.ensures.same_length (rw f.ensures.same_seen at p.ensures.behinds)))

@@ -9,8 +9,8 @@ pub returns : goal.returns
 returns c =
     let a = c.args in
     let f = c.flatten_each in
-    let z = c.in_ok-size.ensures in
+    let z = c.in_ok-made.ensures in
     let p = c.clear in
     let q = c.clear-2 in
-    cleared (flatten_tables a.t.now.acts.now a.t.now.blocks.now a.t.now.rules.now a.t.now.depth a.t.now.limit) c.in_ok-size.size c.in_ok-size.same a.seen.now f.new.words f.new.lists p.new.words q.new.words (length a.t.now.rules.now / 16) c.place-end.result c.rows_end-last.result z
+    cleared (flatten_tables a.t.now.acts.now a.t.now.blocks.now a.t.now.rules.now a.t.now.depth a.t.now.limit) c.in_ok-made.made.size c.in_ok-made.made.same a.seen.now f.new.words f.new.lists p.new.words q.new.words (length a.t.now.rules.now / 16) c.place-end.result c.rows_end-last.result z
     (rules-count a.t.now.acts.now a.t.now.blocks.now a.t.now.rules.now a.t.now.depth a.t.now.limit) c.place-end.ensures.1 p.ensures p.auto.words c.rows_end-last.ensures.1 q.ensures q.auto.words

@@ -9,7 +9,7 @@ pub loop-day-init : goal.loop-day-init
 loop-day-init c = starts _ _ _ _ refl
 
 pub loop-day-preserved : goal.loop-day-preserved
-loop-day-preserved c = goes_number _ _ 7 _ (omega arith) (omega arith) c.loop-day.invariant (rw c.day_minutes.ensures at c.least-best.ensures)
+loop-day-preserved c = goes_number _ _ 7 _ (omega arith) (omega arith) c.loop-day.invariant (rw c.day_minutes.ensures at c.min-best.ensures)
 
 pub returns : goal.returns
 returns c = ends _ _ _ _ (omega arith) c.loop-day.invariant ∙ of-days _ _ _

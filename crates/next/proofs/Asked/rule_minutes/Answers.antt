@@ -15,7 +15,7 @@ loop-k-init c = starts _ _ _ _ c.trigger_count-k.ensures
 
 pub loop-k-preserved : goal.loop-k-preserved
 loop-k-preserved c =
-    goes _ _ _ _ _ refl (omega arith) (omega (arith, c.trigger_count-k.ensures)) c.loop-k.invariant c.trigger_at.ensures (rw c.trigger_minutes.ensures at c.least-best.ensures)
+    goes _ _ _ _ _ refl (omega arith) (omega (arith, c.trigger_count-k.ensures)) c.loop-k.invariant c.trigger_at.ensures (rw c.trigger_minutes.ensures at c.min-best.ensures)
 
 pub returns : goal.returns
 returns c =

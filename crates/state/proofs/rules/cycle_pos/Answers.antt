@@ -3,5 +3,4 @@ use Rattle.state.proofs.KeptForRules.{position-kept}
 use Rattle.state.proofs.rules.cycle_pos.Goals as goal
 
 pub returns : goal.returns
-returns c =
-    rw (← c.v.view_is) (position-kept _ c.v.invariant _ _ c.kept.ensures)
+returns c = position-kept _ c.kept.ensures.1 _ _ c.kept.ensures.0

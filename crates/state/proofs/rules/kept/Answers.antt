@@ -14,27 +14,30 @@ pub overflow_mul-i : goal.overflow_mul-i
 overflow_mul-i g c =
     let w = kept-within c.args.i g.T.Row.WORDS (omega (arith, c.rule_count.ensures, c.if-i-rule_count.true)) in
     let e = ap (λ (n : ℕ). c.args.i * (1 + n)) c.WORDS.ensures in
-    omega (arith, w, e, c.WORDS.ensures, c.requires.1, g.met.T.Row.takes.most)
+    omega (arith, w, e, c.WORDS.ensures, c.requires, g.met.T.Row.takes.most)
 
 pub overflow_add-part : goal.overflow_add-part
 overflow_add-part g c =
     let w = kept-within c.args.i g.T.Row.WORDS (omega (arith, c.rule_count.ensures, c.if-i-rule_count.true)) in
     let e = ap (λ (n : ℕ). c.args.i * (1 + n)) c.WORDS.ensures in
-    omega (arith, w, e, c.WORDS.ensures, c.requires.1, g.met.T.Row.takes.most)
+    omega (arith, w, e, c.WORDS.ensures, c.requires, g.met.T.Row.takes.most)
 
 pub option_at-requires : goal.option_at-requires
 option_at-requires g c =
     let w = kept-within c.args.i g.T.Row.WORDS (omega (arith, c.rule_count.ensures, c.if-i-rule_count.true)) in
     let e = ap (λ (n : ℕ). c.args.i * (1 + n)) c.WORDS.ensures in
-    omega (arith, w, e, c.WORDS.ensures, c.requires.1, g.met.T.Row.takes.most)
+    omega (arith, w, e, c.WORDS.ensures, c.requires, g.met.T.Row.takes.most)
 
 pub returns-then-i-rule_count : goal.returns-then-i-rule_count
 unfolding kept_for
 returns-then-i-rule_count g c =
-    let v = c.args.v.now in
-    rw (lt-ltb c.args.i (rules_of v) (omega (arith, c.rule_count.ensures.0, c.if-i-rule_count.true)))
-    (c.option_at.ensures ∙ ap (λ (n : ℕ). row_at (maybe g.T.Row.codec) v (c.args.part + c.args.i * (1 + n))) c.WORDS.ensures)
+    let v = c.v.inside.words in
+    rw (← c.v.view_is) (
+      rw (lt-ltb c.args.i (rules_of v) (omega (arith, c.rule_count.ensures.0, c.if-i-rule_count.true)))
+          (c.option_at.ensures ∙ ap (λ (n : ℕ). row_at (maybe g.T.Row.codec) v (c.args.part + c.args.i * (1 + n))) c.WORDS.ensures),
+      c.v.invariant,
+    )
 
 pub returns : goal.returns
 unfolding kept_for
-returns g c = rw (le-ltb c.args.i (rules_of c.args.v.now) (omega (arith, c.rule_count.ensures.0, c.if-i-rule_count.false))) refl
+returns g c = rw (← c.v.view_is) (rw (le-ltb c.args.i (rules_of c.v.inside.words) (omega (arith, c.rule_count.ensures.0, c.if-i-rule_count.false))) refl, c.v.invariant)

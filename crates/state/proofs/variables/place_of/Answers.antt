@@ -7,7 +7,7 @@ use Rattle.state.proofs.VariableRows.{variables-lent, variable-place}
 use Rattle.state.proofs.variables.place_of.Goals as goal
 
 pub first_with-requires : goal.first_with-requires
-first_with-requires c = (holds_fits variable_row variable-laws 16 _ _ (variables-lent c.args.name _ c.requires) (omega arith) (omega arith) (omega arith), omega arith)
+first_with-requires c = (holds_fits variable_row variable-laws 16 _ _ (variables-lent c.args.name _ c.v.invariant) (omega arith) (omega arith) (omega arith), omega arith)
 
 pub returns : goal.returns
-returns c = variable-place _ _ c.requires _ c.first_with.ensures
+returns c = rw (← c.v.view_is) (variable-place _ _ c.v.invariant _ c.first_with.ensures)

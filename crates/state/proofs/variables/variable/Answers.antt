@@ -6,17 +6,17 @@ use Rattle.state.proofs.variables.variable.Goals as goal
 
 pub returns-in_err-i : goal.returns-in_err-i
 returns-in_err-i c =
-    rw (← c.v.view_is) (c.from_residual.ensures ∙ variable-absent _ _ c.v.invariant c.in_err-i.ensures)
+    c.from_residual.ensures ∙ variable-absent _ _ c.in_err-i.ensures
 
 pub overflow_mul-i : goal.overflow_mul-i
-overflow_mul-i c = omega (arith, variables-few c.args.name _ c.v.invariant, place-within _ _ c.v.invariant _ c.in_ok-i.ensures)
+overflow_mul-i c = omega (arith, variables-few c.args.name _ c.v.invariant, place-within _ _ c.v.invariant _ (rw (← c.v.view_is) at c.in_ok-i.ensures))
 
 pub overflow_add-i : goal.overflow_add-i
-overflow_add-i c = omega (arith, variables-few c.args.name _ c.v.invariant, place-within _ _ c.v.invariant _ c.in_ok-i.ensures)
+overflow_add-i c = omega (arith, variables-few c.args.name _ c.v.invariant, place-within _ _ c.v.invariant _ (rw (← c.v.view_is) at c.in_ok-i.ensures))
 
 pub at-x-requires : goal.at-x-requires
-at-x-requires c = omega (arith, variables-few c.args.name _ c.v.invariant, place-within _ _ c.v.invariant _ c.in_ok-i.ensures)
+at-x-requires c = omega (arith, variables-few c.args.name _ c.v.invariant, place-within _ _ c.v.invariant _ (rw (← c.v.view_is) at c.in_ok-i.ensures))
 
 pub returns : goal.returns
 returns c =
-    rw (← c.v.view_is) (variable-found _ _ c.v.invariant _ c.in_ok-i.ensures _ c.at-x.ensures)
+    rw (← c.v.view_is) (variable-found _ _ c.v.invariant _ (rw (← c.v.view_is) at c.in_ok-i.ensures) _ c.at-x.ensures)

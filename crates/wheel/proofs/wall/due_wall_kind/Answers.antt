@@ -18,4 +18,4 @@ loop-k-preserved c = λ img flat.
 
 pub returns : goal.returns
 returns c = λ img flat.
-    rw c.kind_if.ensures (ends (env_of _ img flat) _ _ _ _ _ _ (omega (arith, c.trigger_count-k-end.ensures)) (c.loop-k.invariant img flat))
+    rw c.no_kind.ensures (ends (env_of _ img flat) _ _ _ _ _ _ (omega (arith, c.trigger_count-k-end.ensures)) (c.loop-k.invariant img flat))

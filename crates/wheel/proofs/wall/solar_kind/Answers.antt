@@ -10,4 +10,4 @@ returns-in-Some c = λ image flat.
 
 pub returns-in-None : goal.returns-in-None
 returns-in-None c = λ image flat.
-    rw c.kind_if-in-None.ensures (no-sun (env_of _ image flat) _ _ c.args.missed _ _ (sym c.sun.ensures ∙ c.in-None.is))
+    rw c.no_kind.ensures (no-sun (env_of _ image flat) _ _ c.args.missed _ _ (sym c.sun.ensures ∙ c.in-None.is))
