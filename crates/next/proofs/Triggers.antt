@@ -1,11 +1,13 @@
 -- How many minutes on a trigger is, and a rule by its triggers. Assumes nothing.
-use mathlib.Core.Path.{◌≡◌, refl, ◌∙◌}
+use mathlib.Core.Path.{◌≡◌, refl, sym, ap, ◌∙◌}
 use mathlib.Core.Bool.{false}
 use mathlib.Core.List.{List, [], ◌∷◌, map}
 use Rattle.std.specs.Prelude.{Option, None, Some}
+use Rattle.std.specs.List.{reduce, filter_map, range_with_len}
 use Prim.Native.Nat.{ℕ, zero, suc, ◌+◌, ◌*◌, ◌%◌, min}
 use lib.Dec.{eqb}
-use lib.ListN.{get_or}
+use native.Mathlib.Omega.{arith}
+use lib.ListN.{length, get_or}
 use borrow.Author.Tests.{eq-eqb, ne_eqb}
 use Rattle.model.specs.Eval.{solar_of}
 use Rattle.model.specs.Lists.{any}
@@ -15,8 +17,9 @@ use Rattle.model.specs.declared.SunTimes.{SunTimes}
 use Rattle.model.specs.declared.Trigger.{Trigger}
 use Rattle.model.specs.declared.Trigger.TheVariants.{TimerFires, Every, AtTime, AtSolar, Other}
 use Rattle.next.specs.NextStart.{first_from, on_days, stands_at, due_in, starts_in}
-use Rattle.next.specs.Distance.{over}
-use Rattle.next.proofs.First.{never, same_first, first_any}
+use Rattle.next.specs.Distance.{within}
+use Rattle.next.proofs.First.{never, same_first}
+use Rattle.next.proofs.Least.{numbered, within-none, least-first}
 
 bit_at : (bits : List ℕ) (i : ℕ) → get_or (map is_one bits) i false ≡ eqb (get_or bits i 0) 1
 bit_at [] i = refl
@@ -24,44 +27,59 @@ bit_at (b ∷ bits) zero = refl
 bit_at (b ∷ bits) (suc i) = bit_at bits i
 
 module _ (sun : Option SunTimes) (t : ℕ) where
-  abbrev pub Takes : Trigger → ℕ → Type 0
-  Takes x r = r ≡ first_from (λ m. due_in sun t x m) 1 10080
+  -- the minutes to a trigger
+  abbrev pub minutes_to : Trigger → Option ℕ
+  minutes_to x = within (first_from (λ m. due_in sun t x m) 1 10080)
 
-  pub timer : (x : ℕ) → Takes (TimerFires x) 10081
+  at-no-time : (x : Trigger) → ((m : ℕ) → due_in sun t x m ≡ false) → None ≡ minutes_to x
+  at-no-time x h =
+      let e : 10081 ≡ first_from (λ m. due_in sun t x m) 1 10080 = never (λ m. due_in sun t x m) 1 10080 h in
+      sym (within-none 10081 (omega arith)) ∙ ap within e
+
+  pub timer : (x : ℕ) → None ≡ minutes_to (TimerFires x)
   unfolding due_in stands_at
-  timer x = never (λ m. due_in sun t (TimerFires x) m) 1 10080 (λ k. refl)
+  timer x = at-no-time (TimerFires x) (λ k. refl)
 
-  pub slot : (ms : ℕ) → Takes (Every ms) 10081
+  pub slot : (ms : ℕ) → None ≡ minutes_to (Every ms)
   unfolding due_in stands_at
-  slot ms = never (λ m. due_in sun t (Every ms) m) 1 10080 (λ k. refl)
+  slot ms = at-no-time (Every ms) (λ k. refl)
 
-  pub other : Takes Other 10081
+  pub other : None ≡ minutes_to Other
   unfolding due_in stands_at
-  other = never (λ m. due_in sun t Other m) 1 10080 (λ k. refl)
+  other = at-no-time Other (λ k. refl)
 
-  pub at-time : (h minute days : ℕ) {r : ℕ} → r ≡ first_from (λ m. on_days ((t + m) % 10080) days (h * 60 + minute)) 1 10080 → Takes (AtTime h minute days) r
+  pub at-time : (h minute days : ℕ) {r : Option ℕ} → r ≡ within (first_from (λ m. on_days ((t + m) % 10080) days (h * 60 + minute)) 1 10080) → r ≡ minutes_to (AtTime h minute days)
   unfolding due_in stands_at
   at-time h minute days e = e
 
-  pub at-sun : (event offset : ℕ) {s : SunTimes} {r : ℕ} → sun ≡ Some s → r ≡ first_from (λ m. on_days ((t + m) % 10080) 127 (solar_of s event offset)) 1 10080 → Takes (AtSolar event offset) r
+  pub at-sun : (event offset : ℕ) {s : SunTimes} {r : Option ℕ} → sun ≡ Some s → r ≡ within (first_from (λ m. on_days ((t + m) % 10080) 127 (solar_of s event offset)) 1 10080) → r ≡ minutes_to (AtSolar event offset)
   unfolding due_in stands_at
   at-sun event offset h e = rw h e
 
-  pub no-sun : (event offset : ℕ) → sun ≡ None → Takes (AtSolar event offset) 10081
+  pub no-sun : (event offset : ℕ) → sun ≡ None → None ≡ minutes_to (AtSolar event offset)
   unfolding due_in stands_at
-  no-sun event offset h = never (λ m. due_in sun t (AtSolar event offset) m) 1 10080 (λ k. rw h)
+  no-sun event offset h = at-no-time (AtSolar event offset) (λ k. rw h)
 
   -- a rule whose word is not 1, and one whose word is
   module _ (img bits : List ℕ) (i : ℕ) where
-    pub off : (get_or bits i 0 ≡ 1 → ⊥) → 10081 ≡ first_from (starts_in img (map is_one bits) sun t i) 1 10080
+    abbrev pub minutes_of : Option ℕ
+    minutes_of = within (first_from (starts_in img (map is_one bits) sun t i) 1 10080)
+
+    pub off : (get_or bits i 0 ≡ 1 → ⊥) → None ≡ minutes_of
     unfolding starts_in
-    off h = never (starts_in img (map is_one bits) sun t i) 1 10080 (λ k. rw (bit_at bits i ∙ ne_eqb (get_or bits i 0) 1 h))
+    off h =
+        let e : 10081 ≡ first_from (starts_in img (map is_one bits) sun t i) 1 10080 = never (starts_in img (map is_one bits) sun t i) 1 10080 (λ k. rw (bit_at bits i ∙ ne_eqb (get_or bits i 0) 1 h)) in
+        sym (within-none 10081 (omega arith)) ∙ ap within e
 
     pub on :
-        get_or bits i 0 ≡ 1 → {r : ℕ} → r ≡ over (λ x y. min (first_from (λ m. due_in sun t x m) 1 10080) y) 10081 (triggers_of img i) →
-        r ≡ first_from (starts_in img (map is_one bits) sun t i) 1 10080
+        get_or bits i 0 ≡ 1 → (n : ℕ) → n ≡ length (triggers_of img i) →
+        reduce min (filter_map (λ k. minutes_to (get_or (triggers_of img i) k Other)) (range_with_len 0 n)) ≡ minutes_of
     unfolding starts_in
-    on h e =
-        e ∙ first_any (due_in sun t) 1 10080 (triggers_of img i)
-        ∙ same_first (λ m. any (λ x. due_in sun t x m) (triggers_of img i)) (starts_in img (map is_one bits) sun t i) 1 10080
-        (λ k. rw (bit_at bits i ∙ eq-eqb (get_or bits i 0) 1 h))
+    on h n long =
+        let places = λ (k : ℕ). minutes_to (get_or (triggers_of img i) k Other) in
+        ap (λ (m : ℕ). reduce min (filter_map places (range_with_len 0 m))) long
+        ∙ ap (reduce min) (numbered places minutes_to Other 0 (triggers_of img i) (λ k j e l. let q : j ≡ k = omega arith in ap places q))
+        ∙ least-first (due_in sun t) (triggers_of img i)
+        ∙ ap within
+        (same_first (λ m. any (λ x. due_in sun t x m) (triggers_of img i)) (starts_in img (map is_one bits) sun t i) 1 10080
+        (λ k. rw (bit_at bits i ∙ eq-eqb (get_or bits i 0) 1 h)))

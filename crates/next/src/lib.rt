@@ -1,5 +1,5 @@
-// What starts next by the wall clock, from a minute of the week on: document 02, request 7. How many minutes on each trigger is, and
-// the least of them: no minute is asked for by itself.
+// What starts next by the wall clock, from a minute of the week on: document 02, request 7. How many minutes on each trigger is, where it
+// is one within a week, and the least of them: no minute is asked for by itself.
 #![tactic(auto)]
 
 ghost use Rattle.std.specs.Prelude.{◌≡◌, map, ◌+◌, ◌*◌, ◌%◌, ◌<◌, ◌≤◌, eqb};
@@ -11,14 +11,14 @@ ghost use Rattle.model.specs.World.{is_one};
 ghost use Rattle.model.specs.declared.Trigger.TheVariants as trigger;
 ghost use Rattle.image.specs.Accepted.{Accepted};
 ghost use Rattle.next.specs.NextStart.{on_days, due_in, starts_in, first_from, next_from};
-ghost use Rattle.next.specs.Distance.{day_ahead, better, best_of};
+ghost use Rattle.next.specs.Distance.{within, day_ahead, start_of, best_of};
 ghost use Rattle.next.specs.Facts.{accepted-prop};
 
 use eval::time::{has_day, solar_minute};
 use image::layout::{Image, Table};
 use model::Trigger;
 
-// kept: three answers, where an Option has two.
+// kept: no Option, as it would be no plainer: there are three answers, and an unknown clock is neither a start nor none.
 #[derive(Clone, Copy)]
 pub enum NextStart {
     NoStart,
@@ -27,7 +27,7 @@ pub enum NextStart {
     Start(u32, u32),
 }
 
-// The least minutes so far, and the lowest name of a rule that starts then. The order is by the minutes, and then by the name.
+// In how many minutes a rule starts, and its name. The order is by the minutes, and then by the name.
 #[derive(Clone, Copy, PartialEq, Eq, PartialOrd, Ord)]
 struct Best {
     minutes: u32,
@@ -48,21 +48,11 @@ struct Asked<'a> {
 
 const WEEK: u32 = 10080;
 
-// A minute more than the last that is asked for.
-// kept: the specification's `first_from` answers it where no minute passes, so that the least of two needs no case.
-const NEVER: u32 = 10081;
-
-// The earlier of two starts, and of two in one minute the one of the lower name.
-fn earlier(minutes: u32, name: u32, best: Best) -> Best
-    ensures { result ≡ better minutes name best }
-{
-    Best { minutes, name }.min(best)
-}
-
 impl Asked<'_> {
     // To a minute of the week, at least 1 and at most a week.
     fn minutes_to(&self, target: u64) -> u32
-        ensures { result ≡ first_from (λ m. eqb (target % 10080) ((self.now.t + m) % 10080)) 1 10080 }
+        ensures first { result ≡ first_from (λ m. eqb (target % 10080) ((self.now.t + m) % 10080)) 1 10080 }
+        ensures in_week { result ≤ 10080 }
     {
         let minute = (target % 10080) as u32;
         if self.t < minute {
@@ -73,78 +63,75 @@ impl Asked<'_> {
     }
 
     // To a minute of one day, where the day is in the set.
-    fn day_minutes(&self, days: u32, minute: u64, day: u32) -> u32
+    fn day_minutes(&self, days: u32, minute: u64, day: u32) -> Option<u32>
         requires { (minute ≤ 61 * max32) × (day < 7) }
-        ensures { result ≡ first_from (λ m. day_ahead self.now.t days minute day m) 1 10080 }
+        ensures { result ≡ within (first_from (λ m. day_ahead self.now.t days minute day m) 1 10080) }
     {
-        if has_day(days, day) {
-            return self.minutes_to(day as u64 * 1440 + minute);
+        if !has_day(days, day) {
+            return None;
         }
-        NEVER
+        Some(self.minutes_to(day as u64 * 1440 + minute))
     }
 
     // To a minute of these days.
-    fn days_minutes(&self, days: u32, minute: u64) -> u32
+    fn days_minutes(&self, days: u32, minute: u64) -> Option<u32>
         requires { minute ≤ 61 * max32 }
-        ensures { result ≡ first_from (λ m. on_days ((self.now.t + m) % 10080) days minute) 1 10080 }
+        ensures { result ≡ within (first_from (λ m. on_days ((self.now.t + m) % 10080) days minute) 1 10080) }
     {
-        let mut best = NEVER;
-        for day in (0..7).rev() {
-            best = self.day_minutes(days, minute, day).min(best);
-        }
-        best
+        (0..7)
+            .filter_map(|day| self.day_minutes(days, minute, day))
+            .min()
     }
 
-    fn solar_minutes(&self, event: u32, offset_ms: u32) -> u32
-        ensures { result ≡ first_from (λ m. due_in self.now.sun self.now.t (trigger.AtSolar event offset_ms) m) 1 10080 }
+    fn solar_minutes(&self, event: u32, offset_ms: u32) -> Option<u32>
+        ensures { result ≡ within (first_from (λ m. due_in self.now.sun self.now.t (trigger.AtSolar event offset_ms) m) 1 10080) }
     {
-        match self.sun {
-            Some(s) => self.days_minutes(127, solar_minute(s, event, offset_ms) as u64),
-            None => NEVER,
-        }
+        let sun = self.sun?;
+        self.days_minutes(127, solar_minute(sun, event, offset_ms) as u64)
     }
 
-    fn trigger_minutes(&self, trigger: Trigger) -> u32
-        ensures { result ≡ first_from (λ m. due_in self.now.sun self.now.t trigger m) 1 10080 }
+    fn trigger_minutes(&self, trigger: Trigger) -> Option<u32>
+        ensures { result ≡ within (first_from (λ m. due_in self.now.sun self.now.t trigger m) 1 10080) }
     {
         match trigger {
-            Trigger::TimerFires { timer } => NEVER,
-            Trigger::Every { period_ms } => NEVER,
             Trigger::AtTime { hour, minute, days } => {
                 self.days_minutes(days, hour as u64 * 60 + minute as u64)
             }
             Trigger::AtSolar { event, offset_ms } => self.solar_minutes(event, offset_ms),
-            Trigger::Other => NEVER,
+            Trigger::TimerFires { .. } | Trigger::Every { .. } | Trigger::Other => None,
         }
     }
 
     // To the first start of rule i, which has none while its bit is not set.
-    fn rule_minutes(&self, i: u32) -> u32
+    fn rule_minutes(&self, i: u32) -> Option<u32>
         requires { i < size_of self.now.image.now rules }
-        ensures { result ≡ first_from (starts_in self.now.image.now (map is_one self.now.bits.now) self.now.sun self.now.t i) 1 10080 }
+        ensures { result ≡ within (first_from (starts_in self.now.image.now (map is_one self.now.bits.now) self.now.sun self.now.t i) 1 10080) }
     {
         if fields::word(self.bits, i as usize) != 1 {
-            return NEVER;
+            return None;
         }
-        let mut best = NEVER;
-        for k in (0..self.image.trigger_count(i)).rev() {
-            best = self.trigger_minutes(self.image.trigger_at(i, k)).min(best);
-        }
-        best
+        (0..self.image.trigger_count(i))
+            .filter_map(|k| self.trigger_minutes(self.image.trigger_at(i, k)))
+            .min()
     }
 
-    // The earliest start of all rules.
-    fn earliest(&self) -> Best
+    // The first start of rule i, with its name.
+    fn rule_start(&self, i: u32) -> Option<Best>
+        requires { i < size_of self.now.image.now rules }
+        ensures { result ≡ start_of self.now.image.now (map is_one self.now.bits.now) self.now.sun self.now.t i }
+    {
+        let minutes = self.rule_minutes(i)?;
+        let name = self.image.name_of(i);
+        Some(Best { minutes, name })
+    }
+
+    // The earliest start of all rules, and of those in one minute the one of the lowest name.
+    fn earliest(&self) -> Option<Best>
         ensures { result ≡ best_of self.now.image.now (map is_one self.now.bits.now) self.now.sun self.now.t }
     {
-        let mut best = Best {
-            minutes: NEVER,
-            name: 0,
-        };
-        for i in (0..self.image.size_of(Table::Rules)).rev() {
-            best = earlier(self.rule_minutes(i), self.image.name_of(i), best);
-        }
-        best
+        (0..self.image.size_of(Table::Rules))
+            .filter_map(|i| self.rule_start(i))
+            .min()
     }
 }
 
@@ -159,9 +146,8 @@ pub fn next_from(image: &Image, bits: &[u32], sun: Option<model::SunTimes>, t: u
         sun,
         t,
     };
-    let best = asked.earliest();
-    if best.minutes < NEVER {
-        return NextStart::Start(best.minutes, best.name);
+    match asked.earliest() {
+        Some(best) => NextStart::Start(best.minutes, best.name),
+        None => NextStart::NoStart,
     }
-    NextStart::NoStart
 }

@@ -1,9 +1,10 @@
 -- `next::next_from` meets its contract. Assumes nothing.
+use mathlib.Core.Path.{sym, ◌∙◌}
 use Rattle.next.proofs.Answer.{starts, nothing}
 use Rattle.next.proofs.next_from.Goals as goal
 
-pub returns-then-best-lt-NEVER : goal.returns-then-best-lt-NEVER
-returns-then-best-lt-NEVER c = starts _ _ _ _ c.earliest-best.ensures c.if-best-lt-NEVER.true
+pub returns-in-Some : goal.returns-in-Some
+returns-in-Some c = starts _ _ _ _ (sym c.in-Some.is ∙ c.earliest.ensures)
 
-pub returns : goal.returns
-returns c = nothing _ _ _ _ c.earliest-best.ensures c.if-best-lt-NEVER.false
+pub returns-in-None : goal.returns-in-None
+returns-in-None c = nothing _ _ _ _ (sym c.in-None.is ∙ c.earliest.ensures)

@@ -1,8 +1,14 @@
 -- `next::Asked::rule_minutes` meets its contract. Assumes nothing.
-use mathlib.Core.Path.{refl, sym, ◌∙◌}
-use native.Mathlib.Omega.{arith}
-use Rattle.next.proofs.Down.{starts, goes, ends}
-use Rattle.next.proofs.Triggers.{off, on}
+use mathlib.Core.Path.{sym, ◌∙◌}
+use native.Mathlib.Nat.{sub-zero}
+use Rattle.std.proofs.Common.{rules}
+use Rattle.std.proofs.lemmas.Iterator.{YieldsList-from_range}
+use Rattle.std.proofs.lemmas.Iterator.Adapters.{option_map_id}
+use Rattle.std.proofs.lemmas.Iterator.Consumers.{YieldsList-from_filter_map, min_from_yields_List}
+use lib.ListN.{get_or}
+use Rattle.model.specs.Rules.{triggers_of}
+use Rattle.model.specs.declared.Trigger.TheVariants.{Other}
+use Rattle.next.proofs.Triggers.{minutes_to, off, on}
 use Rattle.next.proofs.Asked.rule_minutes.Goals as goal
 
 pub returns-then-word-ne1 : goal.returns-then-word-ne1
@@ -10,14 +16,10 @@ returns-then-word-ne1 c =
     let s = c.args.self.now in
     off s.sun s.t s.image.now s.bits.now c.args.i (λ e. c.if-word-ne1.true (c.word.ensures ∙ e))
 
-pub loop-k-init : goal.loop-k-init
-loop-k-init c = starts _ _ _ _ c.trigger_count-k.ensures
-
-pub loop-k-preserved : goal.loop-k-preserved
-loop-k-preserved c =
-    goes _ _ _ _ _ refl (omega arith) (omega (arith, c.trigger_count-k.ensures)) c.loop-k.invariant c.trigger_at.ensures (rw c.trigger_minutes.ensures at c.min-best.ensures)
-
 pub returns : goal.returns
 returns c =
     let s = c.args.self.now in
-    on _ _ _ s.bits.now _ (sym c.word.ensures ∙ c.if-word-ne1.false) (ends _ _ _ _ (omega arith) c.loop-k.invariant)
+    let n = c.trigger_count.result in
+    sym (option_map_id _)
+    ∙ min_from_yields_List c.filter_map.result _ c.min.ensures.ran (YieldsList-from_filter_map _ (λ k. minutes_to s.sun s.t (get_or (triggers_of s.image.now c.args.i) k Other)) (YieldsList-from_range 0 n n c.filter_map.ensures.source (sub-zero n)) c.filter_map.ensures.closure (λ x r q k. search rules))
+    ∙ on s.sun s.t s.image.now s.bits.now c.args.i (sym c.word.ensures ∙ c.if-word-ne1.false) n c.trigger_count.ensures

@@ -1,10 +1,10 @@
 -- `next::Asked::solar_minutes` meets its contract. Assumes nothing.
+use mathlib.Core.Path.{◌∙◌}
 use Rattle.next.proofs.Triggers.{at-sun, no-sun}
 use Rattle.next.proofs.Asked.solar_minutes.Goals as goal
 
-pub returns-in-Some : goal.returns-in-Some
-returns-in-Some c =
-    at-sun _ _ _ _ c.in-Some.is (rw c.solar_minute.ensures at c.days_minutes.ensures)
+pub returns-in_err-sun : goal.returns-in_err-sun
+returns-in_err-sun c = c.from_residual.ensures ∙ no-sun _ _ _ _ c.in_err-sun.was
 
-pub returns-in-None : goal.returns-in-None
-returns-in-None c = no-sun _ _ _ _ c.in-None.is
+pub returns : goal.returns
+returns c = at-sun _ _ _ _ c.in_ok-sun.was (rw c.solar_minute.ensures at c.days_minutes.ensures)
