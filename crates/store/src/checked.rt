@@ -35,7 +35,7 @@ impl<'a> Checked<'a> {
     ghost use Rattle.store.specs.Refused.{refusal_of};
 
     // The words, where they are those of a store; else why not.
-    #[tactic(auto, using(crate::proofs::Refused::no_length, crate::proofs::Refused::no_rule))]
+    #[tactic(auto, using(crate::proofs::Refused::no_length))]
     pub fn of(words: &'a [u32]) -> Result<Checked<'a>, Refusal>
         ensures number { refusal_number result ≡ refusal_of (read words.now) words.now }
         ensures value { IfOk result (λ store. read words.now ≡ Some store) }
