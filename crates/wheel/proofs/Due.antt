@@ -20,8 +20,7 @@ use Rattle.model.specs.declared.Pending.{Pending}
 use Rattle.model.proofs.Bools.{both}
 use Rattle.model.proofs.SortLaws.{all_keep, all-sort, all_map}
 use Rattle.model.proofs.DueIndices.{due_below, records-due}
-use Rattle.state.specs.Meaning.{Sound, meaning}
-use Rattle.state.proofs.Records.{pending-length, records-few}
+use Rattle.state.specs.Meaning.{meaning}
 use Rattle.store.specs.Volatile.{record_in}
 use Rattle.store.proofs.KeptRows.{record-kept}
 use Rattle.image.proofs.Accepted.{budget-fits}

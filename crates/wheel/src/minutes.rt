@@ -30,27 +30,36 @@ pub fn cyclic_dist(from: u64, to: u64) -> u64
     (end - from) % WEEK_MINUTES
 }
 
-// Behind the base, and no further than the window.
-pub fn in_window(base: u64, window: u64, target: u64) -> bool
-    requires { target ≤ 100 * max32 }
-    ensures { result ≡ in_window base window target }
-{
-    let dist = cyclic_dist(base, target);
-    1 <= dist && dist <= window
+// The minutes that a tick looks at: those behind the base, so many at most.
+#[derive(Clone, Copy)]
+pub struct Window {
+    pub base: u64,
+    pub window: u64,
 }
 
-// A minute of one day is due.
-fn day_due(base: u64, window: u64, days: u32, minute: u64, day: u32) -> bool
-    requires { (minute ≤ 61 * max32) × (day < 7) }
-    ensures { result ≡ day_due base window days minute day }
-{
-    eval::time::has_day(days, day) && in_window(base, window, day as u64 * DAY_MINUTES + minute)
-}
+impl Window {
+    // Behind the base, and no further than the window.
+    pub fn in_window(self, target: u64) -> bool
+        requires { target ≤ 100 * max32 }
+        ensures { result ≡ in_window self.base self.window target }
+    {
+        let dist = cyclic_dist(self.base, target);
+        1 <= dist && dist <= self.window
+    }
 
-// A minute of these days is due.
-pub fn minute_due(base: u64, window: u64, days: u32, minute: u64) -> bool
-    requires { minute ≤ 61 * max32 }
-    ensures { result ≡ minute_due base window days minute }
-{
-    (0..7).any(|day| day_due(base, window, days, minute, day))
+    // A minute of one day is due.
+    fn day_due(self, days: u32, minute: u64, day: u32) -> bool
+        requires { (minute ≤ 61 * max32) × (day < 7) }
+        ensures { result ≡ day_due self.base self.window days minute day }
+    {
+        eval::time::has_day(days, day) && self.in_window(day as u64 * DAY_MINUTES + minute)
+    }
+
+    // A minute of these days is due.
+    pub fn minute_due(self, days: u32, minute: u64) -> bool
+        requires { minute ≤ 61 * max32 }
+        ensures { result ≡ minute_due self.base self.window days minute }
+    {
+        (0..7).any(|day| self.day_due(days, minute, day))
+    }
 }

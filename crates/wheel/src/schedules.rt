@@ -14,7 +14,7 @@ ghost use Rattle.wheel.specs.Tick.{Fires, count_missed, remembering, without_wal
 ghost use Rattle.wheel.specs.Wall.{number_if};
 ghost use Rattle.wheel.specs.Turns.{Turns};
 
-use crate::minutes::{WEEK_MINUTES, cyclic_dist, in_window, week_minute};
+use crate::minutes::{WEEK_MINUTES, Window, cyclic_dist, week_minute};
 use crate::rules::activate_rule;
 use crate::wall::{due_wall_kind, has_wall_triggers};
 use crate::{Env, Rule};
@@ -31,7 +31,7 @@ const CATCH_UP_MINUTES: u64 = 60;
 const SET_BACK_MINUTES: u64 = 120;
 
 // A rule's turn: what was done so far, and whether a sun was missed so far.
-// kept: both say something in every turn, so that neither is an Option.
+// kept: the two belong to every turn, and neither says whether the other is there, so that an Option of one would say no more.
 #[derive(Clone, Copy)]
 pub struct WallTurn {
     pub handled: Handled,
@@ -62,18 +62,17 @@ fn wall_turn(
     effects: &mut [u32],
     v: &mut State,
     x: Handled,
-    base: u64,
-    window: u64,
+    window: Window,
     missed: bool,
 ) -> WallTurn
     requires { Room 1 (carried v.old x) }
-    ensures { Turns (env_of rule.now.env.now) base window rule.now.i missed (carried v.old x) outcomes.old effects.old v.new result outcomes.new effects.new }
+    ensures { Turns (env_of rule.now.env.now) window.base window.window rule.now.i missed (carried v.old x) outcomes.old effects.old v.new result outcomes.new effects.new }
 {
     if !is_enabled(v, rule.i as usize) {
         return WallTurn { handled: x, missed };
     }
     let env = rule.env;
-    let w = due_wall_kind(env.snapshot, env.image, base, window, rule.i, missed);
+    let w = due_wall_kind(env.snapshot, env.image, window, rule.i, missed);
     let kind = w.kind;
     let handled = start_wall(rule, outcomes, effects, v, x, kind);
     WallTurn {
@@ -97,17 +96,16 @@ fn fire_due_wall_rules(
     effects: &mut [u32],
     v: &mut State,
     x: Handled,
-    base: u64,
-    window: u64,
+    window: Window,
 ) -> Handled
     requires { Room 64 (carried v.old x) }
-    ensures { Fires 64 (fire_due_wall_rules (env_of env.now) base window false (name_order env.now.image.now)) (carried v.old x) outcomes.old effects.old (carried v.new result) outcomes.new effects.new }
+    ensures { Fires 64 (fire_due_wall_rules (env_of env.now) window.base window.window false (name_order env.now.image.now)) (carried v.old x) outcomes.old effects.old (carried v.new result) outcomes.new effects.new }
 {
     let mut h = x;
     let mut missed = false;
     for i in env.order {
         let rule = Rule { env, i: *i };
-        let turn = wall_turn(&rule, outcomes, effects, v, h, base, window, missed);
+        let turn = wall_turn(&rule, outcomes, effects, v, h, window, missed);
         h = turn.handled;
         missed = turn.missed;
     }
@@ -126,7 +124,11 @@ fn window_of(prev: u64, minute: u64) -> u64
 fn is_set_back(prev: u32, minute: u64) -> bool
     ensures { result ≡ is_set_back prev minute }
 {
-    in_window(minute, SET_BACK_MINUTES, prev as u64)
+    let behind = Window {
+        base: minute,
+        window: SET_BACK_MINUTES,
+    };
+    behind.in_window(prev as u64)
 }
 
 fn fire_window(
@@ -148,7 +150,7 @@ fn fire_window(
         return x;
     }
     let base = (minute + WEEK_MINUTES - window) % WEEK_MINUTES;
-    fire_due_wall_rules(env, outcomes, effects, v, x, base, window)
+    fire_due_wall_rules(env, outcomes, effects, v, x, Window { base, window })
 }
 
 fn remember(v: &mut State, minute: u32)

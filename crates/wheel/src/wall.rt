@@ -9,14 +9,14 @@ ghost use Rattle.image.specs.Accepted.{Accepted};
 ghost use Rattle.state.specs.Meaning.{meaning};
 ghost use Rattle.wheel.specs.Wall.{kind_if, no_kind, Kind, KindAnywhere, enabled_wall};
 
-use crate::minutes::minute_due;
+use crate::minutes::Window;
 use image::layout::{Image, Table};
 use model::{Trigger, TriggerKind};
 use state::State;
 use state::rules::is_enabled;
 
 // The kind of the first due trigger, and whether a sun was asked for that is not known.
-// kept: `unsynced` says no kind that is missing: a trigger can be due where an earlier one missed the sun, as the specification's record has it.
+// kept: no Option or Result says both: a trigger can be due where one before it missed the sun. The specification's record has the same two fields.
 #[derive(Clone, Copy)]
 pub struct WallKind {
     pub kind: Option<TriggerKind>,
@@ -27,8 +27,10 @@ pub struct WallKind {
 fn kind_if(due: bool, kind: TriggerKind, unsynced: bool) -> WallKind
     ensures { result ≡ kind_if due kind unsynced }
 {
-    let kind = if due { Some(kind) } else { None };
-    WallKind { kind, unsynced }
+    WallKind {
+        kind: due.then_some(kind),
+        unsynced,
+    }
 }
 
 fn no_kind(unsynced: bool) -> WallKind
@@ -43,77 +45,60 @@ fn no_kind(unsynced: bool) -> WallKind
 // A trigger that is due at a minute of the day, as the sun has it.
 fn solar_kind(
     snapshot: &[u32],
-    base: u64,
-    window: u64,
+    window: Window,
     event: u32,
     offset_ms: u32,
     missed: bool,
 ) -> WallKind
-    ensures { Kind snapshot.now base window missed (trigger.AtSolar event offset_ms ∷ []) result }
+    ensures { Kind snapshot.now window.base window.window missed (trigger.AtSolar event offset_ms ∷ []) result }
 {
     match world::sun(snapshot) {
         Some(t) => {
             let minute = eval::time::solar_minute(t, event, offset_ms) as u64;
-            kind_if(
-                minute_due(base, window, 127, minute),
-                TriggerKind::AtSolar,
-                missed,
-            )
+            kind_if(window.minute_due(127, minute), TriggerKind::AtSolar, missed)
         }
         None => no_kind(true),
     }
 }
 
-fn time_kind(base: u64, window: u64, hour: u32, minute: u32, days: u32, missed: bool) -> WallKind
-    ensures { KindAnywhere base window missed (trigger.AtTime hour minute days ∷ []) result }
+fn time_kind(window: Window, hour: u32, minute: u32, days: u32, missed: bool) -> WallKind
+    ensures { KindAnywhere window.base window.window missed (trigger.AtTime hour minute days ∷ []) result }
 {
     let minute = hour as u64 * 60 + minute as u64;
-    kind_if(
-        minute_due(base, window, days, minute),
-        TriggerKind::AtTime,
-        missed,
-    )
+    kind_if(window.minute_due(days, minute), TriggerKind::AtTime, missed)
 }
 
 // What one trigger gives, where a sun was missed before it or not.
-fn trigger_kind(
-    snapshot: &[u32],
-    base: u64,
-    window: u64,
-    trigger: Trigger,
-    missed: bool,
-) -> WallKind
-    ensures { Kind snapshot.now base window missed (trigger ∷ []) result }
+fn trigger_kind(snapshot: &[u32], window: Window, trigger: Trigger, missed: bool) -> WallKind
+    ensures { Kind snapshot.now window.base window.window missed (trigger ∷ []) result }
 {
     match trigger {
         Trigger::TimerFires { timer } => no_kind(missed),
         Trigger::Every { period_ms } => no_kind(missed),
-        Trigger::AtTime { hour, minute, days } => time_kind(
-            base, window, hour, minute, days, missed,
-        ),
+        Trigger::AtTime { hour, minute, days } => time_kind(window, hour, minute, days, missed),
         Trigger::AtSolar { event, offset_ms } => solar_kind(
-            snapshot, base, window, event, offset_ms, missed,
+            snapshot, window, event, offset_ms, missed,
         ),
         Trigger::Other => no_kind(missed),
     }
 }
 
 // What the triggers of rule i give.
+// kept: a sun that one trigger misses goes into what the next one gives, so that this is no `find_map`, whose turns know nothing of each other.
 pub fn due_wall_kind(
     snapshot: &[u32],
     image: &Image,
-    base: u64,
-    window: u64,
+    window: Window,
     i: u32,
     missed: bool,
 ) -> WallKind
     requires { Accepted image.now × (i < size_of image.now rules) }
-    ensures { Kind snapshot.now base window missed (triggers_of image.now i) result }
+    ensures { Kind snapshot.now window.base window.window missed (triggers_of image.now i) result }
 {
     let mut unsynced = missed;
     for k in 0..image.trigger_count(i) {
         let trigger = image.trigger_at(i, k);
-        let w = trigger_kind(snapshot, base, window, trigger, unsynced);
+        let w = trigger_kind(snapshot, window, trigger, unsynced);
         if w.kind.is_some() {
             return w;
         }

@@ -6,4 +6,4 @@ use Rattle.wheel.proofs.schedules.fire_due_wall_rules.Given as goal
 
 abbrev pub invariant-loop-i : goal.invariant-loop-i
 invariant-loop-i l =
-    Turning (tick_env l.env.snapshot.now l.env.image.now) l.base l.window l.env.order.now (carried l.initial.v l.initial.h) l.initial.outcomes l.initial.effects l.missed l.i-index (carried l.v l.h) l.outcomes l.effects
+    Turning (tick_env l.env.snapshot.now l.env.image.now) l.window.base l.window.window l.env.order.now (carried l.initial.v l.initial.h) l.initial.outcomes l.initial.effects l.missed l.i-index (carried l.v l.h) l.outcomes l.effects

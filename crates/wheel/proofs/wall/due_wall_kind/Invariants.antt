@@ -9,4 +9,4 @@ use Rattle.wheel.proofs.wall.due_wall_kind.Given as goal
 
 abbrev pub invariant-loop-k : goal.invariant-loop-k
 invariant-loop-k l =
-    (img : List ℕ) (flat : List (List FlatStep)) → Left (env_of l.snapshot img flat) l.base l.window (triggers_of l.image l.i) l.missed l.k l.unsynced
+    (img : List ℕ) (flat : List (List FlatStep)) → Left (env_of l.snapshot img flat) l.window.base l.window.window (triggers_of l.image l.i) l.missed l.k l.unsynced

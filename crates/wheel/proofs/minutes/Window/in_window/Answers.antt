@@ -1,6 +1,6 @@
--- `wheel::minutes::in_window` meets its contract. Assumes nothing.
+-- `wheel::minutes::Window::in_window` meets its contract. Assumes nothing.
 use Rattle.wheel.proofs.Windows.{behind, at_base}
-use Rattle.wheel.proofs.minutes.in_window.Goals as goal
+use Rattle.wheel.proofs.minutes.Window.in_window.Goals as goal
 
 pub returns-then-dist-ge1 : goal.returns-then-dist-ge1
 returns-then-dist-ge1 c = behind _ _ _ c.cyclic_dist-dist.ensures c.if-dist-ge1.true
