@@ -7,8 +7,9 @@ ghost use Rattle.state.specs.Meaning.{meaning};
 ghost use Rattle.activate.specs.Decisions.{InCooldownIs, Decides};
 
 use crate::Mode;
-use eval::Env;
 use eval::conditions::conditions_hold;
+use exec::Env;
+use state::State;
 
 // kept: four ways to go on, of which three count something of their own; a Result with three errors would be matched in the same four arms
 #[derive(Clone, Copy)]
@@ -20,7 +21,7 @@ pub enum Decision {
 }
 
 #[tactic(auto, unfolding(model::specs::Activate::in_cooldown, words::specs::Saturating::saturating_sub))]
-fn in_cooldown(env: &Env, i: u32) -> bool
+fn in_cooldown(env: &eval::Env, i: u32) -> bool
     ensures { InCooldownIs env.now.snapshot.now env.now.image.now i (meaning env.now.state.now).rest result }
 {
     let Some(last) = state::rules::last_activation(env.state, i as usize) else {
@@ -32,14 +33,16 @@ fn in_cooldown(env: &Env, i: u32) -> bool
 
 // Only an automatic activation waits for the cooldown.
 #[tactic(auto, unfolding(model::specs::Activate::decide))]
-pub fn decide(env: &Env, i: u32, mode: Mode) -> Decision
-    requires { Accepted env.now.image.now × (i < size_of env.now.image.now rules) }
-    ensures { Decides env.now.snapshot.now env.now.image.now i mode (meaning env.now.state.now).rest result }
+pub fn decide(env: &Env, v: &State, mode: Mode) -> Decision
+    requires { Accepted env.now.image.now × (env.now.job.index < size_of env.now.image.now rules) }
+    ensures { Decides env.now.snapshot.now env.now.image.now env.now.job.index mode (meaning v.now).rest result }
 {
-    if mode.is_auto() && in_cooldown(env, i) {
+    let i = env.job.index;
+    let given = env.given(v);
+    if mode.is_auto() && in_cooldown(&given, i) {
         return Decision::InCooldown;
     }
-    match conditions_hold(env, i) {
+    match conditions_hold(&given, i) {
         Some(true) => Decision::Begins,
         Some(false) => Decision::Rejected,
         None => Decision::Unevaluable,

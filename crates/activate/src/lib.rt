@@ -101,12 +101,7 @@ pub fn activate(
         image,
         job,
     };
-    let given = eval::Env {
-        snapshot,
-        image,
-        state: v,
-    };
-    match decide::decide(&given, i, mode) {
+    match decide::decide(&env, v, mode) {
         Decision::Begins => execute::execute(&env, &rule, outcomes, effects, v, x),
         Decision::InCooldown => {
             state::bump(v, Counter::SuppressedCooldown, 1);

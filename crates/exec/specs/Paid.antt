@@ -46,3 +46,10 @@ module _ (snapshot image : List ℕ) where
 
 abbrev pub StepsAt : List ℕ → Job → List ℕ → ℕ → Point → Step → StepDone → Type 0
 StepsAt snapshot j v b sp x r = (image : List ℕ) → StepsIn snapshot image j v b sp x r
+
+-- a continuation of a job to a point is scheduled, in every environment of a snapshot
+abbrev pub SchedulesOf : List ℕ → Job → List ℕ → ℕ → ℕ → Point → List ℕ → ℕ → Type 0
+SchedulesOf snapshot j v b ms to r reason =
+    (image : List ℕ) (flat : List (List FlatStep)) →
+    let s = model.schedule (env_of snapshot image flat) (job_of j) b ms to (meaning v) in
+    Means r (base v) s.vol × (reason ≡ s.reason)

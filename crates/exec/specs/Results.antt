@@ -55,7 +55,10 @@ Assigns j v name value r = (e : Env) → Does v r (model.var_set e (job_of j) (m
 abbrev pub Adds : Job → List ℕ → ℕ → Option ℤ → Option VarValue → ActionDone → Type 0
 Adds j v name step held r = (e : Env) → Does v r (model.var_add e (job_of j) (meaning v).rest name step held)
 
--- the level of value i
+-- value i, and its level
+abbrev pub ValueAt : List ℕ → List ℕ → Rest → ℕ → Option ℤ → Type 0
+ValueAt snapshot image s i r = (flat : List (List FlatStep)) → r ≡ value_at (env_of snapshot image flat) s i
+
 abbrev pub LevelAt : List ℕ → List ℕ → Rest → ℕ → Option ℕ → Type 0
 LevelAt snapshot image s i r = (flat : List (List FlatStep)) → r ≡ model.level_at (value_at (env_of snapshot image flat) s i)
 

@@ -16,11 +16,15 @@ pub mod steps;
 mod timers;
 mod variables;
 
+ghost use Rattle.std.specs.Prelude.{◌≡◌};
 ghost use Rattle.image.specs.Sized.{Sized};
+ghost use Rattle.state.specs.Meaning.{meaning};
 ghost use Rattle.exec.specs.Lists.{NearLists};
+ghost use Rattle.exec.specs.Results.{ValueAt};
 
 use image::layout::Image;
 use model::{Effect, Point};
+use state::State;
 use state::reasons::Reason;
 
 // What a run knows of its rule: name, place in the image, hold_hcl; and the trigger and the activation number for the outcome, 0 for none.
@@ -42,6 +46,26 @@ pub struct Env<'a> {
     pub job: Job,
 
     ghost sized: { Sized image.now },
+}
+
+impl Env<'_> {
+    // What conditions and values are evaluated in, with the state as it is now.
+    pub fn given<'b>(&'b self, v: &'b State) -> eval::Env<'b>
+        ensures { result ≡ record { snapshot = self.now.snapshot; image = self.now.image; state = v.entry } }
+    {
+        eval::Env {
+            snapshot: self.snapshot,
+            image: self.image,
+            state: v,
+        }
+    }
+
+    // Value i of the image, with the state as it is now.
+    pub fn value_at(&self, v: &State, i: u32) -> Option<i64>
+        ensures { ValueAt self.now.snapshot.now self.now.image.now (meaning v.now).rest i result }
+    {
+        eval::values::value_at(&self.given(v), i)
+    }
 }
 
 // A rule's part of the flat steps, where its own list stands behind `own` steps.

@@ -10,7 +10,6 @@ ghost use Rattle.exec.specs.Results.{Performs, PerformsIn, LevelAt};
 
 use crate::answers::{emits, fails};
 use crate::{Env, PrimResult};
-use eval::values::value_at;
 use image::layout::Table;
 use model::EffectKind;
 use state::State;
@@ -105,12 +104,7 @@ pub fn prim_cycle(env: &Env, v: &mut State, first: u32, count: u32) -> PrimResul
 fn level_at(env: &Env, v: &State, i: u32) -> Option<u32>
     ensures { LevelAt env.now.snapshot.now env.now.image.now (meaning v.now).rest i result }
 {
-    let given = eval::Env {
-        snapshot: env.snapshot,
-        image: env.image,
-        state: v,
-    };
-    curve::level_of(value_at(&given, i)?)
+    curve::level_of(env.value_at(v, i)?)
 }
 
 // A value in parts per million of full light.

@@ -7,7 +7,8 @@ use crate::FlatRule;
 use flat::body::list_of;
 use model::{Point, Step};
 
-// kept: the numbers of `flat::StepKind`: an arm takes no cast, and a const for each, or a chain of `if`, is no plainer.
+// kept: the numbers are those of `flat::StepKind`, and an arm takes no cast: a `TryFrom<u32>` of `StepKind` has the same five numbers in its arms, and here
+// a second match over five kinds and a refusal, which all other numbers, `Fail`, would have to take too.
 fn decode(kind: u32, a: u32, b: u32, c: u32) -> Step
     ensures { result ≡ step_of (kind, (a, (b, c))) }
 {

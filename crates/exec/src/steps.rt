@@ -3,8 +3,9 @@ ghost use Rattle.std.specs.Prelude.{List, ℕ, suc, ◌+◌, ◌≤◌, ◌<◌}
 ghost use Rattle.words.specs.Saturating.{max32, max64};
 ghost use Rattle.model.specs.declared.Step.TheVariants.{Primitive, Wait, Branch, After, Fail};
 ghost use Rattle.state.specs.Meaning.{accepted};
+ghost use Rattle.state.specs.Reasons.{reason_number};
 ghost use Rattle.exec.specs.Done.{action_done, step_done};
-ghost use Rattle.exec.specs.Paid.{Follows, GoesOn, StepsAlways, StepsAt, StepsIn, reach};
+ghost use Rattle.exec.specs.Paid.{Follows, GoesOn, SchedulesOf, StepsAlways, StepsAt, StepsIn, reach};
 
 use crate::actions::prim_at;
 use crate::answers::fails;
@@ -51,6 +52,16 @@ pub fn primitive(env: &Env, v: &mut State, sp: Point, i: u32) -> StepResult
     after_prim(prim_at(env, v, i), advance(sp, 0))
 }
 
+// A continuation of the job to a point is scheduled, with what is left of the budget: the reason that it notes.
+fn schedule(env: &Env, v: &mut State, left: u32, ms: u32, to: Point) -> Option<Reason>
+    requires { accepted v.old < max64 }
+    ensures { SchedulesOf env.now.snapshot.now env.now.job v.old left ms to v.new (reason_number result) }
+{
+    let time = world::now_ms(env.snapshot);
+    let job = env.job;
+    state::pending::schedule_continuation(v, time, job.rule, job.trigger, job.number, left, ms, to)
+}
+
 // What follows a wait is scheduled, and the run ends: also where the continuation is dropped.
 // kept: how many continuations were accepted is bounded by the budget that is left, of one step to the next; no type holds both
 #[tactic(auto, unfolding(model::specs::Exec::exec))]
@@ -59,17 +70,7 @@ fn run_wait(env: &Env, v: &mut State, left: u32, sp: Point, ms: u32) -> StepResu
     ensures { StepsAt env.now.snapshot.now env.now.job v.old left sp (Wait ms) (step_done v.new result) }
 {
     let to = advance(sp, 0);
-    let time = world::now_ms(env.snapshot);
-    let reason = state::pending::schedule_continuation(
-        v,
-        time,
-        env.job.rule,
-        env.job.trigger,
-        env.job.number,
-        left,
-        ms,
-        to,
-    );
+    let reason = schedule(env, v, left, ms, to);
     StepResult {
         effect: None,
         reason,
@@ -84,17 +85,7 @@ fn run_after(env: &Env, v: &mut State, left: u32, sp: Point, ms: u32) -> StepRes
     ensures { StepsAt env.now.snapshot.now env.now.job v.old left sp (After ms) (step_done v.new result) }
 {
     let body = body_start(sp);
-    let time = world::now_ms(env.snapshot);
-    let reason = state::pending::schedule_continuation(
-        v,
-        time,
-        env.job.rule,
-        env.job.trigger,
-        env.job.number,
-        left,
-        ms,
-        body,
-    );
+    let reason = schedule(env, v, left, ms, body);
     let to = advance(sp, 0);
     StepResult {
         effect: None,
@@ -109,12 +100,7 @@ pub fn run_branch(env: &Env, v: &mut State, sp: Point, c: u32, t: u32, n: u32) -
     requires { suc sp.place + (t + n) ≤ max32 }
     ensures { (b : ℕ) → StepsIn env.now.snapshot.now env.now.image.now env.now.job v.old b sp (Branch c t n) (step_done v.new result) }
 {
-    let given = eval::Env {
-        snapshot: env.snapshot,
-        image: env.image,
-        state: v,
-    };
-    match condition_at(&given, c) {
+    match condition_at(&env.given(v), c) {
         Some(true) => goes_on(enter_then(sp, t, n)),
         Some(false) => goes_on(advance(sp, t)),
         None => after_prim(fails(v), advance(sp, t + n)),

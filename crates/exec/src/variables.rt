@@ -7,7 +7,6 @@ ghost use Rattle.exec.specs.Results.{PerformsIn, Assigns, Adds};
 
 use crate::answers::{emits, fails};
 use crate::{Env, PrimResult};
-use eval::values::value_at;
 use model::{EffectKind, VarValue};
 use state::State;
 
@@ -57,12 +56,7 @@ fn add_to(env: &Env, v: &mut State, name: u32, step: i64, held: Option<VarValue>
 pub fn var_add(env: &Env, v: &mut State, name: u32, delta: u32) -> PrimResult
     ensures { PerformsIn env.now.snapshot.now env.now.image.now env.now.job v.old (VarAdd name delta) (action_done v.new result) }
 {
-    let given = eval::Env {
-        snapshot: env.snapshot,
-        image: env.image,
-        state: v,
-    };
-    match value_at(&given, delta) {
+    match env.value_at(v, delta) {
         Some(step) => {
             let held = state::variables::variable(v, name);
             add_to(env, v, name, step, held)
@@ -76,12 +70,7 @@ pub fn var_add(env: &Env, v: &mut State, name: u32, delta: u32) -> PrimResult
 pub fn panel_select(env: &Env, v: &mut State, adapter: u32, group: u32, selected: u32) -> PrimResult
     ensures { PerformsIn env.now.snapshot.now env.now.image.now env.now.job v.old (PanelSelect adapter group selected) (action_done v.new result) }
 {
-    let given = eval::Env {
-        snapshot: env.snapshot,
-        image: env.image,
-        state: v,
-    };
-    let Some(n) = value_at(&given, selected) else {
+    let Some(n) = env.value_at(v, selected) else {
         return fails(v);
     };
     let most = env.image.group_limit();
