@@ -1,23 +1,29 @@
 -- The fields of a line, its minutes and days, counted and written. Assumes nothing.
 use mathlib.Core.Logic.{⊎_elim}
-use mathlib.Core.Path.{◌≡◌, refl, sym, ap, ◌∙◌}
+use mathlib.Core.Path.{◌≡◌, refl, sym, ap, subst, ◌∙◌}
 use mathlib.Core.Bool.{Bool, true, false, cond, not, ◌&&◌}
 use mathlib.Core.List.{List, [], ◌∷◌, ◌++◌, map, append-nil, append_assoc}
 use Prim.Native.Nat.{ℕ, zero, suc, ◌+◌, ◌*◌, ◌-◌, ◌/◌, ◌%◌, ◌^◌, ◌≤◌, ◌<◌}
-use native.Mathlib.Nat.{div-add-mod, mod-lt, eq-or-lt_of_le}
+use native.Mathlib.Nat.{zero-add, div-add-mod, mod-lt, eq-or-lt_of_le}
 use native.Mathlib.Numerals.{add-one}
 use native.Mathlib.Omega.{arith}
 use borrow.Author.Tests.{not-true, not-false, le-leb, lt-leb, leb-true}
 use lib.Dec.{leb, lit<}
-use lib.ListN.{length, get_or, take, drop, replicate, set, length-set, length-replicate, length-append}
-use lib.Seq.{drop-drop, sets, sets-eq, length-sets, get_or-set_same, get_or-set_other}
-use Rattle.std.specs.List.{filter, range_with_len, sum_by}
-use Rattle.std.proofs.lemmas.List.FromFn.{sum_by-map-range_with_len_more}
+use lib.ListN.{length, get_or, take, drop, replicate, set, length-replicate, length-append, drop_of_length-le}
+use lib.Seq.{drop-cons, drop-drop, sets, sets-eq, length-sets}
+use Rattle.std.specs.List.{filter, range_with_len, enumerate_from, sum_by}
+use Rattle.std.proofs.lemmas.List.FromFn.{sum_by-map-range_with_len_more, length-enumerate_from, get_or-enumerate_from}
 use Rattle.model.specs.Lists.{every, keep, total, up_from}
 use Rattle.model.specs.Field.{unless}
 use Rattle.model.specs.Answers.{lent}
 use Rattle.model.specs.Asked.{declined, shown_result}
-use Rattle.std.specs.Prelude.{Ok, Err}
+use denote.Param.Members.{Mut}
+use Rattle.std.specs.Fn.{Called}
+use Rattle.std.specs.Array.{IsFromFnResult, IsFromFnResultFrom}
+use Rattle.std.specs.Prelude.{Ok, Err, Option, None, Some}
+use Rattle.std.specs.Iterator.{Yields}
+use Rattle.std.proofs.lemmas.Iterator.{YieldsList}
+use Rattle.std.proofs.lemmas.Iterator.Consumers.{YieldsList-turn, YieldsList-end}
 use Rattle.model.specs.declared.Refusal.{Refusal}
 use Rattle.model.specs.declared.Refusal.TheVariants.{TriggerStore}
 use Rattle.model.specs.Refusals.{refusal_code}
@@ -26,45 +32,16 @@ use Rattle.model.specs.Crontab.{field_fits, field_covers, field_free, starts, mi
 use Rattle.crontab.specs.Scanned.{written, Marked, marked, marked_minutes, form_refusal}
 
 -- MARKS
--- the numbers below v are marked, of n
-pub record Begun (f : ℕ → Bool) (n v : ℕ) (a : List Bool) : Type 0 where
-  pub long : length a ≡ n
-  pub same : (i : ℕ) → i < v → get_or a i false ≡ f i
+-- what the library makes of calls at the numbers from i on, where each computes h
+module _ {F : Type 0} {g : Mut F (ℕ × Unit {0}) Bool} (f : F) (h : ℕ → Bool) (a : List Bool) (computes : (x : ℕ) (b : Bool) (q : F) → Called g f (x, tt) b q → (q ≡ f) × (b ≡ h x)) where
+  made-from : (i n : ℕ) → IsFromFnResultFrom g f a i n → (v : ℕ) → i ≤ v → v < i + n → get_or a v false ≡ h v
+  made-from i zero r v l u = absurd (omega arith)
+  made-from i (suc n) r v l u =
+      let c = computes i r.1 r.0 r.3 in
+      ⊎_elim (λ k. rw (← k) (r.2.1 false ∙ c.1)) (λ k. made-from (i + 1) n (subst (λ (q : F). IsFromFnResultFrom g q a (i + 1) n) c.0 r.4) v (omega arith) (omega arith)) (eq-or-lt_of_le l)
 
-module _ (f : ℕ → Bool) (n : ℕ) where
-  pub marks-more : (a : List Bool) (v : ℕ) (r : Bool) → Begun f n v a → v < n → r ≡ f v → Begun f n (v + 1) (set a v r)
-  marks-more a v r m h e =
-      record {
-        long = length-set a v r ∙ m.long;
-        same = λ i l. ⊎_elim (λ q. rw q (get_or-set_same a v r false (omega (arith, m.long)) ∙ e)) (λ q. get_or-set_other a v i r false (λ z. omega arith) ∙ m.same i q) (eq-or-lt_of_le (omega arith));
-      }
-
-  pub marks-all : (v : ℕ) (a : List Bool) → Begun f n v a → n ≤ v → Marked f n a
-  marks-all v a m k = record { long = m.long; same = λ i l. m.same i (omega arith) }
-
--- the minutes from t on of which a test holds
-unfoldable pub left : (ℕ → Bool) → ℕ → List ℕ
-left p t = keep p (up_from t (1440 - t))
-
-pub left-all : (hours minutes : List Bool) → left (marked hours minutes) 0 ≡ marked_minutes hours minutes
-unfolding left marked_minutes
-left-all hours minutes = refl
-
-pub left-none : (p : ℕ → Bool) (t : ℕ) → 1440 ≤ t → left p t ≡ []
-unfolding left
-left-none p t h = let z : 1440 - t ≡ 0 = omega arith in rw z
-
-module _ (p : ℕ → Bool) (t : ℕ) (h : t < 1440) {r : Bool} (e : r ≡ p t) where
-  more : 1440 - t ≡ suc (1440 - (t + 1))
-  more = omega arith
-
-  pub left-on : r ≡ true → left p t ≡ t ∷ left p (t + 1)
-  unfolding left
-  left-on q = let n : t + 1 ≡ suc t = add-one t in rw (more, n, ← e, q)
-
-  pub left-off : r ≡ false → left p t ≡ left p (t + 1)
-  unfolding left
-  left-off q = let n : t + 1 ≡ suc t = add-one t in rw (more, n, ← e, q)
+  pub made : (n : ℕ) → IsFromFnResult g f a n → Marked h n a
+  made n r = record { long = r.long; same = λ v l. made-from 0 n r.each v (omega arith) (omega arith) }
 
 -- what a filter over a range keeps
 keep-range : (p : ℕ → Bool) (i n : ℕ) → filter p (range_with_len i n) ≡ keep p (up_from i n)
@@ -198,16 +175,50 @@ put-length store x vs n e = ap length e ∙ length-sets store n vs
 pub written_as : (ds n : ℕ) (w : List ℕ) {x ts us : List ℕ} → ts ≡ us → x ≡ written ds w n ts → x ≡ written ds w n us
 written_as ds n w e h = rw e at h
 
-pub write-on : (ds : ℕ) (p : ℕ → Bool) (t n : ℕ) (store x : List ℕ) {z : List ℕ} {r : Bool} → t < 1440 → r ≡ p t → r ≡ true
-    → x ≡ sets store (8 * n) (2 ∷ t / 60 ∷ t % 60 ∷ ds ∷ []) → written ds store n (left p t) ≡ z → written ds x (n + 1) (left p (t + 1)) ≡ z
-write-on ds p t n store x h e q s w = rw s (rw (left-on p t h e q) at w)
+-- a `for` over a chain: what it has yielded comes first here, so that the chain's proof is looked for at what is known
+module _ {S A B : Type 0} {steps : S → Option A → S → Type 0} {v : A → B} {s : S} (xs : List A) (t u : S) {r : Option A} (y : Yields steps s xs t) where
+  pub turn-by : {x : A} → r ≡ Some x → steps t r u → {all : List B} → YieldsList steps v s all → (length xs < length all) × (v x ≡ get_or all (length xs) (v x))
+  turn-by {x = x} is step e = YieldsList-turn e xs t y r u x is step
 
-pub write-off : (ds : ℕ) (p : ℕ → Bool) (t n : ℕ) (store : List ℕ) {z : List ℕ} {r : Bool} → t < 1440 → r ≡ p t → r ≡ false
-    → written ds store n (left p t) ≡ z → written ds store n (left p (t + 1)) ≡ z
-write-off ds p t n store h e q w = rw (left-off p t h e q) at w
+  pub end_by : r ≡ None → steps t r u → {all : List B} → YieldsList steps v s all → length xs ≡ length all
+  end_by is step e = (YieldsList-end e xs t y r u is step).1
 
-pub write-end : (ds : ℕ) (p : ℕ → Bool) (t n : ℕ) (store : List ℕ) {z : List ℕ} → 1440 ≤ t → written ds store n (left p t) ≡ z → store ≡ z
-write-end ds p t n store h w = rw (left-none p t h) at w
+-- the first k of the minutes ts have their triggers in a table that was w
+module _ (ds : ℕ) (ts w : List ℕ) where
+  pub record Wrote (k : ℕ) (store : List ℕ) : Type 0 where
+    pub long : length store ≡ length w
+    pub ahead : written ds store k (drop k ts) ≡ written ds w 0 ts
+
+  pub none-wrote : Wrote 0 w
+  none-wrote = record { long = refl; ahead = refl }
+
+  -- minute t is the next, in place n
+  pub record Next (k n t : ℕ) : Type 0 where
+    pub within : k < length ts
+    pub place : n ≡ k
+    pub minute : t ≡ get_or ts k t
+
+  pub next-of : (k n t : ℕ) → k < length (enumerate_from 0 ts) → (n, t) ≡ get_or (enumerate_from 0 ts) k (n, t) → Next k n t
+  next-of k n t h e =
+      let l : k < length ts = rw (length-enumerate_from 0 ts) at h in
+      let q : (n, t) ≡ (0 + k, get_or ts k t) = e ∙ get_or-enumerate_from 0 ts k (n, t) l in
+      let p : n ≡ 0 + k = ap (λ (x : ℕ × ℕ). x.0) q in
+      record { within = l; place = p ∙ zero-add k; minute = ap (λ (x : ℕ × ℕ). x.1) q }
+
+  pub room-for : {k n t : ℕ} {store : List ℕ} → 8 * length ts ≤ length w → Wrote k store → Next k n t → 8 * n + 8 ≤ length store
+  room-for h o x = omega (arith, o.long, x.within, x.place)
+
+  pub one-wrote :
+      {k n t : ℕ} {store x : List ℕ} → Wrote k store → Next k n t → x ≡ sets store (8 * n) (2 ∷ t / 60 ∷ t % 60 ∷ ds ∷ []) → Wrote (k + 1) x
+  one-wrote {k} {n} {t} {store} {x} o m e =
+      let here : drop k ts ≡ t ∷ drop (k + 1) ts = rw (m.minute, add-one k) (drop-cons ts k t m.within) in
+      record {
+        long = ap length e ∙ length-sets store (8 * n) (2 ∷ t / 60 ∷ t % 60 ∷ ds ∷ []) ∙ o.long;
+        ahead = rw (e, m.place) (rw here at o.ahead);
+      }
+
+  pub all-wrote : {k : ℕ} {store : List ℕ} → k ≡ length ts → Wrote k store → store ≡ written ds w 0 ts
+  all-wrote {k} e o = let l : length ts ≤ k = omega arith in rw (drop_of_length-le ts {i = k} l) at o.ahead
 
 -- REFUSALS
 module _ (l : List ℕ) where

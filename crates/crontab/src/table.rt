@@ -12,11 +12,7 @@ pub fn marks<const N: usize>(line: &[u8], field: Field) -> [bool; N]
     requires { N ≤ 60 }
     ensures { Marked (field_covers line.now (number field)) N result }
 {
-    let mut a = [false; N];
-    for v in 0..N {
-        a[v] = field.covers(line, v as u32);
-    }
-    a
+    std::array::from_fn(|v| field.covers(line, v as u32))
 }
 
 // Whether minute t of a day is marked.
@@ -55,11 +51,11 @@ pub fn days_of(line: &[u8], sunday: u32) -> u32
 }
 
 // The trigger of minute t, in place n.
-fn put(store: &mut [u32], n: u32, t: u32, ds: u32)
+fn put(store: &mut [u32], n: usize, t: u32, ds: u32)
     requires { 8 * n + 8 ≤ length store.old }
     ensures { store.new ≡ sets store.old (8 * n) (2 ∷ t / 60 ∷ t % 60 ∷ ds ∷ []) }
 {
-    let at = 8 * n as usize;
+    let at = 8 * n;
     store[at..at + 4].copy_from_slice(&[2, t / 60, t % 60, ds]);
 }
 
@@ -68,13 +64,8 @@ pub fn write(hours: &[bool; 24], minutes: &[bool; 60], ds: u32, store: &mut [u32
     requires { 8 * length (marked_minutes hours.now minutes.now) ≤ length store.old }
     ensures { store.new ≡ written ds store.old 0 (marked_minutes hours.now minutes.now) }
 {
-    // kept: the place is counted beside the loop. A `for` over `filter` and `enumerate` was begun: its proof has to say what such an
-    // iterator still yields, where here `t` says which minutes are left.
-    let mut n: u32 = 0;
-    for t in 0..1440 {
-        if is_marked(hours, minutes, t) {
-            put(store, n, t, ds);
-            n += 1;
-        }
+    let marked = (0..1440).filter(|t| is_marked(hours, minutes, *t));
+    for (n, t) in marked.enumerate() {
+        put(store, n, t, ds);
     }
 }

@@ -1,63 +1,37 @@
 -- `crontab::table::write` meets its contract. Assumes nothing.
-use mathlib.Core.Path.{refl, ap, ◌∙◌}
-use Prim.Native.Nat.{ℕ, ◌*◌, ◌/◌, ◌%◌}
+use mathlib.Core.Path.{ap, ◌∙◌}
 use native.Mathlib.Omega.{arith}
-use mathlib.Core.List.{List, [], ◌∷◌}
-use lib.ListN.{length}
-use Rattle.crontab.specs.Scanned.{marked, written}
-use Rattle.crontab.proofs.Lines.{left-all, left-on, left-off, put-length, write-on, write-off, write-end}
+use borrow.Author.Rules.{rules}
+use lib.ListN.{length, length-append}
+use Rattle.std.proofs.lemmas.List.FromFn.{length-enumerate_from}
+use Rattle.std.proofs.lemmas.Iterator.{YieldsList-from_range}
+use Rattle.std.proofs.lemmas.Iterator.Consumers.{YieldsList-at, YieldsList-from_filter, YieldsList-from_enumerate}
+use Rattle.crontab.specs.Scanned.{marked, marked_minutes}
+use Rattle.crontab.proofs.Lines.{marked-of-day, turn-by, end_by, none-wrote, next-of, room-for, one-wrote, all-wrote}
 use Rattle.crontab.proofs.table.write.Goals as goal
-use Rattle.crontab.proofs.table.write.Goals.{then-is_marked, else-is_marked}
 
-pub loop-t-init : goal.loop-t-init
-loop-t-init c =
-    let s = c.args in
-    let e = left-all s.hours.now s.minutes.now in
-    (omega arith, (omega arith, (refl, (omega (arith, ap length e), ap (λ (ts : List ℕ). written s.ds s.store.now 0 ts) e))))
+pub loop-n-init : goal.loop-n-init
+loop-n-init c = none-wrote _ _ _
 
 pub put-requires : goal.put-requires
 put-requires c =
-    let l = c.loop-t in
-    let e = left-on (marked c.args.hours.now c.args.minutes.now) l.t c.loop-t-test.true c.is_marked.ensures c.if-is_marked.true in
-    omega (arith, ap length e, l.invariant.1.1.0, l.invariant.1.1.1.0, c.requires)
+    let hours = c.args.hours.now in
+    let minutes = c.args.minutes.now in
+    let turn = turn-by _ _ _ c.loop-n.yielded_by c.in-Some.is c.next.ensures.steps (YieldsList-at c.into_iter-n-iterator.ensures.into_iter_gives (YieldsList-from_enumerate (YieldsList-at c.enumerate-n-items.ensures.source (YieldsList-from_filter _ (marked hours minutes) (YieldsList-from_range 0 1440 1440 c.filter-marked.ensures.source (omega arith)) c.filter-marked.ensures.closure (λ x b q k. search rules))) c.enumerate-n-items.ensures.count)) in
+    let next = next-of c.args.ds (marked_minutes hours minutes) c.args.store.now _ _ _ (rw (marked-of-day hours minutes) at turn.0) (rw (marked-of-day hours minutes) at turn.1) in
+    room-for c.args.ds (marked_minutes hours minutes) c.args.store.now c.requires c.loop-n.invariant next
 
-pub loop-t-preserved : goal.loop-t-preserved
-loop-t-preserved c =
-    let l = c.loop-t in
-    let s = c.args in
-    let p = marked s.hours.now s.minutes.now in
-    elim c.if-is_marked.branch [
-      | then-is_marked w ↦
-          let e = left-on p l.t c.loop-t-test.true c.is_marked.ensures w.if-is_marked.true in
-          rw (w.store-is, w.n-is) (
-            omega arith,
-            (
-              omega (arith, l.invariant.1.0),
-              (
-                put-length l.store _ (2 ∷ l.t / 60 ∷ l.t % 60 ∷ s.ds ∷ []) (8 * l.n) w.put.ensures ∙ l.invariant.1.1.0,
-                (
-                  omega (arith, ap length e, l.invariant.1.1.1.0),
-                  write-on s.ds p l.t l.n l.store _ c.loop-t-test.true c.is_marked.ensures w.if-is_marked.true w.put.ensures l.invariant.1.1.1.1,
-                ),
-              ),
-            ),
-          )
-      | else-is_marked w ↦
-          let e = left-off p l.t c.loop-t-test.true c.is_marked.ensures w.if-is_marked.false in
-          rw (w.store-is, w.n-is) (
-            omega arith,
-            (
-              omega (arith, l.invariant.1.0),
-              (
-                l.invariant.1.1.0,
-                (
-                  omega (arith, ap length e, l.invariant.1.1.1.0),
-                  write-off s.ds p l.t l.n l.store c.loop-t-test.true c.is_marked.ensures w.if-is_marked.false l.invariant.1.1.1.1,
-                ),
-              ),
-            ),
-          )
-    ]
+pub loop-n-preserved : goal.loop-n-preserved
+loop-n-preserved c =
+    let hours = c.args.hours.now in
+    let minutes = c.args.minutes.now in
+    let turn = turn-by _ _ _ c.loop-n.yielded_by c.in-Some.is c.next.ensures.steps (YieldsList-at c.into_iter-n-iterator.ensures.into_iter_gives (YieldsList-from_enumerate (YieldsList-at c.enumerate-n-items.ensures.source (YieldsList-from_filter _ (marked hours minutes) (YieldsList-from_range 0 1440 1440 c.filter-marked.ensures.source (omega arith)) c.filter-marked.ensures.closure (λ x b q k. search rules))) c.enumerate-n-items.ensures.count)) in
+    let next = next-of c.args.ds (marked_minutes hours minutes) c.args.store.now _ _ _ (rw (marked-of-day hours minutes) at turn.0) (rw (marked-of-day hours minutes) at turn.1) in
+    rw length-append (one-wrote c.args.ds (marked_minutes hours minutes) c.args.store.now c.loop-n.invariant next c.put.ensures)
 
 pub returns : goal.returns
-returns c = write-end _ (marked c.args.hours.now c.args.minutes.now) c.loop-t.t c.loop-t.n _ c.loop-t-test.false c.loop-t.invariant.1.1.1.1
+returns c =
+    let hours = c.args.hours.now in
+    let minutes = c.args.minutes.now in
+    let all = end_by _ _ _ c.loop-n.yielded_by c.in-None.is c.next.ensures.steps (YieldsList-at c.into_iter-n-iterator.ensures.into_iter_gives (YieldsList-from_enumerate (YieldsList-at c.enumerate-n-items.ensures.source (YieldsList-from_filter _ (marked hours minutes) (YieldsList-from_range 0 1440 1440 c.filter-marked.ensures.source (omega arith)) c.filter-marked.ensures.closure (λ x b q k. search rules))) c.enumerate-n-items.ensures.count)) in
+    all-wrote c.args.ds (marked_minutes hours minutes) c.args.store.now (all ∙ length-enumerate_from 0 _ ∙ ap length (marked-of-day hours minutes)) c.loop-n.invariant
