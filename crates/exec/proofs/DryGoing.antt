@@ -12,7 +12,7 @@ use lib.ListN.{length, get_or, length-append}
 use Rattle.model.specs.Actions as actions
 use Rattle.model.specs.Dry.{next_step, found, dry_step, dry_branch, dry_turn, run_steps_dry, unpaid_dry, DryStepResult, DryOutput}
 use Rattle.model.specs.Eval.{condition_at}
-use Rattle.model.specs.Exec.{first_reason, unpaid}
+use Rattle.model.specs.Exec.{first_reason}
 use Rattle.model.specs.Flat.{step_at}
 use Rattle.model.specs.Lists.{to_list}
 use Rattle.model.specs.State as model-state
@@ -27,11 +27,12 @@ use Rattle.state.specs.Reasons.{reason_number}
 use Rattle.eval.specs.Answers.{env_of}
 use Rattle.exec.specs.Results.{job_of}
 use Rattle.lent_words.specs.PutEffects.{put_effects}
-use Rattle.exec.specs.Lists.{step_in, IsNear}
+use Rattle.exec.specs.Lists.{step_in}
 use Rattle.exec.specs.Queue.{first, rest}
-use Rattle.exec.specs.Runs.{Taken}
-use Rattle.exec.specs.DryRuns.{body_point, bodies_of, queued_by, Queues, Moves, DrySteps, RunsDry}
+use Rattle.exec.specs.Runs.{Taken, unpaid_of}
+use Rattle.exec.specs.DryRuns.{body_point, bodies_of, queued_by, Queues, next_found, Moves, DrySteps, RunsDry}
 use Rattle.exec.specs.declared.Job.{Job}
+use Rattle.exec.specs.declared.Placed.{Placed}
 use Rattle.exec.specs.declared.RunResult.{RunResult}
 use Rattle.exec.specs.declared.StepResult.{StepResult}
 use Rattle.exec.specs.Done.{step_done, run_done}
@@ -75,23 +76,21 @@ module _ (e : Env) (j : actions.Job) (p : Point) where
   next_none h = rw (← h)
 
 module _ (part : List ℕ) (own : ℕ) (p : Point) (ns : List ℕ) (q : Point) (rs : List ℕ) (inv : Moving part own p ns q rs) where
-  pub stands : (x : Step) → Some x ≡ step_in part own q → IsNear q (Some x) → Moves part own p ns q rs (Some x)
-  stands x h n =
+  pub stands : (x : Placed) → Some x.step ≡ step_in part own q → x.point ≡ q → Moves part own p ns rs (Some x)
+  stands x h at =
       record {
-        says = λ e j s. inv.says e j s ∙ next-stands e j q x (bodies_of rs) (h ∙ is-step part own q e j s);
-        near = n;
+        says = λ e j s. inv.says e j s ∙ next-stands e j q x.step (bodies_of rs) (h ∙ is-step part own q e j s) ∙ rw at refl;
         most = inv.most;
       }
 
   module _ (none-here : None ≡ step_in part own q) where
-    pub empties : (us : List ℕ) → first rs ≡ None → us ≡ rest rs → Moves part own p ns q us None
+    pub empties : (us : List ℕ) → first rs ≡ None → us ≡ rest rs → Moves part own p ns us None
     empties us h u = go rs h u inv
       where
-        go : (rs : List ℕ) → first rs ≡ None → us ≡ rest rs → Moving part own p ns q rs → Moves part own p ns q us None
+        go : (rs : List ℕ) → first rs ≡ None → us ≡ rest rs → Moving part own p ns q rs → Moves part own p ns us None
         go [] h u m =
             record {
               says = λ e j s. m.says e j s ∙ next_none e j q (none-here ∙ is-step part own q e j s);
-              near = tt;
               most = rw u m.most;
             }
         go (n ∷ rs) h u m = cc
@@ -181,9 +180,9 @@ taken_is v v' p q to ns rs us run r w exit x d y t s z k h =
     let n : to ≡ y.next = h ∙ ap (λ (o : Option Point). unwrap_or o q) s.next in
     rw (t.reason, t.count, t.written, s.state.says, s.effect, s.reason, b, n)
 
-unpaid-found : (o : Option Step) (q : Point) (qs : List Point) → unpaid o ≡ unpaid_dry (found o q qs None)
-unpaid-found None q qs = refl
-unpaid-found (Some x) q qs = refl
+unpaid-found : (o : Option Placed) (rs : List ℕ) → unpaid_of o ≡ unpaid_dry (next_found o rs)
+unpaid-found None rs = refl
+unpaid-found (Some x) rs = refl
 
 -- ---- the loop
 pub record GoingDry (snapshot image part : List ℕ) (own : ℕ) (job : Job) (budget : ℕ) (from : DryMachine) (v₀ v : List ℕ) (point : Point) (ns : List ℕ) (run : RunResult) (w : List ℕ) (left : ℕ) : Type 0 where
@@ -226,7 +225,7 @@ module _ (snapshot image part : List ℕ) (own : ℕ) (job : Job) (budget : ℕ)
 
   module _
       (v : List ℕ) (point : Point) (ns : List ℕ) (run : RunResult) (w : List ℕ) (left : ℕ) (inv : GoingDry snapshot image part own job budget from v₀ v point ns run w left)
-      (q : Point) (rs : List ℕ) (o : Option Step) (moves : Moves part own point ns q rs o)
+      (rs : List ℕ) (o : Option Placed) (moves : Moves part own point ns rs o)
     where
       pub runs-past : o ≡ None → RunsDry snapshot image part own job v₀ start budget count w₀ (run_done v run) w
       runs-past h =
@@ -234,10 +233,10 @@ module _ (snapshot image part : List ℕ) (own : ℕ) (job : Job) (budget : ℕ)
           (λ flat s.
           let e = env_of snapshot image flat in
           ap (λ (n : ℕ). record { vol = meaning v; reason = n; count = run.count; words = w }) (sym (reason-none (reason_number run.reason)))
-          ∙ past e (job_of job) (dry_machine v point ns run w) left (moves.says e (job_of job) s ∙ ap (λ (x : Option Step). found x q (bodies_of rs) None) h)
+          ∙ past e (job_of job) (dry_machine v point ns run w) left (moves.says e (job_of job) s ∙ ap (λ (x : Option Placed). next_found x rs) h)
           ∙ inv.says flat s)
 
-      pub runs-spent : (r : RunResult) → left ≤ 0 → reason_number r.reason ≡ first_reason (reason_number run.reason) (unpaid o) → r.count ≡ run.count
+      pub runs-spent : (r : RunResult) → left ≤ 0 → reason_number r.reason ≡ first_reason (reason_number run.reason) (unpaid_of o) → r.count ≡ run.count
           → RunsDry snapshot image part own job v₀ start budget count w₀ (run_done v r) w
       runs-spent r z n c =
           runs v r w inv.based inv.accepts (omega (arith, inv.grows, c)) (omega (arith, inv.counts, c)) inv.last
@@ -245,15 +244,15 @@ module _ (snapshot image part : List ℕ) (own : ℕ) (job : Job) (budget : ℕ)
           let e = env_of snapshot image flat in
           let m = dry_machine v point ns run w in
           let none_left : 0 ≡ left = omega arith in
-          rw (n, c) (ap (λ (k : ℕ). stopped_dry k m) (unpaid-found o q (bodies_of rs) ∙ ap unpaid_dry (sym (moves.says e (job_of job) s))))
+          rw (n, c) (ap (λ (k : ℕ). stopped_dry k m) (unpaid-found o rs ∙ ap unpaid_dry (sym (moves.says e (job_of job) s))))
           ∙ spent e (job_of job) m
           ∙ ap (λ (b : ℕ). left_dry b e (job_of job) m) none_left
           ∙ inv.says flat s)
 
       pub goes-on :
-          (x : Step) → o ≡ Some x → 0 < left → (d : StepResult) (v' : List ℕ)
-          → ((flat : List (List FlatStep)) (qs : List Point) → DrySteps v (step_done v' d) (dry_step (env_of snapshot image flat) (job_of job) x q qs (meaning v).rest))
-          → (r : RunResult) (exit : List ℕ) → Taken run w d r exit → (us : List ℕ) → Queues rs q x us → (to : Point) → to ≡ unwrap_or d.next q → length exit ≡ length w
+          (x : Placed) → o ≡ Some x → 0 < left → (d : StepResult) (v' : List ℕ)
+          → ((flat : List (List FlatStep)) (qs : List Point) → DrySteps v (step_done v' d) (dry_step (env_of snapshot image flat) (job_of job) x.step x.point qs (meaning v).rest))
+          → (r : RunResult) (exit : List ℕ) → Taken run w d r exit → (us : List ℕ) → Queues rs x.point x.step us → (to : Point) → to ≡ unwrap_or d.next x.point → length exit ≡ length w
           → GoingDry snapshot image part own job budget from v₀ v' to us r exit (left - 1)
       goes-on x h paid d v' steps r exit taken us k to next l =
           record {
@@ -261,8 +260,8 @@ module _ (snapshot image part : List ℕ) (own : ℕ) (job : Job) (budget : ℕ)
                 let e = env_of snapshot image flat in
                 let m = dry_machine v point ns run w in
                 let one : suc (left - 1) ≡ left = omega arith in
-                ap (left_dry (left - 1) e (job_of job)) (taken_is v v' point q to ns rs us run r w exit x d _ taken (steps flat (bodies_of rs)) (step-bodies e (job_of job) x q (bodies_of rs) _) k next)
-                ∙ goes e (job_of job) m (left - 1) x q (bodies_of rs) (moves.says e (job_of job) s ∙ ap (λ (y : Option Step). found y q (bodies_of rs) None) h)
+                ap (left_dry (left - 1) e (job_of job)) (taken_is v v' point x.point to ns rs us run r w exit x.step d _ taken (steps flat (bodies_of rs)) (step-bodies e (job_of job) x.step x.point (bodies_of rs) _) k next)
+                ∙ goes e (job_of job) m (left - 1) x.step x.point (bodies_of rs) (moves.says e (job_of job) s ∙ ap (λ (y : Option Placed). next_found y rs) h)
                 ∙ ap (λ (b : ℕ). left_dry b e (job_of job) m) one
                 ∙ inv.says flat s;
             based = (steps [] []).state.based ∙ inv.based;

@@ -27,8 +27,10 @@ use Rattle.exec.specs.Results.{job_of}
 use Rattle.exec.specs.Paid.{Steps}
 use Rattle.lent_words.specs.PutEffects.{put_effects}
 use Rattle.exec.specs.Lists.{step_in}
-use Rattle.exec.specs.Runs.{Taken, Runs}
+use Rattle.exec.specs.Runs.{Taken, Runs, unpaid_of}
+use Rattle.exec.specs.Stands.{step_of_placed}
 use Rattle.exec.specs.declared.Job.{Job}
+use Rattle.exec.specs.declared.Placed.{Placed}
 use Rattle.exec.specs.declared.RunResult.{RunResult}
 use Rattle.exec.specs.declared.StepResult.{StepResult}
 use Rattle.exec.specs.Done.{step_done, run_done}
@@ -133,6 +135,10 @@ taken_is :
 unfolding take_step
 taken_is v v' p q run r w exit d x t s = rw (t.reason, t.count, t.written, s.state.says, s.effect, s.reason)
 
+unpaid-stands : (o : Option Placed) → unpaid_of o ≡ unpaid (step_of_placed o)
+unpaid-stands None = refl
+unpaid-stands (Some x) = refl
+
 -- ---- the loop
 pub record Going (snapshot image part : List ℕ) (own : ℕ) (job : Job) (budget : ℕ) (from : Machine) (v₀ v : List ℕ) (point : Point) (run : RunResult) (w : List ℕ) (left : ℕ) : Type 0 where
   pub says :
@@ -181,14 +187,14 @@ module _ (snapshot image part : List ℕ) (own : ℕ) (job : Job) (budget : ℕ)
         ∙ past e (job_of job) (machine v point run w) left (h ∙ is-step part own point e (job_of job) s)
         ∙ inv.says flat s)
 
-    pub runs-spent : (reason : Option Step) (r : RunResult) → left ≤ 0 → reason ≡ step_in part own point → reason_number r.reason ≡ first_reason (reason_number run.reason) (unpaid reason) → r.count ≡ run.count
+    pub runs-spent : (o : Option Placed) (r : RunResult) → left ≤ 0 → step_of_placed o ≡ step_in part own point → reason_number r.reason ≡ first_reason (reason_number run.reason) (unpaid_of o) → r.count ≡ run.count
         → Runs snapshot image part own job v₀ start budget count w₀ (run_done v r) w
     runs-spent o r z h n c =
         runs v r w inv.based (omega (arith, inv.accepts)) (omega (arith, inv.grows, c)) (omega (arith, inv.counts, c)) inv.last
         (λ flat s.
         let e = env_of snapshot image flat in
         let none_left : 0 ≡ left = omega arith in
-        rw (n, c) (ap (λ (x : Option Step). stopped (unpaid x) (machine v point run w)) (h ∙ is-step part own point e (job_of job) s))
+        rw (n, c, unpaid-stands o) (ap (λ (x : Option Step). stopped (unpaid x) (machine v point run w)) (h ∙ is-step part own point e (job_of job) s))
         ∙ spent e (job_of job) (machine v point run w)
         ∙ ap (λ (b : ℕ). left_of b e (job_of job) (machine v point run w)) none_left
         ∙ inv.says flat s)

@@ -14,9 +14,9 @@ use Rattle.state.specs.Meaning.{Means, meaning, base, accepted}
 use Rattle.eval.specs.Answers.{env_of}
 use Rattle.lent_words.specs.PutEffects.{put_effects}
 use Rattle.exec.specs.Results.{job_of}
-use Rattle.exec.specs.Lists.{IsNear}
 use Rattle.exec.specs.Done.{RunDone, StepDone}
 use Rattle.exec.specs.declared.Job.{Job}
+use Rattle.exec.specs.declared.Placed.{Placed}
 
 -- from v the step came to r, and the specification to d
 pub record DrySteps (v : List ℕ) (r : StepDone) (d : model.DryStepResult) : Type 0 where
@@ -48,12 +48,16 @@ pub record Queues (ns : List ℕ) (sp : Point) (x : Step) (r : List ℕ) : Type 
   pub says : bodies_of r ≡ queued_by x sp (bodies_of ns)
   pub most : length r ≤ length ns + 1
 
--- from a point and a queue to the next step, if there is one: its point, and what is queued behind it
-pub record Moves (part : List ℕ) (own : ℕ) (p : Point) (ns : List ℕ) (q : Point) (rs : List ℕ) (x : Option Step) : Type 0 where
+-- the next step where it stands, and what is queued behind it
+abbrev pub next_found : Option Placed → List ℕ → Option model.NextStep
+next_found None rs = None
+next_found (Some x) rs = Some (record { step = x.step; point = x.point; bodies = bodies_of rs })
+
+-- from a point and a queue to the next step, if there is one
+pub record Moves (part : List ℕ) (own : ℕ) (p : Point) (ns rs : List ℕ) (x : Option Placed) : Type 0 where
   pub says :
       (e : Env) (j : actions.Job) → Says part own (get_or e.set.flat j.index [])
-      → model.next_step e j p (bodies_of ns) ≡ model.found x q (bodies_of rs) None
-  pub near : IsNear q x
+      → model.next_step e j p (bodies_of ns) ≡ next_found x rs
   pub most : length rs ≤ length ns
 
 -- a budget that the queue has room for, and room to count

@@ -1,5 +1,5 @@
 -- What comes of a run, in the specification's terms.
-use Rattle.std.specs.Prelude.{ℕ, ◌+◌, ◌≤◌, ◌≡◌, List, [], length, get_or}
+use Rattle.std.specs.Prelude.{ℕ, ◌+◌, ◌≤◌, ◌≡◌, List, [], length, get_or, Option, None, Some}
 use Rattle.words.specs.Saturating.{max32, max64}
 use Rattle.model.specs.Exec as model
 use Rattle.model.specs.Lists.{to_list}
@@ -15,6 +15,11 @@ use Rattle.exec.specs.declared.Job.{Job}
 use Rattle.exec.specs.declared.RunResult.{RunResult}
 use Rattle.exec.specs.declared.StepResult.{StepResult}
 use Rattle.exec.specs.Done.{RunDone}
+
+-- the specification's `unpaid`, of whatever is left
+abbrev pub unpaid_of : {A : Type 0} → Option A → ℕ
+unpaid_of None = 0
+unpaid_of (Some a) = model.effect_budget
 
 -- a paid step is taken over: the first reason stays, and the effect is written behind the others
 pub record Taken (run : RunResult) (words : List ℕ) (d : StepResult) (r : RunResult) (exit : List ℕ) : Type 0 where

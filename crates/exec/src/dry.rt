@@ -1,22 +1,21 @@
 // `run_steps`, dry: a wait waits for nothing, and an after's body goes behind all that is queued. Continuations are not touched.
-ghost use Rattle.std.specs.Prelude.{◌≡◌, true, suc, ◌+◌, ◌<◌, ◌≤◌, length};
-ghost use Rattle.words.specs.Saturating.{max32};
-ghost use Rattle.exec.specs.Paid.{reach};
+ghost use Rattle.std.specs.Prelude.{◌≡◌, true, ◌<◌, length};
 ghost use Rattle.exec.specs.Done.{step_done, run_done};
 ghost use Rattle.exec.specs.DryRuns.{DryStepsIn, Queues, Moves, DryReady, RunsDry};
 
 use crate::places::advance;
 use crate::queue::Queue;
 use crate::runs::{note_partial, take_step, unpaid};
-use crate::{Env, FlatRule, RunResult, StepResult, steps};
+use crate::{Env, FlatRule, Placed, RunResult, StepResult, steps};
 use model::{Point, Step};
 use state::State;
 
-fn exec_dry(env: &Env, v: &mut State, sp: Point, step: Step) -> StepResult
-    requires { (env.now.job.dry ≡ true) × (suc sp.place + reach step ≤ max32) }
-    ensures { DryStepsIn env.now.snapshot.now env.now.image.now env.now.job v.old sp step (step_done v.new result) }
+fn exec_dry(env: &Env, v: &mut State, here: Placed) -> StepResult
+    requires { env.now.job.dry ≡ true }
+    ensures { DryStepsIn env.now.snapshot.now env.now.image.now env.now.job v.old here.point here.step (step_done v.new result) }
 {
-    match step {
+    let sp = here.point;
+    match here.step {
         Step::Primitive(i) => steps::primitive(env, v, sp, i),
         Step::Wait(_) => steps::goes_on(advance(sp, 0)),
         Step::Branch(c, t, n) => steps::run_branch(env, v, sp, c, t, n),
@@ -26,26 +25,27 @@ fn exec_dry(env: &Env, v: &mut State, sp: Point, step: Step) -> StepResult
 }
 
 // The body of an after goes behind all that is queued.
-fn queue_body(bodies: &mut Queue, sp: Point, step: Step)
-    requires { (length bodies.old < 256) × (suc sp.place ≤ max32) }
-    ensures { Queues bodies.old sp step bodies.new }
+fn queue_body(bodies: &mut Queue, here: Placed)
+    requires { length bodies.old < 256 }
+    ensures { Queues bodies.old here.point here.step bodies.new }
 {
-    if let Step::After(_) = step {
-        bodies.push(sp.place + 1);
+    if let Step::After(_) = here.step {
+        bodies.push(here.point.place + 1);
     }
 }
 
 // Where a list is at its end, the next body that has a step is begun.
-// kept: the loop counts nothing, it pops the queue until a list has a step; a search of an iterator would still have to move the point
-fn next_step(rule: &FlatRule, point: &mut Point, bodies: &mut Queue) -> Option<Step>
-    ensures { Moves rule.now.part.now rule.now.own point.old bodies.old point.new bodies.new result }
+// kept: the loop counts nothing, it pops the queue until a list has a step; a queue is no iterator, and as one it would need a `next` beside `pop`
+fn next_step(rule: &FlatRule, from: Point, bodies: &mut Queue) -> Option<Placed>
+    ensures { Moves rule.now.part.now rule.now.own from bodies.old bodies.new result }
 {
+    let mut point = from;
     loop {
-        if let Some(step) = rule.step_at(*point) {
-            return Some(step);
+        if let Some(here) = rule.step_at(point) {
+            return Some(here);
         }
         let list = bodies.pop()?;
-        *point = Point {
+        point = Point {
             list,
             place: 0,
             jump: None,
@@ -74,15 +74,15 @@ pub fn run_steps_dry(
     let mut point = from;
     let mut bodies = Queue::new();
     for _ in 0..budget {
-        let Some(step) = next_step(rule, &mut point, &mut bodies) else {
+        let Some(here) = next_step(rule, point, &mut bodies) else {
             return run;
         };
-        let d = exec_dry(env, v, point, step);
+        let d = exec_dry(env, v, here);
         run = take_step(run, effects, d);
-        queue_body(&mut bodies, point, step);
-        point = d.next.unwrap_or(point);
+        queue_body(&mut bodies, here);
+        point = d.next.unwrap_or(here.point);
     }
-    let left = next_step(rule, &mut point, &mut bodies);
+    let left = next_step(rule, point, &mut bodies);
     run.reason = note_partial(run.reason, unpaid(left));
     run
 }

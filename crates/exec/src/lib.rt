@@ -16,14 +16,16 @@ pub mod steps;
 mod timers;
 mod variables;
 
-ghost use Rattle.std.specs.Prelude.{◌≡◌};
+ghost use Rattle.std.specs.Prelude.{◌≡◌, suc, ◌+◌, ◌≤◌};
+ghost use Rattle.words.specs.Saturating.{max32};
 ghost use Rattle.image.specs.Sized.{Sized};
 ghost use Rattle.state.specs.Meaning.{meaning};
 ghost use Rattle.exec.specs.Lists.{NearLists};
+ghost use Rattle.exec.specs.Paid.{reach};
 ghost use Rattle.exec.specs.Results.{ValueAt};
 
 use image::layout::Image;
-use model::{Effect, Point};
+use model::{Effect, Point, Step};
 use state::State;
 use state::reasons::Reason;
 
@@ -75,6 +77,15 @@ pub struct FlatRule<'a> {
     pub own: usize,
 
     ghost near: { NearLists part.now own },
+}
+
+// A step of a rule and the point that it stands at. Behind the point there is room for all that the step leads to.
+#[derive(Clone, Copy)]
+pub struct Placed {
+    pub point: Point,
+    pub step: Step,
+
+    ghost room: { suc point.place + reach step ≤ max32 },
 }
 
 // An action that cannot be evaluated.

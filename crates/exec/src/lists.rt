@@ -2,8 +2,9 @@
 ghost use Rattle.std.specs.Prelude.{◌≡◌, slice_get};
 ghost use Rattle.flat.specs.Words.{step_of, steps_in};
 ghost use Rattle.exec.specs.Lists.{step_in, IsNear};
+ghost use Rattle.exec.specs.Stands.{step_of_placed, StandsAt};
 
-use crate::FlatRule;
+use crate::{FlatRule, Placed};
 use flat::body::list_of;
 use model::{Point, Step};
 
@@ -32,10 +33,12 @@ fn step_at(list: &[u32], place: u32) -> Option<Step>
 
 impl FlatRule<'_> {
     // The step at a point, if its list is not at its end there.
-    pub fn step_at(&self, point: Point) -> Option<Step>
-        ensures found { result ≡ step_in self.now.part.now self.now.own point }
-        ensures near { IsNear point result }
+    pub fn step_at(&self, point: Point) -> Option<Placed>
+        ensures found { step_of_placed result ≡ step_in self.now.part.now self.now.own point }
+        ensures at { StandsAt point result }
+        ensures near { IsNear point (step_of_placed result) }
     {
-        step_at(list_of(self.part, self.own, point.list), point.place)
+        let step = step_at(list_of(self.part, self.own, point.list), point.place)?;
+        Some(Placed { point, step })
     }
 }

@@ -1,15 +1,15 @@
 // `run_steps`: a run of a rule from a point on, with a budget.
 ghost use Rattle.std.specs.Prelude.{◌≡◌, ◌<◌};
 ghost use Rattle.words.specs.Saturating.{max32};
-ghost use Rattle.model.specs.Exec.{first_reason, unpaid};
+ghost use Rattle.model.specs.Exec.{first_reason};
 ghost use Rattle.state.specs.Reasons.{reason_number};
 ghost use Rattle.exec.specs.Done.{run_done};
-ghost use Rattle.exec.specs.Runs.{Taken, Ready, Runs};
+ghost use Rattle.exec.specs.Runs.{unpaid_of, Taken, Ready, Runs};
 
 use crate::effects::put_effect;
 use crate::steps::exec;
 use crate::{Env, FlatRule, RunResult, StepResult};
-use model::{Point, Step};
+use model::Point;
 use state::State;
 use state::reasons::Reason;
 
@@ -21,13 +21,10 @@ pub fn note_partial(a: Option<Reason>, b: Option<Reason>) -> Option<Reason>
 }
 
 // Where a step is left and no budget for it, the reason is `EffectBudget`.
-pub fn unpaid(left: Option<Step>) -> Option<Reason>
-    ensures { reason_number result ≡ unpaid left }
+pub fn unpaid<T: Drop>(left: Option<T>) -> Option<Reason>
+    ensures { reason_number result ≡ unpaid_of left }
 {
-    match left {
-        Some(_) => Some(Reason::EffectBudget),
-        None => None,
-    }
+    left.and(Some(Reason::EffectBudget))
 }
 
 // What a paid step did is taken over, and its effect written.
@@ -58,10 +55,10 @@ pub fn run_steps(
     };
     let mut point = from;
     for left in (0..budget).rev() {
-        let Some(step) = rule.step_at(point) else {
+        let Some(here) = rule.step_at(point) else {
             return run;
         };
-        let d = exec(env, v, left, point, step);
+        let d = exec(env, v, left, here);
         run = take_step(run, effects, d);
         let Some(next) = d.next else {
             return run;

@@ -5,12 +5,12 @@ ghost use Rattle.model.specs.declared.Step.TheVariants.{Primitive, Wait, Branch,
 ghost use Rattle.state.specs.Meaning.{accepted};
 ghost use Rattle.state.specs.Reasons.{reason_number};
 ghost use Rattle.exec.specs.Done.{action_done, step_done};
-ghost use Rattle.exec.specs.Paid.{Follows, GoesOn, SchedulesOf, StepsAlways, StepsAt, StepsIn, reach};
+ghost use Rattle.exec.specs.Paid.{Follows, GoesOn, SchedulesOf, StepsAlways, StepsAt, StepsIn};
 
 use crate::actions::prim_at;
 use crate::answers::fails;
 use crate::places::{advance, body_start, enter_then};
-use crate::{Env, PrimResult, StepResult, Unevaluable};
+use crate::{Env, Placed, PrimResult, StepResult, Unevaluable};
 use eval::conditions::condition_at;
 use model::{Point, Step};
 use state::State;
@@ -115,11 +115,12 @@ pub fn fail(v: &mut State, sp: Point) -> StepResult
 }
 
 #[tactic(auto, unfolding(model::specs::Exec::exec))]
-pub fn exec(env: &Env, v: &mut State, left: u32, sp: Point, step: Step) -> StepResult
-    requires { (accepted v.old < max64) × (suc sp.place + reach step ≤ max32) }
-    ensures { StepsIn env.now.snapshot.now env.now.image.now env.now.job v.old left sp step (step_done v.new result) }
+pub fn exec(env: &Env, v: &mut State, left: u32, here: Placed) -> StepResult
+    requires { accepted v.old < max64 }
+    ensures { StepsIn env.now.snapshot.now env.now.image.now env.now.job v.old left here.point here.step (step_done v.new result) }
 {
-    match step {
+    let sp = here.point;
+    match here.step {
         Step::Primitive(i) => primitive(env, v, sp, i),
         Step::Wait(ms) => run_wait(env, v, left, sp, ms),
         Step::Branch(c, t, n) => run_branch(env, v, sp, c, t, n),

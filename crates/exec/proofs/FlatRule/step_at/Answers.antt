@@ -1,11 +1,18 @@
 -- `exec::FlatRule::step_at` meets its contract. Assumes nothing.
-use mathlib.Core.List.{List}
-use mathlib.Core.Path.{ap, ◌∙◌}
 use Prim.Native.Nat.{ℕ}
+use native.Mathlib.Omega.{arith}
+use mathlib.Core.List.{List}
+use mathlib.Core.Path.{sym, ap, ◌∙◌}
 use Rattle.std.specs.Prelude.{slice_get}
 use Rattle.flat.specs.Words.{steps_in}
 use Rattle.exec.proofs.Decoded.{found-near}
 use Rattle.exec.proofs.FlatRule.step_at.Goals as goal
 
+pub invariant_of-result : goal.invariant_of-result
+invariant_of-result c =
+    let near = found-near _ _ c.args.point _ c.args.self.now.near (sym c.in_ok-step.was ∙ c.step_at.ensures ∙ ap (λ (w : List ℕ). slice_get (steps_in w) c.args.point.place) c.list_of.ensures) in
+    record { room = omega (arith, near.0, near.1) }
+
 pub returns-clause-near : goal.returns-clause-near
-returns-clause-near c = found-near _ _ c.args.point _ c.args.self.now.near (c.step_at.ensures ∙ ap (λ (w : List ℕ). slice_get (steps_in w) c.args.point.place) c.list_of.ensures)
+returns-clause-near c =
+    found-near _ _ c.args.point _ c.args.self.now.near (sym c.in_ok-step.was ∙ c.step_at.ensures ∙ ap (λ (w : List ℕ). slice_get (steps_in w) c.args.point.place) c.list_of.ensures)

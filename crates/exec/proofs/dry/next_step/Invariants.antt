@@ -3,8 +3,8 @@ use lib.ListN.{length}
 use Rattle.exec.proofs.DryGoing.{Moving}
 use Rattle.exec.proofs.dry.next_step.Given as goal
 
-abbrev pub invariant-loop-step : goal.invariant-loop-step
-invariant-loop-step l = Moving l.rule.part.now l.rule.own l.initial.point l.initial.bodies l.point l.bodies
+abbrev pub invariant-loop-here : goal.invariant-loop-here
+invariant-loop-here l = Moving l.rule.part.now l.rule.own l.initial.point l.initial.bodies l.point l.bodies
 
-abbrev pub decreases-loop-step : goal.decreases-loop-step
-decreases-loop-step l = length l.bodies
+abbrev pub decreases-loop-here : goal.decreases-loop-here
+decreases-loop-here l = length l.bodies

@@ -14,14 +14,14 @@ loop-init c =
     record { says = λ flat s. rw (all, e); based = refl; accepts = refl; grows = omega arith; counts = omega arith; last = refl; queue = omega (arith, p.most, ap length e); long = refl }
 
 pub returns-in_default : goal.returns-in_default
-returns-in_default c = runs-past _ _ _ _ _ _ _ _ _ _ _ _ _ _ _ _ c.loop.invariant _ _ _ c.next_step.ensures c.in_default.is
+returns-in_default c = runs-past _ _ _ _ _ _ _ _ _ _ _ _ _ _ _ _ c.loop.invariant _ _ c.next_step.ensures c.in_default.is
 
 pub loop-preserved : goal.loop-preserved
 loop-preserved c =
     let less : c.args.budget - c.loop.counter - 1 ≡ c.args.budget - (c.loop.counter + 1) = omega arith in
     rw less at
-    (goes-on _ _ _ _ _ _ _ _ _ _ _ _ _ _ _ _ c.loop.invariant _ _ _ c.next_step.ensures _ c.in-Some.is (omega (arith, c.loop-test.true)) _ _ c.exec_dry-d.ensures _ _ c.take_step-run.ensures _ c.queue_body.ensures _ c.unwrap_or-point.ensures c.take_step-run.auto.effects)
+    (goes-on _ _ _ _ _ _ _ _ _ _ _ _ _ _ _ _ c.loop.invariant _ _ c.next_step.ensures _ c.in-Some.is (omega (arith, c.loop-test.true)) _ _ c.exec_dry-d.ensures _ _ c.take_step-run.ensures _ c.queue_body.ensures _ c.unwrap_or-point.ensures c.take_step-run.auto.effects)
 
 pub returns : goal.returns
 returns c =
-    runs-spent _ _ _ _ _ _ _ _ _ _ _ _ _ _ _ _ c.loop.invariant _ _ _ c.next_step-left.ensures _ (omega (arith, c.loop-test.false)) (c.note_partial-run.ensures ∙ rw c.unpaid.ensures) refl
+    runs-spent _ _ _ _ _ _ _ _ _ _ _ _ _ _ _ _ c.loop.invariant _ _ c.next_step-left.ensures _ (omega (arith, c.loop-test.false)) (c.note_partial-run.ensures ∙ rw c.unpaid.ensures) refl

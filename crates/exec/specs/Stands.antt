@@ -1,0 +1,14 @@
+-- A step that stands at a point of a rule, where there is one.
+use Rattle.std.specs.Prelude.{◌≡◌, Option, None, Some}
+use Rattle.model.specs.declared.Point.{Point}
+use Rattle.model.specs.declared.Step.{Step}
+use Rattle.exec.specs.declared.Placed.{Placed}
+
+abbrev pub step_of_placed : Option Placed → Option Step
+step_of_placed None = None
+step_of_placed (Some x) = Some x.step
+
+-- it stands at this point
+abbrev pub StandsAt : Point → Option Placed → Type 0
+StandsAt p None = Unit {0}
+StandsAt p (Some x) = x.point ≡ p
