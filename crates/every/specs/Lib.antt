@@ -1,4 +1,3 @@
 -- What the contracts of `every` cite.
 pub mod Joined
-pub mod Kept
 pub mod Facts

@@ -18,7 +18,7 @@ ghost use Rattle.every.specs.Joined.{HasRoom, Joined};
 pub mod kept;
 
 use image::layout::{Image, Table};
-use kept::{Key, Slots};
+use kept::{Key, Slots, due_of, same};
 use model::{EverySlot, Trigger};
 use state::State;
 use state::place::{PENDING, SLOTS};
@@ -38,7 +38,7 @@ fn slot_of(old: &Slots, time: u64, key: Key) -> EverySlot
     ensures { slots_from old.now time key.rule key.place (Every key.period ∷ []) ≡ result ∷ [] }
 {
     let fresh = time.saturating_add(key.period as u64);
-    let due = old.due_of(key, fresh);
+    let due = due_of(old, key, fresh);
     EverySlot {
         rule: key.rule,
         place: key.place,
@@ -108,5 +108,5 @@ pub fn same_slots(slots: &Slots, image: &Image) -> bool
     let mut rebuilt = [0u32; PENDING - SLOTS];
     Loadable { image }.join_all(&Slots::new(&[], 0, 0), 0, &mut rebuilt);
     let count = rebuilt[0] as usize;
-    slots.same(&Slots::new(&rebuilt, 1, count))
+    same(slots, &Slots::new(&rebuilt, 1, count))
 }

@@ -3,7 +3,7 @@ use mathlib.Core.Path.{◌≡◌, refl, sym, ap, ◌∙◌}
 use mathlib.Core.Bool.{Bool, true, false, ◌||◌, not}
 use mathlib.Core.List.{List, [], ◌∷◌, ◌++◌}
 use Rattle.std.specs.Prelude.{None, Some, cond}
-use Prim.Native.Nat.{ℕ, zero, suc, ◌+◌, ◌*◌, ◌^◌, ◌<◌}
+use Prim.Native.Nat.{ℕ, zero, suc, ◌+◌, ◌*◌, ◌^◌, ◌≤◌, ◌<◌}
 use native.Mathlib.Nat.{add-zero, zero-mul, suc-mul, mod-eq_of_lt, le_of_suc-le-suc, not-suc-le-zero}
 use native.Mathlib.Numerals.{add-one}
 use native.Mathlib.Omega.{arith}
@@ -139,6 +139,10 @@ short-is r h = ap (λ (v : VarValue). record { name = r.0; value = v }) (by (is_
     by true e = ap Text (mod-eq_of_lt (ltb-true r.1.1 (2 ^ 32) e))
 
 -- TABLES ------------------------------------------------------------------------------------------------------------------------------
+-- a row is no longer than its table
+pub one_row : (i m width : ℕ) → i ≡ suc m → width ≤ i * width
+one_row i m width e = let q = suc-mul m width in rw e (omega (arith, q))
+
 module _ {A : Type 0} (r : Row A) (w : List ℕ) where
   abbrev n : ℕ
   n = length r.cells
@@ -168,6 +172,20 @@ module _ {A : Type 0} (r : Row A) (w : List ℕ) where
       ∙ ap (λ (l : List A). l ++ (x ∷ [])) e
       ∙ ap (λ (y : A). table_at r i w k ++ (y ∷ [])) (ex ∙ ap (λ (y : ℕ). row_at r w y) ej)
       ∙ sym (table_more i k))
+
+  rows_long : (i : ℕ) (v : List ℕ) → length (rows_at r i v) ≡ i
+  unfolding rows_at
+  rows_long zero v = refl
+  rows_long (suc i) v = ap suc (rows_long i (drop n v))
+
+  pub table_long : (i k : ℕ) → length (table_at r i w k) ≡ i
+  unfolding table_at
+  table_long i k = rows_long i (drop k w)
+
+  -- the first row, and those behind it
+  pub table_first : (i k j m : ℕ) → i ≡ suc m → j ≡ k + n → table_at r i w k ≡ row_at r w k ∷ table_at r m w j
+  unfolding table_at rows_at row_at
+  table_first i k j m e f = rw (e, f) (ap (λ (v : List ℕ). r.get (drop k w) ∷ rows_at r m v) (drop-drop n k w))
 
   row_of : (p : A → Bool) (m i : ℕ) (v : List ℕ) → all p (rows_at r m v) ≡ true → i < m → p (r.get (drop (i * n) v)) ≡ true
   unfolding rows_at

@@ -11,7 +11,7 @@ use Rattle.engine.proofs.sets.with_set.Goals as goal
 pub new-old-requires : goal.new-old-requires
 new-old-requires c =
     let k = saying _ _ c.words-words.ensures in
-    (omega arith, omega (arith, c.at-n.ensures, (counted _ k.reads.readable).slots))
+    omega (arith, c.at-n.ensures, (counted _ k.reads.readable).slots)
 
 pub rebuild_every-requires : goal.rebuild_every-requires
 rebuild_every-requires c =
