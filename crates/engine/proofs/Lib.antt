@@ -6,5 +6,6 @@ pub mod CallLaws
 pub mod HandlingLaws
 pub mod DeadlineLaws
 pub mod TickLaws
+pub mod InputLaws
 pub mod AskedLaws
 pub mod StartLaws

@@ -1,7 +1,8 @@
-// Tick and run of a store that keeps the store rules, with a snapshot that is accepted: `handle`.
-ghost use Rattle.std.specs.Prelude.{◌≡◌, true, ◌||◌, length, replicate};
-ghost use Rattle.std.specs.Prelude.{Some, Err};
+// Tick and run: `handle`.
+ghost use Rattle.std.specs.Prelude.{◌≡◌, true, ◌||◌, length};
+ghost use Rattle.std.specs.Prelude.{Some};
 ghost use Rattle.model.specs.Lists.{present};
+ghost use Rattle.model.specs.Refusals.{refusal_number};
 ghost use Rattle.model.specs.State.{RuleSet, is_enabled};
 ghost use Rattle.model.specs.Store.{read};
 ghost use Rattle.model.specs.Snapshot.{snapshot_refusal};
@@ -10,8 +11,13 @@ ghost use Rattle.model.specs.Calls.{rule_in, run_rule};
 ghost use Rattle.state.specs.Meaning.{AllNumbered, meaning};
 ghost use Rattle.activate.specs.Carried.{carried};
 ghost use Rattle.activate.specs.Handled.{Continues, Room};
-ghost use Rattle.engine.specs.Handling.{begun, ran_in, ticked_in, Commits};
+ghost use Rattle.model.specs.OnWords.{call_on};
+ghost use Rattle.engine.specs.Seen.{seen};
+ghost use Rattle.engine.specs.Answers.{shown, handled_values};
+ghost use Rattle.engine.specs.Handling.{begun, ran_in, ticked_in, over_of, Commits};
+ghost use Rattle.engine.specs.Inputs.{dispatched_in, call_of};
 
+use crate::asked::opened_with;
 use activate::{Handled, Mode};
 use counters::Counter;
 use image::layout::Image;
@@ -20,23 +26,40 @@ use state::State;
 use store::checked::Checked;
 use store::set::image_in;
 
+// What comes in beside the snapshot: a tick, or a rule that runs, by its name.
+#[derive(Clone, Copy)]
+pub enum EngineInput {
+    Tick,
+    RunRule { name: u32, dry: bool },
+}
+
 // Nothing is written yet.
 const NOTHING: Handled = Handled {
     outcomes: 0,
     effects: 0,
 };
 
-// A refusal leaves nothing in the lent stores.
-fn refuse(outcomes: &mut [u32], effects: &mut [u32], refusal: Refusal) -> Result<Handled, Refusal>
-    ensures { (result ≡ Err refusal) × (outcomes.new ≡ replicate (length outcomes.old) 0) × (effects.new ≡ replicate (length effects.old) 0) }
+// The lowest refusal of a call that has come to x, where there is one: there is no room for it, or no number.
+fn fits(outcomes: &[u32], effects: &[u32], v: &State, x: Handled) -> Result<(), Refusal>
+    ensures { refusal_number result ≡ over_of (length outcomes.now) (length effects.now) (carried v.now x) }
 {
-    lent_words::clear(outcomes);
-    lent_words::clear(effects);
-    Err(refusal)
+    if outcomes.len() / activate::OUTCOME_WORDS < x.outcomes as usize {
+        return Err(Refusal::LentStores);
+    }
+    if effects.len() / lent_words::EFFECT_WORDS < x.effects as usize {
+        return Err(Refusal::LentStores);
+    }
+    if !state::sequence::next_fits(v) {
+        return Err(Refusal::SequenceNumber);
+    }
+    if !state::last_number::last_fits(v) {
+        return Err(Refusal::ActivationNumber);
+    }
+    Ok(())
 }
 
-// The call has come to x: it is refused with 30, 31 or 32, or the store is written.
-pub fn commit(
+// The call has come to x: it is refused with 30, 31 or 32, and leaves nothing in the lent stores, or the store is written.
+fn commit(
     store: &mut [u32],
     outcomes: &mut [u32],
     effects: &mut [u32],
@@ -47,22 +70,19 @@ pub fn commit(
     requires { present (read store.old) ≡ true }
     ensures { Commits (carried v.old x) time store.old outcomes.old effects.old result store.new outcomes.new effects.new }
 {
-    if outcomes.len() / activate::OUTCOME_WORDS < x.outcomes as usize {
-        return refuse(outcomes, effects, Refusal::LentStores);
+    match fits(outcomes, effects, v, x) {
+        Err(refusal) => {
+            lent_words::clear(outcomes);
+            lent_words::clear(effects);
+            Err(refusal)
+        }
+        Ok(()) => {
+            state::sequence::assign_numbers(v);
+            store::volatile::put_state(store, v);
+            store::set::put_last(store, time);
+            Ok(x)
+        }
     }
-    if effects.len() / lent_words::EFFECT_WORDS < x.effects as usize {
-        return refuse(outcomes, effects, Refusal::LentStores);
-    }
-    if !state::sequence::next_fits(v) {
-        return refuse(outcomes, effects, Refusal::SequenceNumber);
-    }
-    if !state::last_number::last_fits(v) {
-        return refuse(outcomes, effects, Refusal::ActivationNumber);
-    }
-    state::sequence::assign_numbers(v);
-    store::volatile::put_state(store, v);
-    store::set::put_last(store, time);
-    Ok(x)
 }
 
 // A wet run asks whether the rule is enabled, a dry one does not.
@@ -114,7 +134,7 @@ fn run_at(
 }
 
 // `run_rule`: a rule that is not loaded does nothing.
-pub fn run_rule(
+fn run_rule(
     store: &Checked,
     snapshot: &[u32],
     outcomes: &mut [u32],
@@ -133,7 +153,7 @@ pub fn run_rule(
 }
 
 // `service_tick`: without a set nothing is due.
-pub fn service(
+fn service(
     store: &Checked,
     snapshot: &[u32],
     outcomes: &mut [u32],
@@ -154,4 +174,43 @@ pub fn service(
             v,
         ),
     }
+}
+
+// What comes in is done.
+fn dispatch(
+    input: EngineInput,
+    store: &Checked,
+    snapshot: &[u32],
+    outcomes: &mut [u32],
+    effects: &mut [u32],
+    v: &mut State,
+) -> Handled
+    requires { (snapshot_refusal snapshot.now ≡ 0) × AllNumbered v.old store.now.vol }
+    ensures { Continues (begun v.old) outcomes.old effects.old (dispatched_in input store.now.loaded snapshot.now (meaning v.old)) (carried v.new result) outcomes.new effects.new }
+{
+    match input {
+        EngineInput::Tick => service(store, snapshot, outcomes, effects, v),
+        EngineInput::RunRule { name, dry } => {
+            run_rule(store, snapshot, outcomes, effects, v, name, dry)
+        }
+    }
+}
+
+// In the world of a snapshot. Outcomes and effects go into the lent stores.
+pub fn handle(
+    store: &mut [u32],
+    input: EngineInput,
+    snapshot: &[u32],
+    outcomes: &mut [u32],
+    effects: &mut [u32],
+) -> Result<Handled, Refusal>
+    ensures { shown handled_values result store.new outcomes.new effects.new ≡ seen (call_on (call_of input snapshot.now (length outcomes.old) (length effects.old)) store.old) }
+{
+    lent_words::clear(outcomes);
+    lent_words::clear(effects);
+    let checked = opened_with(store, snapshot)?;
+    let mut v = State::new();
+    checked.begin(&mut v);
+    let x = dispatch(input, &checked, snapshot, outcomes, effects, &mut v);
+    commit(store, outcomes, effects, world::now_ms(snapshot), &mut v, x)
 }

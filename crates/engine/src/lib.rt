@@ -14,6 +14,7 @@ ghost use Rattle.engine.specs.Asked.{next_start_on};
 
 use activate::Handled;
 use asked::{opened, opened_with};
+use handle::{EngineInput, handle};
 use image::layout::Image;
 use model::Refusal;
 use next::NextStart;
@@ -51,6 +52,8 @@ pub fn load(store: &mut [u32], time: u64, image: &[u32]) -> Result<(), Refusal>
 }
 
 // No set of rules.
+// kept: `load`, `unload` and `enable` open the store and put the state back. `load` and `unload` put the set before it and the time behind it, and `enable`
+// may end before it, so that one function would take a closure for each of these.
 pub fn unload(store: &mut [u32], time: u64) -> Result<(), Refusal>
     ensures { shown no_values result store.new [] [] ≡ seen (call_on (unload time) store.old) }
 {
@@ -89,13 +92,7 @@ pub fn tick(
 ) -> Result<Handled, Refusal>
     ensures { shown handled_values result store.new outcomes.new effects.new ≡ seen (call_on (tick snapshot.now (length outcomes.old) (length effects.old)) store.old) }
 {
-    lent_words::clear(outcomes);
-    lent_words::clear(effects);
-    let checked = opened_with(store, snapshot)?;
-    let mut v = State::new();
-    checked.begin(&mut v);
-    let x = handle::service(&checked, snapshot, outcomes, effects, &mut v);
-    handle::commit(store, outcomes, effects, world::now_ms(snapshot), &mut v, x)
+    handle(store, EngineInput::Tick, snapshot, outcomes, effects)
 }
 
 // A rule runs, by its name, in the world of a snapshot.
@@ -109,13 +106,8 @@ pub fn run(
 ) -> Result<Handled, Refusal>
     ensures { shown handled_values result store.new outcomes.new effects.new ≡ seen (call_on (run rule dry snapshot.now (length outcomes.old) (length effects.old)) store.old) }
 {
-    lent_words::clear(outcomes);
-    lent_words::clear(effects);
-    let checked = opened_with(store, snapshot)?;
-    let mut v = State::new();
-    checked.begin(&mut v);
-    let x = handle::run_rule(&checked, snapshot, outcomes, effects, &mut v, rule, dry);
-    handle::commit(store, outcomes, effects, world::now_ms(snapshot), &mut v, x)
+    let input = EngineInput::RunRule { name: rule, dry };
+    handle(store, input, snapshot, outcomes, effects)
 }
 
 // When the store next has something to do.

@@ -1,7 +1,9 @@
 // What load and unload make of the parts that calls change.
 ghost use Rattle.std.specs.Prelude.{◌≡◌, List, ℕ, ◌≤◌, length, get_or, take};
 ghost use Rattle.std.specs.Prelude.{Option, None};
+ghost use Rattle.model.specs.Image.{size_of};
 ghost use Rattle.model.specs.Load.{image_refusal};
+ghost use Rattle.model.specs.Rows.{rules};
 ghost use Rattle.model.specs.State.{with_rest};
 ghost use Rattle.model.specs.Store.{rule_count};
 ghost use Rattle.model.specs.Calls.{kept, rest_with, rest_without};
@@ -39,9 +41,7 @@ fn old_place(store: &Checked, name: u32) -> usize
 }
 
 // Rule i of a set: its bit, and what the store keeps for its name.
-// kept: that load accepts the image is found once, by `load::refusal`, and said here alone
 fn put_rule(store: &Checked, image: &Image, i: u32, v: &mut State)
-    requires { image_refusal image.now ≡ 0 }
     ensures { Means v.new (base v.old) (with_rest (rule_of image.now store.now i (meaning v.old).rest) (meaning v.old)) }
 {
     let words = store.words();
@@ -55,7 +55,7 @@ fn put_rule(store: &Checked, image: &Image, i: u32, v: &mut State)
 
 // The rules of a set.
 fn put_rules(store: &Checked, image: &Image, v: &mut State)
-    requires { image_refusal image.now ≡ 0 }
+    requires { size_of image.now rules ≤ 64 }
     ensures { Means v.new (base v.old) (with_rest (rules_of image.now store.now (meaning v.old).rest) (meaning v.old)) }
 {
     let n = image.size_of(Table::Rules);

@@ -18,6 +18,9 @@ rebuild_every-requires c =
     let l = loadable c.args.image.now c.requires in
     (l.accepted, l.few_enough)
 
+pub put_rules-requires : goal.put_rules-requires
+put_rules-requires c = (loadable c.args.image.now c.requires).few
+
 pub returns : goal.returns
 returns c =
     let s = c.args.store.now in
