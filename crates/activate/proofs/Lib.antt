@@ -1,7 +1,5 @@
 -- Laws that belong to no one function.
 pub mod Written
 pub mod Continues
-pub mod NearSteps
-pub mod FlatRules
 pub mod Running
 pub mod Activating

@@ -13,14 +13,14 @@ ghost use Rattle.model.specs.Kinds.{trigger_number};
 ghost use Rattle.model.specs.Rows.{rules};
 ghost use Rattle.model.specs.Rules.{rule_named, hold_hcl_of};
 ghost use Rattle.image.specs.Accepted.{Accepted};
-ghost use Rattle.exec.specs.Lists.{FlatWords};
 ghost use Rattle.activate.specs.Carried.{carried};
 ghost use Rattle.activate.specs.Decisions.{is_auto, is_dry};
 ghost use Rattle.activate.specs.Handled.{Room, Activates, Resumes};
 
 use crate::decide::Decision;
 use counters::Counter;
-use exec::{Env, FlatRule, Job};
+use exec::{Env, Job};
+use flat::FlatRule;
 use image::layout::Image;
 use model::{Pending, TriggerKind};
 use state::State;
@@ -75,12 +75,11 @@ fn job_of(image: &Image, name: u32, i: u32, trigger: u32, dry: bool, number: u64
     }
 }
 
-// Rule i, by a trigger kind of an outcome. `part` is its part of the flat steps, where its own list stands behind `own` steps.
+// Rule i, by a trigger kind of an outcome, with its part of the flat steps.
 pub fn activate(
     snapshot: &[u32],
     image: &Image,
-    part: &[u32],
-    own: usize,
+    rule: &FlatRule,
     outcomes: &mut [u32],
     effects: &mut [u32],
     v: &mut State,
@@ -89,11 +88,10 @@ pub fn activate(
     kind: TriggerKind,
     mode: Mode,
 ) -> Handled
-    requires accepted { Accepted image.now × FlatWords part.now own × (i < size_of image.now rules) }
+    requires accepted { Accepted image.now × (i < size_of image.now rules) }
     requires room { Room 1 (carried v.old x) }
-    ensures { Activates snapshot.now image.now part.now own i (trigger_number kind) mode (carried v.old x) outcomes.old effects.old (carried v.new result) outcomes.new effects.new }
+    ensures { Activates snapshot.now image.now rule.now.part.now rule.now.own i (trigger_number kind) mode (carried v.old x) outcomes.old effects.old (carried v.new result) outcomes.new effects.new }
 {
-    let rule = FlatRule { part, own };
     let dry = mode.is_dry();
     let job = job_of(image, image.name_of(i), i, u32::from(kind), dry, 0);
     let env = Env {
@@ -102,7 +100,7 @@ pub fn activate(
         job,
     };
     match decide::decide(&env, v, mode) {
-        Decision::Begins => execute::execute(&env, &rule, outcomes, effects, v, x),
+        Decision::Begins => execute::execute(&env, rule, outcomes, effects, v, x),
         Decision::InCooldown => {
             state::bump(v, Counter::SuppressedCooldown, 1);
             x
@@ -118,12 +116,11 @@ pub fn activate(
     }
 }
 
-// A continuation of rule i goes on where it stood, under its own number. `part` and `own` as for `activate`.
+// A continuation of rule i goes on where it stood, under its own number.
 pub fn resume(
     snapshot: &[u32],
     image: &Image,
-    part: &[u32],
-    own: usize,
+    rule: &FlatRule,
     outcomes: &mut [u32],
     effects: &mut [u32],
     v: &mut State,
@@ -131,11 +128,10 @@ pub fn resume(
     i: u32,
     c: Pending,
 ) -> Handled
-    requires accepted { Accepted image.now × FlatWords part.now own × (rule_named image.now c.rule ≡ Some i) }
+    requires accepted { Accepted image.now × (rule_named image.now c.rule ≡ Some i) }
     requires budget_bound { (c.budget ≤ 256) × Room 1 (carried v.old x) }
-    ensures { Resumes snapshot.now image.now part.now own i c (carried v.old x) outcomes.old effects.old (carried v.new result) outcomes.new effects.new }
+    ensures { Resumes snapshot.now image.now rule.now.part.now rule.now.own i c (carried v.old x) outcomes.old effects.old (carried v.new result) outcomes.new effects.new }
 {
-    let rule = FlatRule { part, own };
     let from = c.point;
     let job = job_of(image, c.rule, i, c.trigger, false, c.number);
     let env = Env {
@@ -144,5 +140,5 @@ pub fn resume(
         job,
     };
     state::bump(v, Counter::ContinuationsFired, 1);
-    execute::run_wet(&env, &rule, outcomes, effects, v, x, from, c.budget)
+    execute::run_wet(&env, rule, outcomes, effects, v, x, from, c.budget)
 }

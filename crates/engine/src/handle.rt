@@ -116,13 +116,11 @@ fn run_at(
     let mode = if dry { Mode::Dry } else { Mode::Manual };
     let words = store.words();
     let image = Image::new(image_in(words));
-    let part = store::flat_part::rule_steps(words, i);
-    let own = store::flat_part::rule_own(words, i);
+    let steps = store::flat_part::rule_flat(words, i);
     activate::activate(
         snapshot,
         &image,
-        part,
-        own,
+        &steps,
         outcomes,
         effects,
         v,

@@ -27,18 +27,18 @@ use Rattle.state.specs.Reasons.{reason_number}
 use Rattle.eval.specs.Answers.{env_of}
 use Rattle.exec.specs.Results.{job_of}
 use Rattle.lent_words.specs.PutEffects.{put_effects}
-use Rattle.exec.specs.Lists.{step_in}
+use Rattle.flat.specs.Near.{step_in}
 use Rattle.exec.specs.Queue.{first, rest}
 use Rattle.exec.specs.Runs.{Taken, unpaid_of}
 use Rattle.exec.specs.DryRuns.{body_point, bodies_of, queued_by, Queues, next_found, Moves, DrySteps, RunsDry}
 use Rattle.exec.specs.declared.Job.{Job}
-use Rattle.exec.specs.declared.Placed.{Placed}
+use Rattle.flat.specs.declared.Placed.{Placed}
 use Rattle.exec.specs.declared.RunResult.{RunResult}
 use Rattle.exec.specs.declared.StepResult.{StepResult}
 use Rattle.exec.specs.Done.{step_done, run_done}
 use Rattle.state.proofs.Follows.{next-is, accepted-by-next}
 use Rattle.lent_words.proofs.Written.{put-append}
-use Rattle.exec.proofs.Decoded.{is-step}
+use Rattle.flat.proofs.Decoded.{is-step}
 use Rattle.exec.proofs.Going.{few, reason-none, reason-assoc, Finished, finished}
 
 -- ---- the queue behind a step

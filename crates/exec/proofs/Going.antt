@@ -26,17 +26,17 @@ use Rattle.eval.specs.Answers.{env_of}
 use Rattle.exec.specs.Results.{job_of}
 use Rattle.exec.specs.Paid.{Steps}
 use Rattle.lent_words.specs.PutEffects.{put_effects}
-use Rattle.exec.specs.Lists.{step_in}
+use Rattle.flat.specs.Near.{step_in}
 use Rattle.exec.specs.Runs.{Taken, Runs, unpaid_of}
-use Rattle.exec.specs.Stands.{step_of_placed}
+use Rattle.flat.specs.Stands.{step_of_placed}
 use Rattle.exec.specs.declared.Job.{Job}
-use Rattle.exec.specs.declared.Placed.{Placed}
+use Rattle.flat.specs.declared.Placed.{Placed}
 use Rattle.exec.specs.declared.RunResult.{RunResult}
 use Rattle.exec.specs.declared.StepResult.{StepResult}
 use Rattle.exec.specs.Done.{step_done, run_done}
 use Rattle.lent_words.proofs.Written.{put-append}
 use Rattle.exec.proofs.Bounds.{accepts-one, takes-none}
-use Rattle.exec.proofs.Decoded.{is-step}
+use Rattle.flat.proofs.Decoded.{is-step}
 
 -- a step emits at most one effect
 pub few : {A : Type 0} (o : Option A) → length (to_list o) ≤ 1

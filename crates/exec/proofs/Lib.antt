@@ -3,7 +3,6 @@ pub mod Follows
 pub mod Cases
 pub mod PoolWords
 pub mod Stepped
-pub mod Decoded
 pub mod Bounds
 pub mod Going
 pub mod DryLaws

@@ -15,7 +15,8 @@ use Rattle.model.specs.declared.Step.{Step}
 use Rattle.model.specs.declared.Step.TheVariants.{Primitive, Branch, Fail}
 use Rattle.state.specs.Meaning.{meaning}
 use Rattle.exec.specs.Results.{Does}
-use Rattle.exec.specs.Paid.{Steps, reach}
+use Rattle.flat.specs.Near.{reach}
+use Rattle.exec.specs.Paid.{Steps}
 use Rattle.exec.specs.Done.{ActionDone, StepDone}
 
 pub steps-as : {v : List ℕ} {r : StepDone} {a b : model.StepResult} → Steps v r a → a ≡ b → Steps v r b

@@ -16,7 +16,7 @@ use Rattle.lent_words.specs.PutEffects.{put_effects}
 use Rattle.exec.specs.Results.{job_of}
 use Rattle.exec.specs.Done.{RunDone, StepDone}
 use Rattle.exec.specs.declared.Job.{Job}
-use Rattle.exec.specs.declared.Placed.{Placed}
+use Rattle.flat.specs.declared.Placed.{Placed}
 
 -- from v the step came to r, and the specification to d
 pub record DrySteps (v : List ℕ) (r : StepDone) (d : model.DryStepResult) : Type 0 where

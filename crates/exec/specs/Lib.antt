@@ -2,8 +2,6 @@
 pub mod Done
 pub mod Results
 pub mod Paid
-pub mod Lists
-pub mod Stands
 pub mod Queue
 pub mod Runs
 pub mod DryRuns

@@ -1,5 +1,5 @@
 -- What one paid step did, in the specification's terms.
-use Rattle.std.specs.Prelude.{ℕ, ◌+◌, ◌≡◌, List}
+use Rattle.std.specs.Prelude.{ℕ, ◌≡◌, List}
 use Rattle.std.specs.Prelude.{None, Some}
 use Rattle.model.specs.Actions as actions
 use Rattle.model.specs.Exec as model
@@ -8,20 +8,11 @@ use Rattle.model.specs.State.{Env}
 use Rattle.model.specs.Steps.{FlatStep}
 use Rattle.model.specs.declared.Point.{Point}
 use Rattle.model.specs.declared.Step.{Step}
-use Rattle.model.specs.declared.Step.TheVariants.{Primitive, Wait, Branch, After, Fail}
 use Rattle.state.specs.Meaning.{Means, meaning, base}
 use Rattle.eval.specs.Answers.{env_of}
 use Rattle.exec.specs.Results.{Does, job_of}
 use Rattle.exec.specs.declared.Job.{Job}
 use Rattle.exec.specs.Done.{ActionDone, StepDone}
-
--- how far behind itself a step can lead
-abbrev pub reach : Step → ℕ
-reach (Primitive i) = 0
-reach (Wait ms) = 0
-reach (Branch c t n) = t + n
-reach (After ms) = 0
-reach Fail = 0
 
 -- from v the step came to r, and the specification to d
 pub record Steps (v : List ℕ) (r : StepDone) (d : model.StepResult) : Type 0 where

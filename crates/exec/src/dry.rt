@@ -6,7 +6,8 @@ ghost use Rattle.exec.specs.DryRuns.{DryStepsIn, Queues, Moves, DryReady, RunsDr
 use crate::places::advance;
 use crate::queue::Queue;
 use crate::runs::{note_partial, take_step, unpaid};
-use crate::{Env, FlatRule, Placed, RunResult, StepResult, steps};
+use crate::{Env, RunResult, StepResult, steps};
+use flat::{FlatRule, Placed};
 use model::{Point, Step};
 use state::State;
 

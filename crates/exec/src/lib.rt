@@ -7,7 +7,6 @@ mod answers;
 pub mod dry;
 mod effects;
 mod lights;
-mod lists;
 mod places;
 mod queue;
 mod rules;
@@ -16,16 +15,13 @@ pub mod steps;
 mod timers;
 mod variables;
 
-ghost use Rattle.std.specs.Prelude.{◌≡◌, suc, ◌+◌, ◌≤◌};
-ghost use Rattle.words.specs.Saturating.{max32};
+ghost use Rattle.std.specs.Prelude.{◌≡◌};
 ghost use Rattle.image.specs.Sized.{Sized};
 ghost use Rattle.state.specs.Meaning.{meaning};
-ghost use Rattle.exec.specs.Lists.{NearLists};
-ghost use Rattle.exec.specs.Paid.{reach};
 ghost use Rattle.exec.specs.Results.{ValueAt};
 
 use image::layout::Image;
-use model::{Effect, Point, Step};
+use model::{Effect, Point};
 use state::State;
 use state::reasons::Reason;
 
@@ -68,24 +64,6 @@ impl Env<'_> {
     {
         eval::values::value_at(&self.given(v), i)
     }
-}
-
-// A rule's part of the flat steps, where its own list stands behind `own` steps.
-#[derive(Clone, Copy)]
-pub struct FlatRule<'a> {
-    pub part: &'a [u32],
-    pub own: usize,
-
-    ghost near: { NearLists part.now own },
-}
-
-// A step of a rule and the point that it stands at. Behind the point there is room for all that the step leads to.
-#[derive(Clone, Copy)]
-pub struct Placed {
-    pub point: Point,
-    pub step: Step,
-
-    ghost room: { suc point.place + reach step ≤ max32 },
 }
 
 // An action that cannot be evaluated.

@@ -8,7 +8,8 @@ ghost use Rattle.exec.specs.Runs.{unpaid_of, Taken, Ready, Runs};
 
 use crate::effects::put_effect;
 use crate::steps::exec;
-use crate::{Env, FlatRule, RunResult, StepResult};
+use crate::{Env, RunResult, StepResult};
+use flat::FlatRule;
 use model::Point;
 use state::State;
 use state::reasons::Reason;

@@ -10,8 +10,9 @@ ghost use Rattle.exec.specs.Paid.{Follows, GoesOn, SchedulesOf, StepsAlways, Ste
 use crate::actions::prim_at;
 use crate::answers::fails;
 use crate::places::{advance, body_start, enter_then};
-use crate::{Env, Placed, PrimResult, StepResult, Unevaluable};
+use crate::{Env, PrimResult, StepResult, Unevaluable};
 use eval::conditions::condition_at;
+use flat::Placed;
 use model::{Point, Step};
 use state::State;
 use state::reasons::Reason;

@@ -17,5 +17,7 @@ pub mod RuleSays
 pub mod RuleLists
 pub mod Checked
 pub mod Counts
+pub mod NearSteps
+pub mod Decoded
 pub mod OpenBound
 pub mod FlatPart

@@ -1,4 +1,6 @@
 pub mod Words
+pub mod Near
+pub mod Stands
 pub mod Outcome
 pub mod Load
 pub mod OpenLists

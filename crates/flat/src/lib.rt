@@ -9,12 +9,14 @@ mod records;
 pub mod rules;
 mod steps;
 
-ghost use Rattle.std.specs.Prelude.{◌/◌, ◌≤◌, length};
+ghost use Rattle.std.specs.Prelude.{suc, ◌+◌, ◌/◌, ◌≤◌, length};
+ghost use Rattle.words.specs.Saturating.{max32};
 ghost use Rattle.flat.specs.Outcome.{Resolved};
 ghost use Rattle.flat.specs.Load.{CheckedTables};
 ghost use Rattle.flat.specs.Facts.{checked-prop, resolved-prop};
+ghost use Rattle.flat.specs.Near.{NearLists, reach};
 
-use model::FlattenCtx;
+use model::{FlattenCtx, Point, Step};
 
 // What flattening reads: the tables of a checked image, which block each action calls, the call depth and the repeat limit.
 #[derive(Clone, Copy)]
@@ -46,6 +48,24 @@ pub struct Done {
 pub struct Made {
     pub size: usize,
     pub same: bool,
+}
+
+// A rule's part of the flat steps: the bodies of its afters, `own` steps, and behind them its own list.
+#[derive(Clone, Copy)]
+pub struct FlatRule<'a> {
+    pub part: &'a [u32],
+    pub own: usize,
+
+    ghost near: { NearLists part.now own },
+}
+
+// A step of a rule and the point that it stands at. Behind the point there is room for all that the step leads to.
+#[derive(Clone, Copy)]
+pub struct Placed {
+    pub point: Point,
+    pub step: Step,
+
+    ghost room: { suc point.place + reach step ≤ max32 },
 }
 
 // The kinds of steps, as the first word of a row has them.

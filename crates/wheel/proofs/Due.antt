@@ -24,7 +24,7 @@ use Rattle.state.specs.Meaning.{meaning}
 use Rattle.store.specs.Volatile.{record_in}
 use Rattle.store.proofs.KeptRows.{record-kept}
 use Rattle.image.proofs.Accepted.{budget-fits}
-use Rattle.activate.proofs.FlatRules.{image-accepted}
+use Rattle.store.proofs.SetRules.{image-accepted}
 use Rattle.wheel.specs.Tick.{HasRecords, fits_set, are_indices, records_in}
 
 -- ---- one of the set

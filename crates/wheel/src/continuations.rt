@@ -15,7 +15,7 @@ use activate::{Handled, resume};
 use model::Pending;
 use state::State;
 use state::pending::{due_now, without_due};
-use store::flat_part::{rule_own, rule_steps};
+use store::flat_part::rule_flat;
 use store::volatile::pending_record;
 
 // One goes on. Its rule is loaded.
@@ -33,13 +33,11 @@ fn resume_one(
 {
     match env.image.rule_named(c.rule) {
         Some(i) => {
-            let part = rule_steps(env.store, i);
-            let own = rule_own(env.store, i);
+            let steps = rule_flat(env.store, i);
             resume(
                 env.snapshot,
                 env.image,
-                part,
-                own,
+                &steps,
                 outcomes,
                 effects,
                 v,

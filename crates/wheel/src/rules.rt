@@ -12,7 +12,7 @@ use activate::{Handled, Mode, activate};
 use model::TriggerKind;
 use state::State;
 use state::rules::is_enabled;
-use store::flat_part::{rule_own, rule_steps};
+use store::flat_part::rule_flat;
 
 pub fn activate_rule(
     rule: &Rule,
@@ -26,13 +26,11 @@ pub fn activate_rule(
     ensures { Fires 1 (model.activate (env_of rule.now.env.now) rule.now.i (trigger_number kind) model.Auto) (carried v.old x) outcomes.old effects.old (carried v.new result) outcomes.new effects.new }
 {
     let env = rule.env;
-    let part = rule_steps(env.store, rule.i);
-    let own = rule_own(env.store, rule.i);
+    let steps = rule_flat(env.store, rule.i);
     activate(
         env.snapshot,
         env.image,
-        part,
-        own,
+        &steps,
         outcomes,
         effects,
         v,

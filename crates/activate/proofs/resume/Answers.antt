@@ -2,11 +2,7 @@
 use Rattle.activate.specs.Carried.{carried}
 use Rattle.activate.proofs.Running.{changed-room, run_room}
 use Rattle.activate.proofs.Activating.{resumes}
-use Rattle.exec.proofs.Decoded.{near-lists}
 use Rattle.activate.proofs.resume.Goals as goal
-
-pub invariant_of-rule : goal.invariant_of-rule
-invariant_of-rule c = record { near = near-lists _ _ c.requires.accepted.1 }
 
 pub run_wet-requires : goal.run_wet-requires
 run_wet-requires c =
@@ -14,4 +10,4 @@ run_wet-requires c =
 
 pub returns : goal.returns
 returns c =
-    resumes c.args.snapshot.now c.args.image.now c.args.part.now c.args.own c.args.i c.args.c (carried c.args.v.now c.args.x) _ _ _ _ _ _ c.job_of-job.result c.job_of-job.ensures c.requires.accepted.2 c.bump.ensures c.run_wet.ensures
+    resumes c.args.snapshot.now c.args.image.now c.args.rule.now.part.now c.args.rule.now.own c.args.i c.args.c (carried c.args.v.now c.args.x) _ _ _ _ _ _ c.job_of-job.result c.job_of-job.ensures c.requires.accepted.1 c.bump.ensures c.run_wet.ensures

@@ -5,7 +5,7 @@ use Rattle.model.specs.Activate as model
 use Rattle.activate.specs.Handled.{mode_of}
 use borrow.Author.Tests.{not-true, not-false}
 use Rattle.activate.specs.Carried.{carried}
-use Rattle.wheel.proofs.RuleParts.{part_says, part-fits}
+use Rattle.wheel.proofs.RuleParts.{part_says, keeps}
 use Rattle.engine.proofs.SetLaws.{loadable}
 use Rattle.engine.proofs.LoadedLaws.{image-of, set-of}
 use Rattle.engine.proofs.HandlingLaws.{not-started, started, rule-inside}
@@ -23,6 +23,14 @@ new-image-requires c =
     let n = set-of s.loaded c.args.rule c.args.i c.requires.loaded in
     (loadable _ (image-of _ _ s c.words-words.ensures c.image_in.ensures n.0 n.1).passes).sized
 
+pub rule_flat-steps-requires : goal.rule_flat-steps-requires
+rule_flat-steps-requires c =
+    let s = c.args.store.now in
+    let q = c.requires.loaded in
+    let n = set-of s.loaded c.args.rule c.args.i q in
+    let l = image-of _ _ s c.words-words.ensures c.image_in.ensures n.0 n.1 in
+    keeps _ _ _ l.kept l.passes c.args.i (rule-inside _ _ s l c.args.rule c.args.i q)
+
 pub activate-requires-clause-accepted : goal.activate-requires-clause-accepted
 activate-requires-clause-accepted c =
     let s = c.args.store.now in
@@ -30,7 +38,7 @@ activate-requires-clause-accepted c =
     let n = set-of s.loaded c.args.rule c.args.i q in
     let l = image-of _ _ s c.words-words.ensures c.image_in.ensures n.0 n.1 in
     let b = rule-inside _ _ s l c.args.rule c.args.i q in
-    rw c.new-image.ensures ((loadable _ l.passes).accepted, part-fits _ _ _ l.kept c.args.i b _ _ c.rule_steps-part.ensures c.rule_own-own.ensures l.passes, b)
+    rw c.new-image.ensures ((loadable _ l.passes).accepted, b)
 
 pub returns : goal.returns
 returns c set l =
@@ -41,4 +49,4 @@ returns c set l =
     let m : mode_of c.if-dry.mode ≡ cond a.dry model.Dry model.Manual =
     elim c.if-dry.branch [ then-dry w ↦ rw (w.mode-is, w.if-dry.true) refl | else-dry w ↦ rw (w.mode-is, w.if-dry.false) refl ] in
     started a.snapshot.now _ set (carried a.v.now a.x) _ a.i _ _ _ _ _ a.dry _ i.image c.starts.ensures (not-false _ c.if-not-starts.false-raw) m
-    ((rw c.new-image.ensures at c.activate.ensures.says) set.flat (part_says _ _ _ i.kept a.i n _ _ c.rule_steps-part.ensures c.rule_own-own.ensures))
+    ((rw c.new-image.ensures at c.activate.ensures.says) set.flat (part_says _ _ _ i.kept a.i n _ _ c.rule_flat-steps.ensures))

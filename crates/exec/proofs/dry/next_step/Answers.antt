@@ -1,7 +1,7 @@
 -- `exec::dry::next_step` meets its contract. Assumes nothing.
 use mathlib.Core.Path.{sym, ap, ◌∙◌}
 use Rattle.exec.proofs.DryGoing.{stands, empties, pops}
-use Rattle.exec.specs.Stands.{step_of_placed}
+use Rattle.flat.specs.Stands.{step_of_placed}
 use Rattle.exec.proofs.dry.next_step.Goals as goal
 
 pub returns-in-Some : goal.returns-in-Some

@@ -2,7 +2,7 @@
 use native.Mathlib.Omega.{arith}
 use mathlib.Core.Path.{refl, sym, ap, ◌∙◌}
 use Rattle.exec.proofs.Going.{runs-past, runs-ended, runs-spent, goes-on}
-use Rattle.exec.specs.Stands.{step_of_placed}
+use Rattle.flat.specs.Stands.{step_of_placed}
 use Rattle.exec.proofs.runs.run_steps.Goals as goal
 
 pub returns-in_default : goal.returns-in_default

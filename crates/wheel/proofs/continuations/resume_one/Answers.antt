@@ -4,22 +4,27 @@ use Rattle.image.proofs.Rules.{named_rule}
 use Rattle.activate.specs.Carried.{carried}
 use Rattle.wheel.proofs.Due.{small-budget, has-rule}
 use Rattle.wheel.proofs.Fires.{resumed}
-use Rattle.wheel.proofs.RuleParts.{part_says, part-fits}
+use Rattle.wheel.proofs.RuleParts.{part_says, keeps}
 use Rattle.wheel.proofs.continuations.resume_one.Goals as goal
+
+pub rule_flat-steps-requires : goal.rule_flat-steps-requires
+rule_flat-steps-requires c =
+    let h = c.args.env.now.holds in
+    keeps _ _ _ h.kept h.accepted _ (named_rule _ _ _ (sym c.rule_named.ensures ∙ c.in-Some.is)).0
 
 pub resume-requires : goal.resume-requires
 resume-requires c =
     let h = c.args.env.now.holds in
     let n = sym c.rule_named.ensures ∙ c.in-Some.is in
     record {
-      accepted = (c.args.env.now.accepted, part-fits _ _ _ h.kept _ (named_rule _ _ _ n).0 _ _ c.rule_steps-part.ensures c.rule_own-own.ensures h.accepted, n);
+      accepted = (c.args.env.now.accepted, n);
       budget_bound = (small-budget _ _ c.requires.fits h.accepted, c.requires.room);
     }
 
 pub returns-in-Some : goal.returns-in-Some
 returns-in-Some c =
     let n = sym c.rule_named.ensures ∙ c.in-Some.is in
-    let says = part_says _ _ _ c.args.env.now.holds.kept _ (named_rule _ _ _ n).0 _ _ c.rule_steps-part.ensures c.rule_own-own.ensures in
+    let says = part_says _ _ _ c.args.env.now.holds.kept _ (named_rule _ _ _ n).0 _ _ c.rule_flat-steps.ensures in
     resumed c.args.env.now.snapshot.now c.args.env.now.image.now _ _ _ (carried c.args.v.now c.args.x) _ _ _ _ _ says c.args.c c.resume.ensures
 
 pub returns-in-None : goal.returns-in-None

@@ -2,7 +2,7 @@
 use mathlib.Core.Path.{ap, ◌∙◌}
 use Prim.Native.Nat.{ℕ}
 use lib.ListN.{take}
-use Rattle.activate.proofs.FlatRules.{image-accepted}
+use Rattle.store.proofs.SetRules.{image-accepted}
 use Rattle.wheel.specs.Tick.{tick_env}
 use Rattle.wheel.proofs.Ticks.{whole-tick}
 use Rattle.wheel.proofs.tick.service_tick.Goals as goal

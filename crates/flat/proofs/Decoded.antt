@@ -24,8 +24,7 @@ use Rattle.model.specs.declared.Point.{Point}
 use Rattle.model.specs.declared.Step.{Step}
 use Rattle.model.proofs.Bools.{both}
 use Rattle.flat.specs.Words.{step_of, steps_in, body_words, list_words, Says}
-use Rattle.exec.specs.Paid.{reach}
-use Rattle.exec.specs.Lists.{step_in, is_near, FlatWords, NearLists, IsNear}
+use Rattle.flat.specs.Near.{reach, step_in, is_near, NearLists, IsNear}
 
 -- ---- the step at a place
 -- the four words of row p
@@ -104,9 +103,6 @@ list-few w own (suc p) =
     part : (t : Bool) (k m : ℕ) → length (cond t (take k (drop m w)) []) ≤ length w
     part true k m = omega (arith, length-take k (drop m w), length-drop m w)
     part false k m = omega arith
-
-pub near-lists : (w : List ℕ) (own : ℕ) → FlatWords w own → NearLists w own
-near-lists w own f = record { few = f.few; near = λ n. ap (all is_near) (said w own f.steps f.says n) ∙ f.near n }
 
 near-at : (xs : List Step) (p : ℕ) (x : Step) → all is_near xs ≡ true → Some x ≡ slice_get xs p → (p < length xs) × (reach x ≤ 2048)
 near-at [] p x h e = absurd (differ e)

@@ -1,12 +1,12 @@
--- `exec::FlatRule::step_at` meets its contract. Assumes nothing.
+-- `flat::FlatRule::step_at` meets its contract. Assumes nothing.
 use Prim.Native.Nat.{ℕ}
 use native.Mathlib.Omega.{arith}
 use mathlib.Core.List.{List}
 use mathlib.Core.Path.{sym, ap, ◌∙◌}
 use Rattle.std.specs.Prelude.{slice_get}
 use Rattle.flat.specs.Words.{steps_in}
-use Rattle.exec.proofs.Decoded.{found-near}
-use Rattle.exec.proofs.FlatRule.step_at.Goals as goal
+use Rattle.flat.proofs.Decoded.{found-near}
+use Rattle.flat.proofs.FlatRule.step_at.Goals as goal
 
 pub invariant_of-result : goal.invariant_of-result
 invariant_of-result c =

@@ -1,9 +1,9 @@
--- `exec::lists::step_at` meets its contract. Assumes nothing.
+-- `flat::body::step_at` meets its contract. Assumes nothing.
 use native.Mathlib.Omega.{arith}
 use mathlib.Core.Logic.{inl, inr}
 use mathlib.Core.Path.{◌∙◌}
-use Rattle.exec.proofs.Decoded.{step-there, step_past}
-use Rattle.exec.proofs.lists.step_at.Goals as goal
+use Rattle.flat.proofs.Decoded.{step-there, step_past}
+use Rattle.flat.proofs.body.step_at.Goals as goal
 
 pub returns-in_err-step : goal.returns-in_err-step
 returns-in_err-step c =

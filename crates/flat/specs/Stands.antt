@@ -2,7 +2,7 @@
 use Rattle.std.specs.Prelude.{◌≡◌, Option, None, Some}
 use Rattle.model.specs.declared.Point.{Point}
 use Rattle.model.specs.declared.Step.{Step}
-use Rattle.exec.specs.declared.Placed.{Placed}
+use Rattle.flat.specs.declared.Placed.{Placed}
 
 abbrev pub step_of_placed : Option Placed → Option Step
 step_of_placed None = None

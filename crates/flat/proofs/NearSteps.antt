@@ -17,7 +17,7 @@ use Rattle.model.proofs.Bools.{both, join, all_append}
 use Rattle.flat.proofs.Counts.{short_bodies, longer}
 use Rattle.flat.proofs.EachRule.{of-rule}
 use Rattle.flat.proofs.Induction.{by, Closed}
-use Rattle.exec.specs.Paid.{reach}
+use Rattle.flat.specs.Near.{reach}
 
 -- so far leads a step at most
 abbrev pub reaches : ℕ → Step → Bool

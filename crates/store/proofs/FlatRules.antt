@@ -1,24 +1,28 @@
 -- The flat steps of a loaded set's rules, as the runner asks for them. Assumes nothing.
-use Prim.Native.Nat.{ℕ, zero, suc, ◌+◌, ◌≤◌}
+use Prim.Native.Nat.{ℕ, zero, suc, ◌+◌, ◌≤◌, ◌<◌}
 use native.Mathlib.Omega.{arith}
-use mathlib.Core.Path.{◌≡◌, refl}
+use mathlib.Core.Path.{◌≡◌, refl, ap, ◌∙◌}
 use mathlib.Core.Bool.{true, false}
 use mathlib.Core.List.{List, [], ◌∷◌, map}
 use lib.ListN.{length, get_or, length-append}
 use Rattle.model.specs.Flat.{Flattened, no_steps, flatten_rule, flatten_rules, list_in, part_of, too_many_steps}
-use Rattle.model.specs.Image.{call_depth}
+use Rattle.model.specs.Image.{call_depth, size_of}
+use Rattle.model.specs.Rows.{rules}
 use Rattle.model.specs.Lists.{all, flatten}
 use Rattle.model.specs.Load.{image_refusal}
 use Rattle.model.specs.Rules.{rule_indices}
-use Rattle.image.specs.Accepted.{Accepted}
-use Rattle.image.proofs.Accepted.{accepted, tables-accepted, steps-accepted, call-depth-fits}
+use Rattle.image.proofs.Accepted.{steps-accepted, call-depth-fits}
 use Rattle.flat.specs.Load.{stored}
 use Rattle.flat.specs.Words.{layout, Says}
 use Rattle.flat.proofs.Counts.{rule-counted, rule-short-bodies, longer, few-stored}
 use Rattle.flat.proofs.RuleSays.{part_says, rule-says}
 use Rattle.flat.proofs.Words.{layout-length}
-use Rattle.exec.specs.Lists.{FlatWords, is_near}
-use Rattle.activate.proofs.NearSteps.{rule-near}
+use Rattle.flat.proofs.FlatPart.{rules-length}
+use Rattle.store.specs.FlatPart.{FlatPart, KeepsRule}
+use Rattle.store.proofs.SetRules.{image-accepted}
+use Rattle.flat.specs.Near.{is_near, NearLists}
+use Rattle.flat.proofs.NearSteps.{rule-near}
+use Rattle.flat.proofs.Decoded.{said}
 
 -- a rule of the set, or past the last one a rule without steps
 module _ (p : Flattened → Type 0) (None : p no_steps) where
@@ -43,10 +47,6 @@ one-stored (f ∷ fs) zero = omega (arith, length-append (part_of f) (flatten (m
 one-stored (f ∷ fs) (suc i) = omega (arith, length-append (part_of f) (flatten (map part_of fs)), one-stored fs i)
 
 module _ (img : List ℕ) (ok : image_refusal img ≡ 0) where
-  pub image-accepted : Accepted img
-  unfolding image_refusal
-  image-accepted = accepted img (tables-accepted img (flatten_rules img) ok)
-
   not-many : too_many_steps (flatten_rules img) ≡ false
   unfolding image_refusal
   not-many = steps-accepted img (flatten_rules img) ok
@@ -60,18 +60,23 @@ module _ (img : List ℕ) (ok : image_refusal img ≡ 0) where
   -- no list passes 256 + D + 4 steps
   rule-lists-near : (j n : ℕ) → all is_near (list_in (flatten_rule img j).steps n) ≡ true
   rule-lists-near j n =
-      let d = call-depth-fits img image-accepted.passes in
+      let d = call-depth-fits img (image-accepted img ok).passes in
       rule-near img j 2048 (omega (arith, d, rule-counted img j)) (longer (256 + call_depth img + 4) 2048 (flatten_rule img j).steps (omega (arith, d)) (rule-short-bodies img j)) n
 
   lists-near : (i n : ℕ) → all is_near (list_in (rule i).steps n) ≡ true
   lists-near i n = each-rule (λ f. all is_near (list_in f.steps n) ≡ true) (none-near n) img (λ j. rule-lists-near j n) i
 
-  -- what `activate` and `resume` require of a rule's part; a place past the last rule has none
-  pub rule-words : (i : ℕ) → FlatWords (layout (part_of (rule i))) (length (rule i).bodies)
+  -- what a `FlatRule` keeps of a rule's part; a place past the last rule has none
+  rule-words : (i : ℕ) → NearLists (layout (part_of (rule i))) (length (rule i).bodies)
   rule-words i =
       record {
-        steps = (rule i).steps;
-        says = part-says-lists i;
         few = omega (arith, layout-length (part_of (rule i)), one-stored (flatten_rules img) i, few-stored img not-many);
-        near = lists-near i;
+        near = λ n. ap (all is_near) (said (layout (part_of (rule i))) (length (rule i).bodies) (rule i).steps (part-says-lists i) n) ∙ lists-near i n;
       }
+
+  pub near-part : (i : ℕ) (part : List ℕ) (own : ℕ) → part ≡ layout (part_of (rule i)) → own ≡ length (rule i).bodies → NearLists part own
+  near-part i part own e f = rw (e, f) (rule-words i)
+
+-- a rule of an accepted image that the store keeps
+pub keeps-rule : (w img : List ℕ) → image_refusal img ≡ 0 → FlatPart w (flatten_rules img) → (i : ℕ) → i < size_of img rules → KeepsRule w i
+keeps-rule w img ok p i h = record { image = img; accepted = ok; flat = p; inside = omega (arith, h, rules-length img) }
