@@ -1,5 +1,6 @@
 -- `room::sum_rules` meets its contract. Assumes nothing.
-use mathlib.Core.Path.{refl, ◌∙◌}
+use mathlib.Core.Path.{◌≡◌, refl, ◌∙◌}
+use borrow.Author.Rules.{rules}
 use Prim.Native.Nat.{◌≤◌}
 use native.Mathlib.Omega.{arith}
 use Rattle.fields.proofs.Total.{empty, adds}
@@ -9,7 +10,10 @@ use Rattle.room.proofs.sum_rules.Goals as goal
 
 pub loop-i-init : goal.loop-i-init
 loop-i-init c =
-    (omega (arith, c.size_of-n.ensures, few-of _ _ c.requires.listed), c.size_of-n.ensures, empty _, empty _, no-greatest _, empty _, omega arith, omega arith)
+    let s : c.default-sums.result.starts ≡ 0 = search rules in
+    let e : c.default-sums.result.effects ≡ 0 = search rules in
+    let l : c.default-sums.result.longest ≡ 0 = search rules in
+    (omega (arith, c.size_of-n.ensures, few-of _ _ c.requires.listed), c.size_of-n.ensures, s ∙ empty _, e ∙ empty _, l ∙ no-greatest _, empty _, omega (arith, s), omega (arith, e))
 
 pub overflow_mul-sums : goal.overflow_mul-sums
 overflow_mul-sums c =
