@@ -53,7 +53,8 @@ impl Counters {
     pub fn bump(&mut self, which: Counter, by: u32)
         ensures { counters_of self.new ≡ raised_at (place_of_counter which) by (counters_of self.old) }
     {
-        // kept: one arm for each counter, since each is a field of its own; a closure that picks the field would hide the match and no more.
+        // kept: document 01 wants one record with a field for each counter, lent to a thin `bump`: so there is an arm for each. A closure that
+        // picks the field would hide the match and no more.
         match which {
             Counter::ActivationsTotal => raise(&mut self.activations_total, by),
             Counter::ActivationsDry => raise(&mut self.activations_dry, by),

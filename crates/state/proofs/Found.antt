@@ -1,23 +1,18 @@
 -- A search from the front for the first element that passes a test. Assumes nothing.
-use Prim.Native.Nat.{ℕ, zero, suc, ◌+◌, ◌≤◌, ◌<◌}
-use native.Mathlib.Numerals.{add-one}
+use Prim.Native.Nat.{ℕ, zero, suc, ◌≤◌, ◌<◌}
 use native.Mathlib.Omega.{arith}
 use mathlib.Core.Bool.{Bool, true, false, cond}
-use mathlib.Core.Path.{◌≡◌, refl, ◌∙◌}
-use mathlib.Core.List.{List, [], ◌∷◌, ◌++◌}
+use mathlib.Core.Path.{◌≡◌, refl, sym, ap, subst, ◌∙◌}
+use mathlib.Core.List.{List, [], ◌∷◌, ◌++◌, map}
 use Rattle.std.specs.Prelude.{Option, None, Some}
-use lib.ListN.{length, take, drop, get_or}
-use lib.Seq.{drop-cons, take_all, take-take, take-suc, length-take-le}
+use Rattle.std.specs.List.{AllWithin, HoldsAt}
+use Rattle.std.specs.Option.{MatchOption}
+use lib.ListN.{length, take, drop, get_or, length-map, get_or-map}
+use lib.Seq.{drop-cons, take_all}
 use Rattle.model.specs.Lists.{find}
-use Rattle.state.specs.Tables.{First}
+use Rattle.state.specs.Tables.{First, Finds}
 
 module _ {A : Type 0} where
-  -- what stands at an index does not depend on the default
-  pub any-default : (l : List A) (i : ℕ) (d e : A) → i < length l → get_or l i d ≡ get_or l i e
-  any-default [] i d e h = absurd (omega arith)
-  any-default (x ∷ l) zero d e h = refl
-  any-default (x ∷ l) (suc i) d e h = any-default l i d e (omega arith)
-
   -- an element that does not pass, in front of others
   pub passed_over : {B : Type 0} (t : Bool) (x : A) (f : Option A) (g h k : B) → cond t (Some x) f ≡ None → (f ≡ None → h ≡ k) → cond t g h ≡ k
   passed_over true x f g h k e rest = let z : ◌≡◌ {A = ℕ} 0 1 = cc in absurd (omega arith)
@@ -40,19 +35,18 @@ module _ {A : Type 0} where
       pub not_found : length l ≤ i → find p l ≡ None
       not_found h = rw take_all at first.before
 
-    -- the loop: none of the first i passes
-    module _ (l : List A) (n i : ℕ) (d : A) (none_yet : find p (take i l) ≡ None) (h : i < n) (w : n ≤ length l) where
-      pub goes_on : p (get_or l i d) ≡ false → find p (take (i + 1) l) ≡ None
-      goes_on e =
-          let room : i < length l = omega arith in
-          rw (add-one, take-suc l i d room, find-append (take i l) (get_or l i d ∷ []) none_yet, e)
+-- what a chain's `position` answers, of elements that say what is tested
+module _ {A B : Type 0} (f : B → A) (p : A → Bool) where
+  none-before : (l : List B) (i : ℕ) → AllWithin (λ x. p x ≡ false) (map f l) 0 i → find (λ y. p (f y)) (take i l) ≡ None
+  none-before l zero h = refl
+  none-before [] (suc i) h = refl
+  none-before (y ∷ l) (suc i) h = rw (h 0 (f y) (omega arith) (omega arith)) (none-before l i (λ k d a b. h (suc k) d (omega arith) (omega arith)))
 
-    pub ends : (l : List A) (n i : ℕ) → find p (take i l) ≡ None → i ≤ n → n ≤ i → n ≤ length l → First p (take n l) n
-    ends l n i none_yet h k w =
-        let size = length-take-le n l w in
-        let all : i ≡ n = omega arith in
-        record {
-          within = omega arith;
-          before = rw (take-take n n l (omega arith), ← all) none_yet;
-          passes = λ f b. absurd (omega arith);
-        }
+  pub finds-first : (l : List B) (r : Option ℕ)
+      → MatchOption r (AllWithin (λ x. p x ≡ false) (map f l) 0 (length (map f l))) (λ i. (i < length (map f l)) × HoldsAt (λ x. p x ≡ true) (map f l) i × AllWithin (λ x. p x ≡ false) (map f l) 0 i)
+      → Finds (λ y. p (f y)) l r
+  finds-first l None h =
+      record { within = omega arith; before = none-before l (length l) (subst (AllWithin (λ x. p x ≡ false) (map f l) 0) (length-map l f) h); passes = λ d k. absurd (omega arith) }
+  finds-first l (Some i) h =
+      let k : i < length l = omega (arith, h.0, length-map l f) in
+      (record { within = omega arith; before = none-before l i h.2; passes = λ d m. ap p (sym (get_or-map f l i d)) ∙ h.1 (f d) }, k)

@@ -2,7 +2,6 @@
 use mathlib.Core.Path.{◌≡◌, refl, sym, ap, subst, ◌∙◌}
 use mathlib.Core.Bool.{Bool, true, false, not}
 use mathlib.Core.List.{List, [], ◌∷◌, ◌++◌, append_assoc, append-nil}
-use Rattle.std.specs.Prelude.{None}
 use Rattle.std.specs.List.{copy_within}
 use Prim.Native.Nat.{ℕ, suc, ◌+◌, ◌-◌, ◌*◌, ◌≤◌, ◌<◌}
 use native.Mathlib.Nat.{add-zero, zero-mul, suc-mul, mul-le-mul_right}
@@ -11,16 +10,14 @@ use native.Mathlib.Omega.{arith}
 use lib.Dec.{leb, ltb}
 use lib.ListN.{length, get_or, take, drop, set, replicate, length-append, length-drop, length-replicate, replicate-append-replicate}
 use lib.Seq.{drop_at, drop-drop, take-suc, length-take-le, set_split, get_or-take, get_or-drop, take_all}
-use borrow.Author.Tests.{ne_eqb, leb-true, leb-false, lt-ltb, le-ltb}
+use borrow.Author.Tests.{leb-true, leb-false, lt-ltb, le-ltb}
 use Rattle.model.specs.Codec.{wide}
-use Rattle.model.specs.Lists.{flatten, keep, find}
+use Rattle.model.specs.Lists.{flatten, keep}
 use Rattle.model.proofs.CodecLaws.{rest_of}
 use Rattle.rows.specs.Places.{laid}
 use Rattle.rows.specs.Places as rows
 use Rattle.rows.proofs.Writing.{laid-long}
-use Rattle.state.specs.Tables.{First}
-use Rattle.state.specs.Cuts.{cut, sum, rows_in, table_of, Fits, Table, RowSet, word_in, wide_of, has_word}
-use Rattle.state.proofs.Found.{goes_on, ends}
+use Rattle.state.specs.Cuts.{cut, sum, rows_in, table_of, Fits, Table, RowSet, word_in, wide_of}
 use Rattle.state.proofs.Closing.{Keeps, Closing, keep_append, starts, keeps, skips, done}
 use Rattle.state.proofs.Cutting.{laid-drop, laid-behind, word-before, cut-long, cut_at, cut-laid, cut-first, sum_same, sum_first, size_same, row-end}
 
@@ -217,20 +214,6 @@ module _ (f : ℕ) (p : List ℕ) (h : Table f p) where
         let words : drop 1 t₁ ≡ flatten kept ++ replicate (length p - 1 - length (flatten kept)) 0 =
         body ∙ rw (kept-words, rest, ← both) (append_assoc (flatten kept) zs (replicate (length p - 1 - get_or p 0 0 * f) 0)) in
         first ∙ ap (λ (l : List ℕ). j ∷ l) words ∙ ap (λ (k : ℕ). k ∷ (flatten kept ++ replicate (length p - 1 - length (flatten kept)) 0)) closed-count
-
--- SEARCHING -------------------------------------------------------------------------------------------------------------------------------
-module _ (f at x : ℕ) (p : List ℕ) (h : Fits f p) (i : ℕ) where
-  all-rows : take (get_or p 0 0) (rows_in f p) ≡ rows_in f p
-  all-rows = take_all (get_or p 0 0) (rows_in f p) (rw (rows_long f p h) (omega arith))
-
-  module _ (y : ℕ) (none_yet : find (has_word at x) (take i (rows_in f p)) ≡ None) (l : i < get_or p 0 0) (e : y ≡ word_in f p i at) where
-    pub find-goes : (y ≡ x → ⊥) → find (has_word at x) (take (i + 1) (rows_in f p)) ≡ None
-    find-goes d = goes_on (has_word at x) (rows_in f p) (get_or p 0 0) i [] none_yet l (rw (rows_long f p h) (omega arith)) (rw (sym e) (ne_eqb y x d))
-
-  pub find-ends : find (has_word at x) (take i (rows_in f p)) ≡ None → i ≤ get_or p 0 0 → get_or p 0 0 ≤ i → First (has_word at x) (rows_in f p) (length (rows_in f p))
-  find-ends none_yet a b =
-      let s = ends (has_word at x) (rows_in f p) (get_or p 0 0) i none_yet a b (rw (rows_long f p h) (omega arith)) in
-      rw (rows_long f p h) (subst (λ (rows : List (List ℕ)). First (has_word at x) rows (get_or p 0 0)) all-rows s)
 
 -- COUNTING --------------------------------------------------------------------------------------------------------------------------------
 module _ (f : ℕ) (test : List ℕ → Bool) (p : List ℕ) (h : Fits f p) (i k : ℕ) (kept : Bool) (l : i < get_or p 0 0) (e : kept ≡ test (get_or (rows_in f p) i [])) (c : k ≡ length (keep test (take i (rows_in f p)))) where

@@ -2,23 +2,21 @@
 use mathlib.Core.Path.{◌≡◌, refl, sym, ap, subst, ◌∙◌}
 use mathlib.Core.Bool.{Bool, true, false, cond}
 use mathlib.Core.List.{List, [], ◌∷◌, ◌++◌, map, append_assoc, append-nil}
-use Rattle.std.specs.Prelude.{Option, None, Some}
 use Prim.Native.Nat.{ℕ, zero, suc, ◌+◌, ◌-◌, ◌*◌, ◌≤◌, ◌<◌}
 use native.Mathlib.Nat.{add-zero, suc-mul}
 use native.Mathlib.Numerals.{add-one}
 use native.Mathlib.Omega.{arith}
 use lib.Dec.{leb}
-use lib.ListN.{length, get_or, take, drop, set, replicate, length-append, length-set, length-map, length-replicate, replicate-append-replicate, drop_of_length-le, get_or-map}
+use lib.ListN.{length, get_or, take, drop, set, replicate, length-append, length-set, length-map, length-replicate, replicate-append-replicate, drop_of_length-le}
 use lib.Seq.{take_at, drop_at, set_split, split_at, length-take-le}
 use borrow.Author.Tests.{leb-true, le-leb, lt-leb}
 use Rattle.model.specs.Layout.{counted, sizes, part_fits, parts_fit}
 use Rattle.model.specs.Codec.{Row, most, words_of, all_good}
-use Rattle.model.specs.Lists.{flatten, keep, find}
+use Rattle.model.specs.Lists.{flatten, keep}
 use Rattle.model.proofs.Bools.{both, join}
 use Rattle.model.proofs.RowLaws.{RowLaws}
 use Rattle.model.proofs.RowLaws as row_laws
 use Rattle.model.proofs.CodecLaws.{most-laws, rest_of}
-use Rattle.state.specs.Tables.{First}
 use Rattle.rows.specs.Places.{laid}
 use Rattle.rows.proofs.Writing.{words_append, laid-long}
 use Rattle.state.specs.Cuts.{cut, rows_in, table_of, with_row, HasRoom, Fits, Table}
@@ -156,26 +154,6 @@ module _ {A : Type 0} (r : Row A) (laws : RowLaws r) where
       pub keep-rows : (l : List A) → keep q (map r.put l) ≡ map r.put (keep test l)
       keep-rows [] = refl
       keep-rows (x ∷ l) = rw (same x, keep-rows l) (keep-cond (test x) x (keep test l))
-
-      find-cond : {B C : Type 0} (b : Bool) (x : B) (y : C) (f : Option B) (g : Option C) → cond b (Some x) f ≡ None → (f ≡ None → g ≡ None) → cond b (Some y) g ≡ None
-      find-cond true x y f g e k = let z : ◌≡◌ {A = ℕ} 0 1 = cc in absurd (omega arith)
-      find-cond false x y f g e k = k e
-
-      find-rows : (i : ℕ) (l : List A) → find q (take i (map r.put l)) ≡ None → find test (take i l) ≡ None
-      find-rows zero l e = refl
-      find-rows (suc i) [] e = refl
-      find-rows (suc i) (x ∷ l) e =
-          let e' : cond (test x) (Some (r.put x)) (find q (take i (map r.put l))) ≡ None = rw (same x) at e in
-          find-cond (test x) (r.put x) x _ _ e' (find-rows i l)
-
-      pub first_rows : (l : List A) (i : ℕ) → First q (map r.put l) i → First test l i
-      first_rows l i h =
-          let m : length (map r.put l) ≡ length l = simp length-map in
-          record {
-            within = omega (arith, h.within);
-            before = find-rows i l h.before;
-            passes = λ d b. sym (same (get_or l i d)) ∙ (rw (get_or-map r.put l i d) at (h.passes (r.put d) (omega arith)));
-          }
 
       good-cond : (b : Bool) (x : A) (l : List A) → r.good x ≡ true → all_good r l ≡ true → all_good r (cond b (x ∷ l) l) ≡ true
       unfolding all_good

@@ -3,18 +3,17 @@ use mathlib.Core.Path.{◌≡◌, refl, sym, ap, subst, ◌∙◌}
 use mathlib.Core.Bool.{Bool, true, false, cond, not, ◌&&◌}
 use mathlib.Core.List.{List, [], ◌∷◌, ◌++◌, map}
 use Rattle.std.specs.Prelude.{Option, None, Some}
-use Rattle.std.specs.Option.{is_some}
 use Prim.Native.Nat.{ℕ, zero, suc, ◌+◌, ◌*◌, ◌≤◌, ◌<◌}
 use native.Mathlib.Omega.{arith}
 use lib.Dec.{leb}
-use lib.ListN.{length, get_or, take, drop, set, length-map, drop_of_length-le, get_or-map}
+use lib.ListN.{length, get_or, take, drop, set, length-map, drop_of_length-le}
 use lib.Seq.{drop-cons, take_all, set_split}
 use borrow.Author.Tests.{le-leb, lt-leb, lt-ltb}
 use borrow.Rule.Slice.PartMut.{put_mid}
 use mir.Val.{Val}
 use denote.Laws.{Is}
 use denote.Enum.Declared.{row}
-use Rattle.model.specs.Codec.{most}
+use Rattle.model.specs.Codec.{most, rows_at}
 use Rattle.model.specs.Parts.{variable_row}
 use Rattle.model.specs.Lists.{present, find, all}
 use Rattle.model.specs.State as model
@@ -26,16 +25,17 @@ use Rattle.model.specs.declared.VarValue.TheVariants.{Int, Text}
 use Rattle.model.proofs.Bools.{both, join}
 use Rattle.model.proofs.PartsLaws.{variable-laws}
 use Rattle.model.specs.contracts.VarValue.{the_type}
-use Rattle.rows.specs.Places.{laid, row_at}
-use Rattle.rows.specs.Rows.{variable_code_row}
+use Rattle.rows.specs.Places.{laid, table_at}
+use Rattle.rows.specs.Rows.{variable_code_row, short_variable_of}
 use Rattle.rows.proofs.Reading.{short-is}
-use Rattle.state.specs.Cuts.{rows_in, has_word, with_row}
+use Rattle.state.specs.Cuts.{with_row}
 use Rattle.state.specs.Meaning.{Holds, Counted, Sound, MeansSoundly, meaning, base, variables_part, place_of, words_in, part}
 use Rattle.state.specs.Named.{variable_has_name, lacks_room, assigned, has_name, put_row, assign_row}
 use Rattle.state.specs.Tables.{First, Finds}
 use Rattle.state.proofs.Found.{found, not_found, passed_over}
-use Rattle.state.proofs.Typed.{holds_rows, first_rows, holds-set, holds-push}
-use Rattle.state.proofs.Frame.{part-is, table-part, table-lent, table-back, table-count, table-few, table-row, variables-changed}
+use Rattle.state.proofs.Typed.{holds-get, holds-set, holds-push}
+use Rattle.state.proofs.Held.{table-read}
+use Rattle.state.proofs.Frame.{part-is, table-lent, table-back, table-count, table-few, variables-changed}
 
 abbrev R : Type 0
 R = ℕ × (ℕ × ℕ)
@@ -67,26 +67,15 @@ module _ (name : ℕ) (x : R) where
     full h k = rw (not_found (has_name name) l i first h, le-leb 16 (length l) k)
 
   module _ (p : List ℕ) (l : List R) (h : Holds 16 variable_row p l) where
-    rows-count : length (rows_in 4 p) ≡ length l
-    rows-count = rw (holds_rows variable_row variable-laws 16 p l h, length-map) refl
-
-    first-row : (i : ℕ) → First (has_word 0 name) (rows_in 4 p) i → First (has_name name) l i
-    first-row i first = first_rows variable_row variable-laws 16 (has_word 0 name) (has_name name) (λ r. refl) l i (subst (λ (y : List (List ℕ)). First (has_word 0 name) y i) (holds_rows variable_row variable-laws 16 p l h) first)
-
-    pub place-few : (i : ℕ) → Finds (has_word 0 name) (rows_in 4 p) (Some i) → i < length l
-    place-few i found = omega (arith, rows-count, found.1)
-
-    pub assigned-again : (i : ℕ) → Finds (has_word 0 name) (rows_in 4 p) (Some i) → variable_row.good x ≡ true → (p₁ : List ℕ) → p₁ ≡ laid p (1 + i * 4) (variable_row.put x) → Holds 16 variable_row p₁ (assign_row name x l)
+    pub assigned-again : (i : ℕ) → Finds (has_name name) l (Some i) → variable_row.good x ≡ true → (p₁ : List ℕ) → p₁ ≡ laid p (1 + i * 4) (variable_row.put x) → Holds 16 variable_row p₁ (assign_row name x l)
     assigned-again i found good p₁ b =
-        let k = place-few i found in
-        rw (again l i (first-row i found.0) k) (holds-set variable_row variable-laws 16 p p₁ l x i h k good b)
+        rw (again l i found.0 found.1) (holds-set variable_row variable-laws 16 p p₁ l x i h found.1 good b)
 
-    pub assigned-new : Finds (has_word 0 name) (rows_in 4 p) None → variable_row.good x ≡ true → (p₁ : List ℕ) → length l < 16 → p₁ ≡ with_row 4 (variable_row.put x) p → Holds 16 variable_row p₁ (assign_row name x l)
-    assigned-new none good p₁ m b =
-        rw (anew l _ (first-row _ none) (omega (arith, rows-count)) m) (holds-push variable_row variable-laws 16 p p₁ l x h m good b)
+    pub assigned-new : Finds (has_name name) l None → variable_row.good x ≡ true → (p₁ : List ℕ) → length l < 16 → p₁ ≡ with_row 4 (variable_row.put x) p → Holds 16 variable_row p₁ (assign_row name x l)
+    assigned-new none good p₁ m b = rw (anew l _ none (omega arith) m) (holds-push variable_row variable-laws 16 p p₁ l x h m good b)
 
-    pub assigned-not : Finds (has_word 0 name) (rows_in 4 p) None → 16 ≤ length l → Holds 16 variable_row p (assign_row name x l)
-    assigned-not none m = rw (full l _ (first-row _ none) (omega (arith, rows-count)) m) h
+    pub assigned-not : Finds (has_name name) l None → 16 ≤ length l → Holds 16 variable_row p (assign_row name x l)
+    assigned-not none m = rw (full l _ none (omega arith) m) h
 
   -- texts stay numbers of one word
   short-cond : (b : Bool) (y : R) (l m : List R) → text_short x ≡ true → text_short y ≡ true → all text_short l ≡ true → all text_short m ≡ true → all text_short (cond b (x ∷ l) (y ∷ m)) ≡ true
@@ -117,104 +106,59 @@ row_back : (name : ℕ) (value : VarValue) → variable_of (variable_row_of (rec
 row_back name (Int n) = refl
 row_back name (Text n) = refl
 
-module _ (name : ℕ) where
-  -- the first of the name among rows is the first among what they say
-  find-says : (i : ℕ) (l : List R) → find (has_name name) (take i l) ≡ None → find (variable_has_name name) (take i (map variable_of l)) ≡ None
-  find-says zero l e = refl
-  find-says (suc i) [] e = refl
-  find-says (suc i) (y ∷ l) e =
-      passed_over (has_name name y) y (find (has_name name) (take i l)) (Some (variable_of y)) (find (variable_has_name name) (take i (map variable_of l))) None e (find-says i l)
+-- rows of variables, by the type that the code has for them
+code-rows : (n : ℕ) (v : List ℕ) → rows_at variable_code_row n v ≡ map short_variable_of (rows_at variable_row n v)
+unfolding rows_at
+code-rows zero v = refl
+code-rows (suc n) v = ap (λ (l : List Variable). short_variable_of (variable_row.get v) ∷ l) (code-rows n (drop 4 v))
 
-  first_says : (l : List R) (i : ℕ) → First (has_name name) l i → First (variable_has_name name) (map variable_of l) i
-  first_says l i h =
-      let m : length (map variable_of l) ≡ length l = simp length-map in
-      record {
-        within = omega (arith, h.within);
-        before = find-says i l h.before;
-        passes = λ d b. ap (variable_has_name name) (says l i d (omega arith)) ∙ h.passes (0, (0, 0)) (omega arith);
-      }
-    where
-      says : (l : List R) (i : ℕ) (d : Variable) → i < length l → get_or (map variable_of l) i d ≡ variable_of (get_or l i (0, (0, 0)))
-      says [] i d b = absurd (omega arith)
-      says (y ∷ l) zero d b = refl
-      says (y ∷ l) (suc i) d b = says l i d (omega arith)
+short-rows : (l : List R) → all text_short l ≡ true → map short_variable_of l ≡ map variable_of l
+short-rows [] h = refl
+short-rows (y ∷ l) h =
+    let q = both (text_short y) (all text_short l) h in
+    rw (short-is y q.0, short-rows l q.1)
 
-  pub variable-absent : (w : List ℕ) → Finds (variable_has_name name) (meaning w).rest.vars None → None ≡ var_named (meaning w).rest name
-  unfolding var_named
-  variable-absent w f = sym (ap value_in (not_found (variable_has_name name) (meaning w).rest.vars _ f (omega arith)))
+-- the rows of a table, read behind its count
+pub code-table : (p : List ℕ) (l : List R) → Holds 16 variable_row p l → table_at variable_code_row (get_or p 0 0) p 1 ≡ map short_variable_of l
+unfolding table_at
+code-table p l h = code-rows (get_or p 0 0) (drop 1 p) ∙ ap (map short_variable_of) (holds-get variable_row variable-laws 16 p l h)
 
-  module _ (w : List ℕ) (s : Sound w) where
-    abbrev rows : List R
-    rows = (most 16 variable_row).get (part variables_part w)
+module _ (w : List ℕ) (s : Sound w) where
+  abbrev rows : List R
+  rows = (most 16 variable_row).get (part variables_part w)
 
-    variables-are : (meaning w).rest.vars ≡ map variable_of rows
-    unfolding meaning
-    variables-are = refl
+  pub variables-lent : Counted 16 variable_row (take (words_in variables_part) (drop (place_of variables_part) w))
+  variables-lent = table-lent variable_row variable-laws variables_part 16 (omega arith) refl w s
 
-    pub variables-lent : Counted 16 variable_row (take (words_in variables_part) (drop (place_of variables_part) w))
-    variables-lent = table-lent variable_row variable-laws variables_part 16 (omega arith) refl w s
+  pub variables-few : get_or w (place_of variables_part) 0 ≤ 16
+  variables-few = rw (table-count variable_row variable-laws variables_part 16 (omega arith) refl w s) (table-few variable_row variable-laws variables_part 16 (omega arith) refl w s)
 
-    pub variables-count : get_or w (place_of variables_part) 0 ≡ length (meaning w).rest.vars
-    unfolding meaning
-    variables-count =
-        let m : length (map variable_of rows) ≡ length rows = simp length-map in
-        table-count variable_row variable-laws variables_part 16 (omega arith) refl w s ∙ sym m
+  variables-hold : Holds 16 variable_row (take (words_in variables_part) (drop (place_of variables_part) w)) rows
+  variables-hold = rw (ap (most 16 variable_row).get (sym (part-is variables_part (omega arith) w))) at variables-lent
 
-    pub variables-few : get_or w (place_of variables_part) 0 ≤ 16
-    variables-few = rw (table-count variable_row variable-laws variables_part 16 (omega arith) refl w s) (table-few variable_row variable-laws variables_part 16 (omega arith) refl w s)
+  pub variables-count : get_or w (place_of variables_part) 0 ≡ length (meaning w).rest.vars
+  unfolding meaning
+  variables-count =
+      let m : length (map variable_of rows) ≡ length rows = simp length-map in
+      table-count variable_row variable-laws variables_part 16 (omega arith) refl w s ∙ sym m
 
-    -- the place where the search stopped
-    place-first : (i : ℕ) → First (has_word 0 name) (rows_in 4 (part variables_part w)) i → First (variable_has_name name) (meaning w).rest.vars i
-    place-first i first =
-        let h = table-part variable_row variable-laws variables_part 16 (omega arith) refl w s in
-        subst (λ (l : List Variable). First (variable_has_name name) l i) (sym variables-are) (first_says rows i (first-row name (0, (0, 0)) (part variables_part w) rows h i first))
+  -- so many as the count says, read behind it
+  pub variables-read : (l : List Variable) → l ≡ table_at variable_code_row (get_or w (place_of variables_part) 0) w (place_of variables_part + 1) → l ≡ (meaning w).rest.vars
+  unfolding meaning table_at
+  variables-read l e =
+      let k = place_of variables_part in
+      e ∙ code-rows (get_or w k 0) (drop (k + 1) w)
+      ∙ ap (map short_variable_of) (table-read variable_row variable-laws 16 w k (words_in variables_part) rows variables-hold)
+      ∙ short-rows rows s.parts.texts
 
-    place-count : length (rows_in 4 (part variables_part w)) ≡ length (meaning w).rest.vars
-    place-count =
-        let h = table-part variable_row variable-laws variables_part 16 (omega arith) refl w s in
-        let m : length (map variable_of rows) ≡ length rows = simp length-map in
-        rows-count name (0, (0, 0)) (part variables_part w) rows h ∙ sym m ∙ ap length (sym variables-are)
+value_in_lem : (o : Option Variable) → present (value_in o) ≡ present o
+value_in_lem None = refl
+value_in_lem (Some y) = refl
 
-    place-in : (i : Option ℕ) → Finds (has_word 0 name) (rows_in 4 (part variables_part w)) i → Finds (variable_has_name name) (meaning w).rest.vars i
-    place-in None f = rw place-count at (place-first _ f)
-    place-in (Some i) f = (place-first i f.0, omega (arith, place-count, f.1))
-
-    pub variable-place : (i : Option ℕ) → Finds (has_word 0 name) (rows_in 4 (take (words_in variables_part) (drop (place_of variables_part) w))) i → Finds (variable_has_name name) (meaning w).rest.vars i
-    variable-place i f = place-in i (subst (λ (p : List ℕ). Finds (has_word 0 name) (rows_in 4 p) i) (sym (part-is variables_part (omega arith) w)) f)
-
-    module _ (i : ℕ) (finds : Finds (variable_has_name name) (meaning w).rest.vars (Some i)) where
-      pub place-within : i < get_or w (place_of variables_part) 0
-      place-within = omega (arith, variables-count, finds.1)
-
-      in_rows : i < length rows
-      in_rows = rw (table-count variable_row variable-laws variables_part 16 (omega arith) refl w s) at place-within
-
-      row_is : row_at variable_row w (place_of variables_part + 1 + i * 4) ≡ get_or rows i (0, (0, 0))
-      row_is = table-row variable_row variable-laws variables_part 16 (omega arith) refl w i (0, (0, 0)) s in_rows
-
-      each : (l : List R) (i : ℕ) → all text_short l ≡ true → i < length l → text_short (get_or l i (0, (0, 0))) ≡ true
-      each [] i e b = absurd (omega arith)
-      each (y ∷ l) zero e b = (both (text_short y) (all text_short l) e).0
-      each (y ∷ l) (suc i) e b = each l i (both (text_short y) (all text_short l) e).1 (omega arith)
-
-      pub variable-short : text_short (row_at variable_row w (place_of variables_part + 1 + i * 4)) ≡ true
-      variable-short = ap text_short row_is ∙ each rows i s.parts.texts in_rows
-
-      pub variable-found : (x : Variable) → x ≡ row_at variable_code_row w (place_of variables_part + 1 + i * 4) → Some x.value ≡ var_named (meaning w).rest name
-      unfolding var_named row_at
-      variable-found x e =
-          let q : x ≡ variable_of (get_or rows i (0, (0, 0))) = e ∙ short-is (row_at variable_row w (place_of variables_part + 1 + i * 4)) variable-short ∙ ap variable_of row_is in
-          let d : Variable = variable_of (0, (0, 0)) in
-          let g : get_or (meaning w).rest.vars i d ≡ variable_of (get_or rows i (0, (0, 0))) = ap (λ (l : List Variable). get_or l i d) variables-are ∙ get_or-map variable_of rows i (0, (0, 0)) in
-          sym (ap value_in (found (variable_has_name name) (meaning w).rest.vars i finds.0 d finds.1 ∙ ap (λ (y : Variable). Some y) (g ∙ sym q)))
-
-    -- whether there is one, and no room for another
-    pub lacks : (i : Option ℕ) (none : Bool) → is_some i ≡ not none → Finds (variable_has_name name) (meaning w).rest.vars i → none && leb 16 (get_or w (place_of variables_part) 0) ≡ lacks_room name (meaning w)
-    unfolding lacks_room var_named
-    lacks None true e f = rw (← variable-absent w f, variables-count) refl
-    lacks None false e f = let z : ◌≡◌ {A = ℕ} 0 1 = cc in absurd (omega arith)
-    lacks (Some i) false e f = rw (found (variable_has_name name) (meaning w).rest.vars i f.0 (variable_of (0, (0, 0))) f.1) refl
-    lacks (Some i) true e f = let z : ◌≡◌ {A = ℕ} 0 1 = cc in absurd (omega arith)
+-- one of the name, and no room for another
+pub no-room : (name n : ℕ) (w : List ℕ) (there : Bool) → n ≡ length (meaning w).rest.vars → there ≡ present (find (variable_has_name name) (meaning w).rest.vars) → not there && leb 16 n ≡ lacks_room name (meaning w)
+unfolding lacks_room var_named
+no-room name n w there e f = rw (e, f) (ap (λ (b : Bool). not b && leb 16 (length (meaning w).rest.vars)) (sym (value_in_lem (find (variable_has_name name) (meaning w).rest.vars))))
 
 -- A VARIABLE IS SET ---------------------------------------------------------------------------------------------------------------------------
 module _ (name : ℕ) (value : VarValue) where
@@ -228,10 +172,6 @@ module _ (name : ℕ) (value : VarValue) where
   found-same : (l : List R) → present (find (has_name name) l) ≡ present (find (variable_has_name name) (map variable_of l))
   found-same [] = refl
   found-same (y ∷ l) = found-cond (has_name name y) y _ _ (found-same l)
-
-  value_in_lem : (o : Option Variable) → present (value_in o) ≡ present o
-  value_in_lem None = refl
-  value_in_lem (Some y) = refl
 
   put-cond : (b : Bool) (y : R) (l m : List R) → map variable_of (cond b (variable_row_of x ∷ l) (y ∷ m)) ≡ cond b (x ∷ map variable_of l) (variable_of y ∷ map variable_of m)
   put-cond true y l m = ap (λ (z : Variable). z ∷ map variable_of l) (row_back name value)

@@ -66,9 +66,6 @@ wide_of at row = joined (get_or row at 0) (get_or row (at + 1) 0)
 abbrev pub wide_in : ℕ → List ℕ → ℕ → ℕ → ℕ
 wide_in f p i at = wide_of at (get_or (rows_in f p) i [])
 
-abbrev pub has_word : ℕ → ℕ → List ℕ → Bool
-has_word at x row = eqb (get_or row at 0) x
-
 -- what the row says at word `at` passes
 abbrev pub passes : {A : Type 0} → Row A → ℕ → (A → Bool) → List ℕ → Bool
 passes r at test row = test (row_at r row at)

@@ -69,6 +69,7 @@ impl State {
     }
 }
 
+// kept: document 01 wants the counters as one record, lent to a thin `bump`: so this reads each field by its name, and `put_counters` writes it.
 fn counters_at(s: &[u32], k: usize) -> Counters
     requires { k ≤ 16384 }
     ensures { counters_of result ≡ table_at any 12 s.now k }

@@ -17,7 +17,8 @@ pub fn next_fits(v: &State) -> bool
 }
 
 // Each record behind the stored ones gets the number at its offset.
-// kept: not one map with `slots::move_all`: the sum fits only for offsets that stand in these rows, and a closure has to promise it for any.
+// kept: not one map with `slots::move_all`: this adds to two words of the rows behind the stored ones, that writes whole slots, all of them. One map
+// would take the first row, the width, the word and a closure, where these are two loops of three lines.
 fn number_all(t: &mut [u32], stored: usize, next: u64, accepted: u64)
     requires { Counted 32 pending_row t.old × (stored ≤ get_or t.old 0 0) × (next + accepted ≤ max64) × Below accepted (drop stored ((most 32 pending_row).get t.old)) }
     ensures { Holds 32 pending_row t.new (numbered next stored ((most 32 pending_row).get t.old)) }

@@ -1,15 +1,14 @@
 // A counted table in words, whatever its rows are: its count, rows of `width` words, zeros behind.
 ghost use Rattle.std.specs.Prelude.{◌≡◌, Bool, [], ◌+◌, ◌-◌, ◌≤◌, ◌<◌, length, get_or, take};
 ghost use Rattle.model.specs.Lists.{keep};
-ghost use Rattle.state.specs.Tables.{Finds};
-ghost use Rattle.state.specs.Cuts.{rows_in, table_of, wide_in, has_word, passes, with_row, HasRoom, Words, Fits, Table, RowSet};
+ghost use Rattle.state.specs.Cuts.{rows_in, table_of, wide_in, passes, with_row, HasRoom, Words, Fits, Table, RowSet};
 
 use rows::put::clear;
 use rows::row::Row;
 
 // Row i.
-// kept: `Fits` would be asked where a view of it is made: at six callers, one of them `close_up` at each turn, since rows move in the words
-// before the count is written. Five functions ask it here.
+// kept: a view that knows `Fits` would be made, and ask it, where these functions are called: by `pending::close_up`, by wheel's `earliest`, and at
+// each turn of `close_up`, whose rows move before the count is written. Those that ask it are this, `wide_of`, `count_kept` and `move_row`.
 fn row_of(t: &[u32], width: usize, i: usize) -> &[u32]
     requires { Fits width t.now × (i < get_or t.now 0 0) }
     ensures is { result.now ≡ get_or (rows_in width t.now) i [] }
@@ -27,21 +26,8 @@ pub fn wide_of(t: &[u32], width: usize, i: usize, at: usize) -> u64
     u64::at(row_of(t, width, i), at)
 }
 
-// The place of the first row whose word `at` is x.
-pub fn first_with(t: &[u32], width: usize, at: usize, x: u32) -> Option<usize>
-    requires { Fits width t.now × (at < width) }
-    ensures { Finds (has_word at x) (rows_in width t.now) result }
-{
-    let n = t[0] as usize;
-    for i in 0..n {
-        if row_of(t, width, i)[at] == x {
-            return Some(i);
-        }
-    }
-    None
-}
-
 // How many of the first m rows stay: those whose value at word `at` passes.
+// kept: tried `(0..m).filter(..).count()`: its closure reads a row and calls `stays`, so it has to ask again all four clauses of this function.
 pub fn count_kept<R: Row, F: Fn(R) -> bool>(
     t: &[u32],
     width: usize,

@@ -5,7 +5,7 @@ ghost use Rattle.model.specs.Parts.{variable_row};
 ghost use Rattle.model.specs.State.{var_named};
 ghost use Rattle.model.specs.Store.{variable_row_of};
 ghost use Rattle.state.specs.Meaning.{Sound, Means, Holds, Counted, meaning, base};
-ghost use Rattle.state.specs.Named.{variable_has_name, lacks_room, assigned, assign_row};
+ghost use Rattle.state.specs.Named.{has_name, lacks_room, assigned, assign_row};
 ghost use Rattle.state.specs.Tables.{Finds};
 
 use crate::place::MAX_VARIABLES;
@@ -13,19 +13,16 @@ use crate::{State, place, table};
 use model::{VarValue, Variable};
 use rows::VARIABLE_WORDS;
 use rows::row::Row;
+use rows::tables::Rows;
 
-// The word of a row that is its name.
-const NAME: usize = 0;
-
-// The place of the variable of a name.
-fn place_of(v: &State, name: u32) -> Option<usize>
-    ensures { Finds (variable_has_name name) (meaning v.now).rest.vars result }
+// The variables.
+fn all(v: &State) -> Rows<'_, Variable>
+    ensures { result ≡ (meaning v.now).rest.vars }
 {
-    table::first_with(
-        &v.words[place::VARIABLES..place::TIMERS],
-        VARIABLE_WORDS,
-        NAME,
-        name,
+    Rows::new(
+        &v.words,
+        place::VARIABLES + 1,
+        v.words[place::VARIABLES] as usize,
     )
 }
 
@@ -33,8 +30,7 @@ fn place_of(v: &State, name: u32) -> Option<usize>
 pub fn variable(v: &State, name: u32) -> Option<VarValue>
     ensures { result ≡ var_named (meaning v.now).rest name }
 {
-    let i = place_of(v, name)?;
-    let x = Variable::at(&v.words, place::VARIABLES + 1 + i * VARIABLE_WORDS);
+    let x = all(v).find(|x| x.name == name)?;
     Some(x.value)
 }
 
@@ -42,7 +38,15 @@ pub fn variable(v: &State, name: u32) -> Option<VarValue>
 pub fn lacks_room(v: &State, name: u32) -> bool
     ensures { result ≡ lacks_room name (meaning v.now) }
 {
-    place_of(v, name).is_none() && MAX_VARIABLES <= v.words[place::VARIABLES] as usize
+    !all(v).any(|x| x.name == name) && MAX_VARIABLES <= v.words[place::VARIABLES] as usize
+}
+
+// The place of the variable of a name.
+fn place_of(t: &[u32], name: u32) -> Option<usize>
+    requires { Counted 16 variable_row t.now }
+    ensures { Finds (has_name name) ((most 16 variable_row).get t.now) result }
+{
+    Rows::<Variable>::new(t, 1, t[0] as usize).position(|x| x.name == name)
 }
 
 // The variable of the name holds the value; a new one goes behind the others, where there is room.
@@ -50,7 +54,7 @@ fn assign(t: &mut [u32], x: Variable)
     requires { Counted 16 variable_row t.old }
     ensures { Holds 16 variable_row t.new (assign_row x.name (variable_row_of x) ((most 16 variable_row).get t.old)) }
 {
-    if let Some(i) = table::first_with(t, VARIABLE_WORDS, NAME, x.name) {
+    if let Some(i) = place_of(t, x.name) {
         x.put(t, 1 + i * VARIABLE_WORDS);
         return;
     }

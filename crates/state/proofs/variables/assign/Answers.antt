@@ -1,24 +1,20 @@
 -- `state::variables::assign` meets its contract: set again, new, or no room. Assumes nothing.
 use native.Mathlib.Omega.{arith}
 use Rattle.model.specs.Parts.{variable_row}
-use Rattle.model.specs.Store.{variable_row_of}
 use Rattle.model.proofs.PartsLaws.{variable-laws}
-use Rattle.state.proofs.Typed.{has-room, holds_fits, holds-long, holds-count, holds-few}
+use Rattle.state.proofs.Typed.{has-room, holds-long, holds-count, holds-few}
 use Rattle.state.proofs.Good.{variable-good, words-laid, are_words}
-use Rattle.state.proofs.VariableRows.{place-few, assigned-again, assigned-new, assigned-not}
+use Rattle.state.proofs.VariableRows.{assigned-again, assigned-new, assigned-not}
 use Rattle.state.proofs.variables.assign.Goals as goal
 
-pub first_with-requires : goal.first_with-requires
-first_with-requires c = (holds_fits variable_row variable-laws 16 _ _ c.requires (omega arith) (omega arith) (omega arith), omega arith)
-
 pub overflow_mul-i : goal.overflow_mul-i
-overflow_mul-i c = omega (arith, place-few _ (variable_row_of c.args.x) _ _ c.requires _ c.in-Some.ensures, holds-few variable_row variable-laws 16 _ _ c.requires)
+overflow_mul-i c = omega (arith, c.in-Some.ensures.1, holds-few variable_row variable-laws 16 _ _ c.requires)
 
 pub overflow_add-i : goal.overflow_add-i
-overflow_add-i c = omega (arith, place-few _ (variable_row_of c.args.x) _ _ c.requires _ c.in-Some.ensures, holds-few variable_row variable-laws 16 _ _ c.requires)
+overflow_add-i c = omega (arith, c.in-Some.ensures.1, holds-few variable_row variable-laws 16 _ _ c.requires)
 
 pub put-requires : goal.put-requires
-put-requires c = omega (arith, place-few _ (variable_row_of c.args.x) _ _ c.requires _ c.in-Some.ensures, holds-long variable_row variable-laws 16 _ _ c.requires, holds-few variable_row variable-laws 16 _ _ c.requires)
+put-requires c = omega (arith, c.in-Some.ensures.1, holds-long variable_row variable-laws 16 _ _ c.requires, holds-few variable_row variable-laws 16 _ _ c.requires)
 
 pub returns-in-Some : goal.returns-in-Some
 returns-in-Some c =

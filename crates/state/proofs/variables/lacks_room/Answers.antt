@@ -1,15 +1,29 @@
 -- `state::variables::lacks_room` meets its contract. Assumes nothing.
-use mathlib.Core.Path.{sym, ap, ◌∙◌}
-use mathlib.Core.Bool.{◌&&◌}
-use lib.Dec.{leb}
-use lib.ListN.{get_or}
-use Rattle.state.proofs.VariableRows.{lacks}
+use Rattle.std.proofs.Common.{rules, ap, sym, ◌≡◌, ◌∙◌, true, false}
+use mathlib.Core.Bool.{not}
+use Rattle.std.proofs.lemmas.Iterator.Consumers.{YieldsList-from_first}
+use Rattle.std.proofs.lemmas.Iterator.Search.{any_from_yields_List}
+use Rattle.model.specs.Lists.{present, find}
+use Rattle.rows.proofs.Searching.{any-present}
+use Rattle.state.specs.Meaning.{meaning}
+use Rattle.state.specs.Named.{variable_has_name}
+use Rattle.state.proofs.VariableRows.{variables-count, no-room}
 use Rattle.state.proofs.variables.lacks_room.Goals as goal
 
-pub returns-then-is_none : goal.returns-then-is_none
-returns-then-is_none c =
-    rw (← c.v.view_is) (ap (λ b. b && leb 16 (get_or c.v.inside.words 384 0)) (sym c.if-is_none.true) ∙ lacks _ _ c.v.invariant _ _ c.is_none.ensures (rw (← c.v.view_is) at c.place_of.ensures))
+pub returns-then-not-any : goal.returns-then-not-any
+returns-then-not-any c =
+    let p = variable_has_name c.args.name in
+    let there : c.any.result ≡ present (find p (meaning c.args.v.now).rest.vars) =
+    any_from_yields_List p _ _ _ c.any.ensures.ran (YieldsList-from_first (λ x. x) (λ rest. rest) _ c.all.ensures) (λ x b q h. search rules)
+    ∙ any-present p (meaning c.args.v.now).rest.vars
+    in
+    rw (← c.v.view_is) (no-room c.args.name _ _ false (variables-count _ c.v.invariant) (sym c.if-not-any.true ∙ (rw (← c.v.view_is) at there)))
 
-pub returns-else-is_none : goal.returns-else-is_none
-returns-else-is_none c =
-    rw (← c.v.view_is) (c.if-is_none.false ∙ ap (λ b. b && leb 16 (get_or c.v.inside.words 384 0)) (sym c.if-is_none.false) ∙ lacks _ _ c.v.invariant _ _ c.is_none.ensures (rw (← c.v.view_is) at c.place_of.ensures))
+pub returns-else-not-any : goal.returns-else-not-any
+returns-else-not-any c =
+    let p = variable_has_name c.args.name in
+    let there : c.any.result ≡ present (find p (meaning c.args.v.now).rest.vars) =
+    any_from_yields_List p _ _ _ c.any.ensures.ran (YieldsList-from_first (λ x. x) (λ rest. rest) _ c.all.ensures) (λ x b q h. search rules)
+    ∙ any-present p (meaning c.args.v.now).rest.vars
+    in
+    rw (← c.v.view_is) (ap not c.if-not-any.false ∙ no-room c.args.name _ _ true (variables-count _ c.v.invariant) (sym c.if-not-any.false ∙ (rw (← c.v.view_is) at there)))

@@ -4,7 +4,7 @@ use Rattle.state.proofs.Follows.{means}
 use Rattle.state.proofs.variables.set_variable.Goals as goal
 
 pub assign-requires : goal.assign-requires
-assign-requires c = variables-lent c.args.name _ c.v.invariant
+assign-requires c = variables-lent _ c.v.invariant
 
 pub returns : goal.returns
 returns c =

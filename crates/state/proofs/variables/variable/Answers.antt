@@ -1,22 +1,26 @@
 -- `state::variables::variable` meets its contract. Assumes nothing.
-use native.Mathlib.Omega.{arith}
-use mathlib.Core.Path.{◌∙◌}
-use Rattle.state.proofs.VariableRows.{variables-few, place-within, variable-found, variable-absent}
+use Rattle.std.proofs.Common.{rules, ap, sym, ◌∙◌}
+use Rattle.std.proofs.lemmas.Iterator.Consumers.{YieldsList-from_first}
+use Rattle.std.proofs.lemmas.Iterator.Search.{find_from_yields_List}
+use Rattle.model.specs.State.{value_in, var_named}
+use Rattle.rows.proofs.Searching.{finds}
+use Rattle.state.specs.Meaning.{meaning}
+use Rattle.state.specs.Named.{variable_has_name}
 use Rattle.state.proofs.variables.variable.Goals as goal
 
-pub returns-in_err-i : goal.returns-in_err-i
-returns-in_err-i c =
-    c.from_residual.ensures ∙ variable-absent _ _ c.in_err-i.ensures
-
-pub overflow_mul-i : goal.overflow_mul-i
-overflow_mul-i c = omega (arith, variables-few c.args.name _ c.v.invariant, place-within _ _ c.v.invariant _ (rw (← c.v.view_is) at c.in_ok-i.ensures))
-
-pub overflow_add-i : goal.overflow_add-i
-overflow_add-i c = omega (arith, variables-few c.args.name _ c.v.invariant, place-within _ _ c.v.invariant _ (rw (← c.v.view_is) at c.in_ok-i.ensures))
-
-pub at-x-requires : goal.at-x-requires
-at-x-requires c = omega (arith, variables-few c.args.name _ c.v.invariant, place-within _ _ c.v.invariant _ (rw (← c.v.view_is) at c.in_ok-i.ensures))
+pub returns-in_err-x : goal.returns-in_err-x
+unfolding var_named
+returns-in_err-x c =
+    let p = variable_has_name c.args.name in
+    c.from_residual.ensures
+    ∙ ap value_in
+    (sym c.in_err-x.was
+    ∙ finds p (meaning c.args.v.now).rest.vars _ (find_from_yields_List p _ _ _ c.find.ensures.ran (YieldsList-from_first (λ x. x) (λ rest. rest) _ c.all.ensures) (λ x b q h. search rules)))
 
 pub returns : goal.returns
+unfolding var_named
 returns c =
-    rw (← c.v.view_is) (variable-found _ _ c.v.invariant _ (rw (← c.v.view_is) at c.in_ok-i.ensures) _ c.at-x.ensures)
+    let p = variable_has_name c.args.name in
+    ap value_in
+    (sym c.in_ok-x.was
+    ∙ finds p (meaning c.args.v.now).rest.vars _ (find_from_yields_List p _ _ _ c.find.ensures.ran (YieldsList-from_first (λ x. x) (λ rest. rest) _ c.all.ensures) (λ x b q h. search rules)))
