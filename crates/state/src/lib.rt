@@ -128,6 +128,7 @@ pub fn prev_week_min(v: &State) -> Option<u32>
     option_at(&v.words, place::WEEK)
 }
 
+// kept: beside `set_prev_week_min`, since the proof needs that each word is below 2^32, which is known of a slice that is an argument and not of a field.
 fn put_minute(w: &mut [u32], minute: Option<u32>)
     requires { Sound w.old }
     ensures { MeansSoundly w.new (base w.old) (with_rest (with_prev_week_min minute (meaning w.old).rest) (meaning w.old)) }

@@ -12,8 +12,8 @@ use rows::put::clear;
 use rows::row::{Row, option_at, put_option};
 
 // How many rules there are.
-// kept: `Sound` is asked where a function takes the words of a state that is open: by this, `put_kept`, `put_minute`, and `close_up` of timers and of
-// records. Those that change the words hand them back open, to a function that shows what the whole state means.
+// kept: `Sound` is asked where a function takes the words of a state: by this, `put_kept` and `put_minute`. These two need that each word is below 2^32,
+// which is known of a slice that is an argument and not of a field, and the first is called by one of them.
 fn rule_count(v: &[u32]) -> usize
     requires { Sound v.now }
     ensures { (result ≡ rules_of v.now) × (result ≤ 64) }
