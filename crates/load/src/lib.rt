@@ -27,9 +27,13 @@ fn flat_refusal(img: &[u32]) -> Result<(), Refusal>
 }
 
 // Nothing for an image that load accepts, else the lowest number of a check that fails: for every slice.
+// kept: a match, and no `?`: the wrong answer of must-fail/tables_after_steps.edit is one arm, which a fact refuses; with `?` there is no such arm, and the
+// check's search for the edited text gave up at a limit.
 pub fn refusal(img: &[u32]) -> Result<(), Refusal>
     ensures { refusal_number result ≡ image_refusal img.now }
 {
-    image::refusal(img)?;
-    flat_refusal(img)
+    match image::refusal(img) {
+        Ok(()) => flat_refusal(img),
+        Err(refusal) => Err(refusal),
+    }
 }
