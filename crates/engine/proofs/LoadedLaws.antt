@@ -5,29 +5,23 @@ use Rattle.std.specs.Prelude.{Option, None, Some}
 use Rattle.std.specs.Prelude.{option_map}
 use Rattle.std.proofs.lemmas.Option.{none-some, same_Some}
 use Prim.Native.Nat.{ℕ, ◌<◌}
-use native.Mathlib.Omega.{arith}
-use lib.ListN.{length, get_or, take, get_or-eq_default}
+use lib.ListN.{get_or, take}
 use lib.Seq.{get_or-take}
 use Rattle.model.specs.Image.{size_of}
 use Rattle.model.specs.Rows.{rules}
-use Rattle.model.specs.Rules.{name_of, rule_named}
+use Rattle.model.specs.Rules.{rule_named}
 use Rattle.model.specs.Flat.{flatten_rules, set_of}
 use Rattle.model.specs.Load.{image_refusal}
-use Rattle.model.specs.Codec.{word, wide, maybe}
 use Rattle.model.specs.State.{RuleSet, Volatile, Store}
 use Rattle.model.specs.Store.{read, rule_count}
 use Rattle.model.specs.Calls.{kept_at, kept, rule_in}
-use Rattle.model.proofs.RowLaws.{word_laws, wide_laws, word_blank, wide-blank, maybe-laws}
 use Rattle.image.proofs.Rules.{named_rule}
 use Rattle.store.specs.Set.{loaded_in}
 use Rattle.store.specs.FlatPart.{Kept}
-use Rattle.store.specs.Places.{activations_place, positions_place}
 use Rattle.store.specs.Volatile.{Readable, changing_in}
-use Rattle.store.proofs.Parts.{activations-at, positions-at, table-long}
 use Rattle.store.proofs.Stored.{from-read, volatile-read}
 use Rattle.store.proofs.LoadedSet.{image-read, accepted-read, form-read, kept_read}
 use Rattle.store.proofs.RecordRules.{found_none, found_at}
-use Rattle.engine.specs.Sets.{activation_of, position_of}
 
 -- the set, by the words of its image
 pub record LoadedImage (w img : List ℕ) (s : Store) : Type 0 where
@@ -85,41 +79,26 @@ inside : (o : Option RuleSet) (name i : ℕ) → rule_in o name ≡ Some i → i
 inside None name i e = absurd (none-some i e)
 inside (Some set) name i e = (named_rule set.image name i e).0
 
-module _ (o : Option RuleSet) (xs : List (Option ℕ)) (name : ℕ) (r : Option ℕ) (e : r ≡ rule_in o name) where
-  abbrev of_rules : List (Option ℕ)
-  of_rules = take (rule_count o) xs
+module _ (w : List ℕ) (s : Store) (e : read w ≡ Some s) (name : ℕ) (r : Option ℕ) (q : r ≡ rule_in s.loaded name) where
+  -- nothing of a rule that is not loaded
+  pub nothing-kept : (xs : List (Option ℕ)) → r ≡ None → None ≡ kept s.loaded xs name
+  nothing-kept xs n = sym (ap (λ (o : Option ℕ). kept_at o xs) (found_none (rule_in s.loaded name) r q n)) ∙ kept-place s.loaded xs name
 
-  pub nothing-kept : r ≡ None → length xs ≡ 64 → get_or xs 64 None ≡ kept o of_rules name
-  nothing-kept n l =
-      get_or-eq_default xs None (omega arith) ∙ sym (ap (λ (x : Option ℕ). kept_at x of_rules) (found_none (rule_in o name) r e n)) ∙ kept-place o of_rules name
+  module _ (i : ℕ) (n : r ≡ Some i) (x : Option ℕ) where
+    kept_there : (xs : List (Option ℕ)) → get_or xs i None ≡ kept s.loaded (take (rule_count s.loaded) xs) name
+    kept_there xs =
+        let f = found_at (rule_in s.loaded name) r i q n in
+        sym (get_or-take (rule_count s.loaded) xs i None (inside s.loaded name i f))
+        ∙ sym (ap (λ (o : Option ℕ). kept_at o (take (rule_count s.loaded) xs)) f)
+        ∙ kept-place s.loaded (take (rule_count s.loaded) xs) name
 
-  pub kept_there : (i : ℕ) → r ≡ Some i → get_or xs i None ≡ kept o of_rules name
-  kept_there i n =
-      let q = found_at (rule_in o name) r i e n in
-      sym (get_or-take (rule_count o) xs i None (inside o name i q)) ∙ sym (ap (λ (x : Option ℕ). kept_at x of_rules) q) ∙ kept-place o of_rules name
+    pub activation-kept : x ≡ get_or (changing_in w).activations i None → x ≡ kept s.loaded s.vol.rest.last_activation name
+    activation-kept a = a ∙ kept_there (changing_in w).activations ∙ ap (λ (v : Volatile). kept s.loaded v.rest.last_activation name) (volatile-read w s (from-read w s e))
+
+    pub position-kept : x ≡ get_or (changing_in w).positions i None → x ≡ kept s.loaded s.vol.rest.cycle_pos name
+    position-kept a = a ∙ kept_there (changing_in w).positions ∙ ap (λ (v : Volatile). kept s.loaded v.rest.cycle_pos name) (volatile-read w s (from-read w s e))
 
 -- where a rule is found a set is loaded
 pub set-of : (o : Option RuleSet) (rule i : ℕ) → rule_in o rule ≡ Some i → (set : RuleSet) × (o ≡ Some set)
 set-of None rule i e = absurd (none-some i e)
 set-of (Some set) rule i e = (set, refl)
-
--- what is read at that place is what the store keeps
-module _ (w : List ℕ) (s : Store) (e : read w ≡ Some s) (k name : ℕ) (img : List ℕ) (i : ℕ) (x : Option ℕ) (n : name ≡ name_of img i) where
-  pub activation-kept : x ≡ get_or (changing_in w).activations k None → get_or (changing_in w).activations k None ≡ kept s.loaded (take (rule_count s.loaded) (changing_in w).activations) name
-      → x ≡ activation_of img s i
-  activation-kept a h =
-      a ∙ h ∙ ap (kept s.loaded (take (rule_count s.loaded) (changing_in w).activations)) n
-      ∙ ap (λ (v : Volatile). kept s.loaded v.rest.last_activation (name_of img i)) (volatile-read w s (from-read w s e))
-
-  pub position-kept : x ≡ get_or (changing_in w).positions k None → get_or (changing_in w).positions k None ≡ kept s.loaded (take (rule_count s.loaded) (changing_in w).positions) name
-      → x ≡ position_of img s i
-  position-kept a h =
-      a ∙ h ∙ ap (kept s.loaded (take (rule_count s.loaded) (changing_in w).positions)) n
-      ∙ ap (λ (v : Volatile). kept s.loaded v.rest.cycle_pos (name_of img i)) (volatile-read w s (from-read w s e))
-
--- the rows of 64 rules
-pub activations-all : (w : List ℕ) → length (changing_in w).activations ≡ 64
-activations-all w = ap length (activations-at w) ∙ table-long (maybe wide) (maybe-laws wide_laws wide-blank) 64 w activations_place
-
-pub positions-all : (w : List ℕ) → length (changing_in w).positions ≡ 64
-positions-all w = ap length (positions-at w) ∙ table-long (maybe (word 15)) (maybe-laws (word_laws 15) (word_blank 15)) 64 w positions_place

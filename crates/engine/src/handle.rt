@@ -27,6 +27,7 @@ use store::checked::Checked;
 use store::set::image_in;
 
 // What comes in beside the snapshot: a tick, or a rule that runs, by its name.
+// kept: two kinds of the Rust's enum. An Option of a rule would not say that without one it is a tick.
 #[derive(Clone, Copy)]
 pub enum EngineInput {
     Tick,

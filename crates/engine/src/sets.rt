@@ -1,11 +1,9 @@
 // What load and unload make of the parts that calls change.
-ghost use Rattle.std.specs.Prelude.{◌≡◌, List, ℕ, ◌≤◌, length, get_or, take};
-ghost use Rattle.std.specs.Prelude.{Option, None};
+ghost use Rattle.std.specs.Prelude.{◌≡◌, ◌≤◌};
 ghost use Rattle.model.specs.Image.{size_of};
 ghost use Rattle.model.specs.Load.{image_refusal};
 ghost use Rattle.model.specs.Rows.{rules};
 ghost use Rattle.model.specs.State.{with_rest};
-ghost use Rattle.model.specs.Store.{rule_count};
 ghost use Rattle.model.specs.Calls.{kept, rest_with, rest_without};
 ghost use Rattle.state.specs.Meaning.{AllNumbered, Means, meaning, base};
 ghost use Rattle.engine.specs.Sets.{cleared, rule_of, rules_of};
@@ -14,7 +12,6 @@ use every::kept::Slots;
 use image::layout::{Image, Table};
 use rows::row::Row;
 use state::State;
-use state::place::MAX_RULES;
 use store::checked::Checked;
 use store::table;
 
@@ -30,13 +27,14 @@ pub fn without_set(store: &Checked, v: &mut State)
     let _ = &v.words;
 }
 
-// Where the store has what it keeps for the rule of a name; past the last rule where it has nothing.
-fn old_place(store: &Checked, name: u32) -> usize
-    ensures { (xs : List (Option ℕ)) → length xs ≡ 64 → get_or xs result None ≡ kept store.now.loaded (take (rule_count store.now.loaded) xs) name }
+// What the store keeps for the rule of a name: its last activation, and its cycle position.
+fn kept_of(store: &Checked, name: u32) -> (Option<u64>, Option<u32>)
+    ensures activation { result.0 ≡ kept store.now.loaded store.now.vol.rest.last_activation name }
+    ensures position { result.1 ≡ kept store.now.loaded store.now.vol.rest.cycle_pos name }
 {
     match store.rule_in(name) {
-        None => MAX_RULES,
-        Some(i) => i as usize,
+        Some(i) => store::volatile::kept_of_rule(store.words(), i as usize),
+        None => (None, None),
     }
 }
 
@@ -44,10 +42,8 @@ fn old_place(store: &Checked, name: u32) -> usize
 fn put_rule(store: &Checked, image: &Image, i: u32, v: &mut State)
     ensures { Means v.new (base v.old) (with_rest (rule_of image.now store.now i (meaning v.old).rest) (meaning v.old)) }
 {
-    let words = store.words();
-    let k = old_place(store, image.name_of(i));
+    let (activation, position) = kept_of(store, image.name_of(i));
     let on = image.enabled_of(i);
-    let (activation, position) = store::volatile::kept_of_rule(words, k);
     state::rules::put_bit(v, i as usize, on);
     state::rules::put_last_activation(v, i as usize, activation);
     state::rules::put_cycle_pos(v, i as usize, position);

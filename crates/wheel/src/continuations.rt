@@ -71,8 +71,8 @@ fn resume_all(
     h
 }
 
-// kept: `fire_timers` and `fire_every` have this shape and none of these calls; one function for the three would take the four of them as closures
-// over the same words.
+// kept: `fire_timers` and `fire_every` have this shape and share no call. What is due are indices, timers or slots, each found, dropped and started by functions of
+// its own: one function for the three needs a trait with three functions and three impls of it, and each of these is four lines.
 pub fn fire_continuations(
     env: &Env,
     outcomes: &mut [u32],
