@@ -1,3 +1,4 @@
+pub mod SizedLaws
 pub mod Seeing
 pub mod SetLaws
 pub mod WordLaws

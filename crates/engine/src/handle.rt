@@ -25,6 +25,7 @@ use model::{Refusal, TriggerKind};
 use state::State;
 use store::checked::Checked;
 use store::set::image_in;
+use store::table;
 
 // What comes in beside the snapshot: a tick, or a rule that runs, by its name.
 // kept: two kinds of the Rust's enum. An Option of a rule would not say that without one it is a tick.
@@ -61,7 +62,7 @@ fn fits(outcomes: &[u32], effects: &[u32], v: &State, x: Handled) -> Result<(), 
 
 // The call has come to x: it is refused with 30, 31 or 32, and leaves nothing in the lent stores, or the store is written.
 fn commit(
-    store: &mut [u32],
+    store: &mut [u32; table::WORDS],
     outcomes: &mut [u32],
     effects: &mut [u32],
     time: u64,
@@ -207,9 +208,10 @@ pub fn handle(
 {
     lent_words::clear(outcomes);
     lent_words::clear(effects);
-    let checked = opened_with(store, snapshot)?;
+    let words = store.as_mut_array().ok_or(Refusal::StoreLength)?;
+    let checked = opened_with(words, snapshot)?;
     let mut v = State::new();
     checked.begin(&mut v);
     let x = dispatch(input, &checked, snapshot, outcomes, effects, &mut v);
-    commit(store, outcomes, effects, world::now_ms(snapshot), &mut v, x)
+    commit(words, outcomes, effects, world::now_ms(snapshot), &mut v, x)
 }

@@ -30,10 +30,8 @@ mod stored;
 pub fn new(store: &mut [u32], time: u64) -> Result<(), Refusal>
     ensures { shown no_values result store.new [] [] ≡ seen (call_on (new time) store.old) }
 {
-    if !store::sized(store) {
-        return Err(Refusal::StoreLength);
-    }
-    store::set::put_new(store, time);
+    let words = store.as_mut_array().ok_or(Refusal::StoreLength)?;
+    store::set::put_new(words, time);
     Ok(())
 }
 
@@ -41,13 +39,14 @@ pub fn new(store: &mut [u32], time: u64) -> Result<(), Refusal>
 pub fn load(store: &mut [u32], time: u64, image: &[u32]) -> Result<(), Refusal>
     ensures { shown no_values result store.new [] [] ≡ seen (call_on (load time image.now) store.old) }
 {
-    let checked = opened(store)?;
+    let words = store.as_mut_array().ok_or(Refusal::StoreLength)?;
+    let checked = opened(words)?;
     load::refusal(image)?;
     let mut v = State::new();
     sets::with_set(&checked, &Image::new(image), time, &mut v);
-    store::put_set::put_loaded(store, image);
-    store::volatile::put_state(store, &v);
-    store::set::put_last(store, time);
+    store::put_set::put_loaded(words, image);
+    store::volatile::put_state(words, &v);
+    store::set::put_last(words, time);
     Ok(())
 }
 
@@ -57,12 +56,13 @@ pub fn load(store: &mut [u32], time: u64, image: &[u32]) -> Result<(), Refusal>
 pub fn unload(store: &mut [u32], time: u64) -> Result<(), Refusal>
     ensures { shown no_values result store.new [] [] ≡ seen (call_on (unload time) store.old) }
 {
-    let checked = opened(store)?;
+    let words = store.as_mut_array().ok_or(Refusal::StoreLength)?;
+    let checked = opened(words)?;
     let mut v = State::new();
     sets::without_set(&checked, &mut v);
-    store::set::put_unloaded(store);
-    store::volatile::put_state(store, &v);
-    store::set::put_last(store, time);
+    store::set::put_unloaded(words);
+    store::volatile::put_state(words, &v);
+    store::set::put_last(words, time);
     Ok(())
 }
 
@@ -70,7 +70,8 @@ pub fn unload(store: &mut [u32], time: u64) -> Result<(), Refusal>
 pub fn enable(store: &mut [u32], rule: u32, on: bool) -> Result<bool, Refusal>
     ensures { shown enabled_values result store.new [] [] ≡ seen (call_on (enable rule on) store.old) }
 {
-    let checked = opened(store)?;
+    let words = store.as_mut_array().ok_or(Refusal::StoreLength)?;
+    let checked = opened(words)?;
     let Some(i) = checked.rule_in(rule) else {
         return Ok(false);
     };
@@ -79,7 +80,7 @@ pub fn enable(store: &mut [u32], rule: u32, on: bool) -> Result<bool, Refusal>
     state::rules::set_enabled(&mut v, rule, i as usize, on);
     // This opens the value, so that what is known of it can be cited; no code comes of it.
     let _ = &v.words;
-    store::volatile::put_state(store, &v);
+    store::volatile::put_state(words, &v);
     Ok(true)
 }
 

@@ -1,9 +1,7 @@
 -- `engine::handle::commit` meets its contract. Assumes nothing.
-use mathlib.Core.Path.{◌∙◌}
 use borrow.Author.Tests.{leb-true}
 use Rattle.model.proofs.StoreLaws.{write_read}
 use Rattle.activate.specs.Carried.{carried}
-use Rattle.engine.proofs.WordLaws.{said}
 use Rattle.engine.proofs.CallLaws.{itself}
 use Rattle.engine.proofs.HandlingLaws.{fit, call-refused, call_ends}
 use Rattle.engine.proofs.handle.commit.Goals as goal
@@ -19,10 +17,7 @@ assign_numbers-requires c =
     (f.next, leb-true _ _ f.last)
 
 pub put_state-requires : goal.put_state-requires
-put_state-requires c = ((said _ c.requires).long, itself c.assign_numbers.ensures)
-
-pub put_last-requires : goal.put_last-requires
-put_last-requires c = c.store-1.given ∙ (said _ c.requires).long
+put_state-requires c = itself c.assign_numbers.ensures
 
 pub returns-in-Ok : goal.returns-in-Ok
 returns-in-Ok c s h e o =

@@ -3,4 +3,4 @@ use Rattle.store.proofs.LoadWords.{image-put}
 use Rattle.store.proofs.put_set.put_image.Goals as goal
 
 pub returns : goal.returns
-returns c = image-put _ _ _ _ c.args.image.now c.requires.0 c.requires.1 c.put.ensures c.put_words.ensures c.clear.ensures
+returns c = image-put _ _ _ _ c.args.image.now c.told-s c.requires c.put.ensures c.put_words.ensures c.clear.ensures

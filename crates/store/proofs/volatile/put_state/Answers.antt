@@ -6,11 +6,11 @@ use Rattle.store.specs.Places.{changing_words}
 use Rattle.store.proofs.Commit.{state-fits, wrote}
 use Rattle.store.proofs.volatile.put_state.Goals as goal
 
-pub slice_bounds-put_words-end : goal.slice_bounds-put_words-end
-slice_bounds-put_words-end c = sym (length-take-le changing_words c.v.inside.words (omega (arith, c.v.invariant.long)))
+pub slice_bounds-put_words-end-2 : goal.slice_bounds-put_words-end-2
+slice_bounds-put_words-end-2 c = sym (length-take-le changing_words c.v.inside.words (omega (arith, c.v.invariant.long)))
 
 pub put_words-requires : goal.put_words-requires
-put_words-requires c = state-fits c.args.store.now c.v.inside.words c.requires.0 c.v.invariant
+put_words-requires c = state-fits c.args.store.now c.v.inside.words c.told-store c.v.invariant
 
 pub returns : goal.returns
-returns c = rw (← c.v.view_is) (wrote _ c.v.inside.words _ (rw (← c.v.view_is) at c.requires.1) c.put_words.ensures)
+returns c = rw (← c.v.view_is) (wrote _ c.v.inside.words _ (rw (← c.v.view_is) at c.requires) c.put_words.ensures)
