@@ -2,7 +2,9 @@
 // left in the table. At most 12 lists are open at once (specs/OpenLists.antt, proofs/OpenBound.antt). A rule's own list is written into
 // `list`, an after's body into `body`, and from there into the lent tail of the flat steps, that of `bodies`, which are compared too.
 // More actions than the caller allowed are refused. The six functions call each other: they are read, and proved, together.
-// kept: `list` and `body` stand beside each other in each call, because they change their parts: an after's body is the list of what is inside.
+// kept: `list` and `body` are lent each for itself, beside `Bodies`, which is the same all through a rule: a repeat lends its list from its first copy on, and
+// an after lends `body` as the list inside and a word that nothing is written into as the body. A struct of the two would be made anew at both and handed on at
+// the others. `at` changes from list to list and `p` from action to action, so that a struct of the two would be made anew for each action.
 // kept: `Start`, that record i is one of the table, and that there are fewer than 256 steps stand in each `requires`: they are of the numbers of one call
 // and of the length of the body that is lent to it, which no value goes with.
 ghost use Rattle.std.specs.Prelude.{◌≡◌, ◌+◌, ◌/◌, ◌<◌, ◌≤◌, length};
@@ -37,7 +39,8 @@ pub fn flatten_list(
 {
     let mut q = p;
     for i in first..first + count {
-        if 256 <= q.n {
+        let full = 256 <= q.n;
+        if full {
             return Ok(one_step(list, q, Step::Fail));
         }
         if q.left == 0 {

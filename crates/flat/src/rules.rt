@@ -74,8 +74,9 @@ fn flatten_rule(
 }
 
 // The parts of all rules, one behind the other in `words`, and their rows in `lists`.
-// kept: words, lists and seen are lent each for itself, of three lengths and by two callers: a struct would say no more of them, and each function below asks
-// for the lengths of those that it is lent. That the image is checked is asked on the way down to `Source`, which knows it from then on.
+// kept: words, lists and seen go through three functions, each for itself: one caller lends words and lists, the other rows and what is compared, and here
+// each rule takes its part of two of them, so that a struct would be made in two places and taken apart in one. That words and seen are at most 8,192 is asked
+// by the three. That the image is checked is asked on the way down to `Source`, which knows it from then on.
 fn flatten_each(
     t: &Source,
     own: &mut [u32],

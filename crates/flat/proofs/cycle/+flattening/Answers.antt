@@ -164,8 +164,8 @@ flatten_call-returns-clause-out t c =
     (sym found ∙ sym c.called_block.ensures ∙ c.in-Some.is) f.ensures.out
 
 -- A LIST ----------------------------------------------------------------------------------------------------------------------------
-pub flatten_list-returns-then-q-ge256-clause-out : goal.flatten_list-returns-then-q-ge256-clause-out
-flatten_list-returns-then-q-ge256-clause-out t c =
+pub flatten_list-returns-then-full-clause-out : goal.flatten_list-returns-then-full-clause-out
+flatten_list-returns-then-full-clause-out t c =
     let o = c.one_step.ensures in
     rw o.counted (full c.loop-i.invariant.0 c.requires.count_in_bounds c.loop-i-test.true (omega arith) _ o.written)
 
