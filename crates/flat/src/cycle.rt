@@ -10,7 +10,8 @@
 ghost use Rattle.std.specs.Prelude.{◌≡◌, ◌+◌, ◌/◌, ◌<◌, ◌≤◌, length};
 ghost use Rattle.model.specs.declared.FlowAction.TheVariants.{After, Call, Repeat, Conditional};
 ghost use Rattle.model.specs.Flat.{flatten_call};
-ghost use Rattle.flat.specs.Outcome.{Start, told, Behind, ListOut, ActOut, action_in, list_at, action_at, form_at};
+ghost use Rattle.flat.specs.Outcome.{Start, Behind, action_in, list_at, action_at, form_at};
+ghost use Rattle.flat.specs.Flattens.{FlattensList, FlattensAct, SameLent};
 
 use crate::context::repeat_fails;
 use crate::records::{called_block, read_action};
@@ -32,10 +33,8 @@ pub fn flatten_list(
 ) -> Result<Progress, Refusal>
     requires start { Start (length body.old) at.depth at.ctx p.n bodies.old.count p.left }
     requires count_in_bounds { first + count ≤ length t.now.acts.now / 8 }
-    ensures out { ListOut (list_at t.now.acts.now t.now.blocks.now at.depth first count at.ctx p.n bodies.old.count) p.n bodies.old.count p.left bodies.old.same bodies.old.seen.now list.old bodies.old.words.now list.new bodies.new.words.now (told bodies.new.count bodies.new.same result) }
-    ensures same_reference { bodies.new.words.ghost_name ≡ bodies.old.words.ghost_name }
-    ensures same_seen { bodies.new.seen.now ≡ bodies.old.seen.now }
-    ensures same_length { length bodies.new.words.now ≡ length bodies.old.words.now }
+    ensures out { FlattensList (list_at t.now.acts.now t.now.blocks.now at.depth first count at.ctx p.n bodies.old.count) p bodies.old bodies.new list.old list.new result }
+    ensures lent { SameLent bodies.old bodies.new }
 {
     let mut q = p;
     for i in first..first + count {
@@ -68,10 +67,8 @@ fn flatten_action(
 ) -> Result<Progress, Refusal>
     requires start { Start (length body.old) at.depth at.ctx p.n bodies.old.count p.left }
     requires i_in_bounds { (i < length t.now.acts.now / 8) × (p.n < 256) }
-    ensures out { ActOut (action_at t.now.acts.now t.now.blocks.now at.depth i at.ctx p.n bodies.old.count) p.n bodies.old.count p.left bodies.old.same bodies.old.seen.now list.old bodies.old.words.now list.new bodies.new.words.now (told bodies.new.count bodies.new.same result) }
-    ensures same_reference { bodies.new.words.ghost_name ≡ bodies.old.words.ghost_name }
-    ensures same_seen { bodies.new.seen.now ≡ bodies.old.seen.now }
-    ensures same_length { length bodies.new.words.now ≡ length bodies.old.words.now }
+    ensures out { FlattensAct (action_at t.now.acts.now t.now.blocks.now at.depth i at.ctx p.n bodies.old.count) p bodies.old bodies.new list.old list.new result }
+    ensures lent { SameLent bodies.old bodies.new }
 {
     match read_action(t.acts, i) {
         FlowAction::Wait { duration_ms } => Ok(one_step(list, p, Step::Wait(duration_ms))),
@@ -148,10 +145,8 @@ fn flatten_after(
 ) -> Result<Progress, Refusal>
     requires start { Start (length body.old) at.depth at.ctx p.n bodies.old.count p.left }
     requires i_in_bounds { (i < length t.now.acts.now / 8) × (p.n < 256) × Behind (length t.now.acts.now / 8) i first count }
-    ensures out { ActOut (form_at t.now.acts.now t.now.blocks.now at.depth i (After ms first count) at.ctx p.n bodies.old.count) p.n bodies.old.count p.left bodies.old.same bodies.old.seen.now list.old bodies.old.words.now list.new bodies.new.words.now (told bodies.new.count bodies.new.same result) }
-    ensures same_reference { bodies.new.words.ghost_name ≡ bodies.old.words.ghost_name }
-    ensures same_seen { bodies.new.seen.now ≡ bodies.old.seen.now }
-    ensures same_length { length bodies.new.words.now ≡ length bodies.old.words.now }
+    ensures out { FlattensAct (form_at t.now.acts.now t.now.blocks.now at.depth i (After ms first count) at.ctx p.n bodies.old.count) p bodies.old bodies.new list.old list.new result }
+    ensures lent { SameLent bodies.old bodies.new }
 {
     if at.ctx.in_after {
         return Ok(one_step(list, p, Step::Fail));
@@ -191,10 +186,8 @@ fn flatten_call(
 ) -> Result<Progress, Refusal>
     requires start { Start (length body.old) at.depth at.ctx p.n bodies.old.count p.left }
     requires i_in_bounds { (i < length t.now.acts.now / 8) × (p.n < 256) × (action_in t.now.acts.now i ≡ Call name) }
-    ensures out { ListOut (flatten_call t.now.acts.now t.now.blocks.now at.depth name at.ctx p.n bodies.old.count) p.n bodies.old.count p.left bodies.old.same bodies.old.seen.now list.old bodies.old.words.now list.new bodies.new.words.now (told bodies.new.count bodies.new.same result) }
-    ensures same_reference { bodies.new.words.ghost_name ≡ bodies.old.words.ghost_name }
-    ensures same_seen { bodies.new.seen.now ≡ bodies.old.seen.now }
-    ensures same_length { length bodies.new.words.now ≡ length bodies.old.words.now }
+    ensures out { FlattensList (flatten_call t.now.acts.now t.now.blocks.now at.depth name at.ctx p.n bodies.old.count) p bodies.old bodies.new list.old list.new result }
+    ensures lent { SameLent bodies.old bodies.new }
 {
     if at.depth == 0 {
         return Ok(one_step(list, p, Step::Fail));
@@ -235,10 +228,8 @@ fn flatten_repeat(
 ) -> Result<Progress, Refusal>
     requires start { Start (length body.old) at.depth at.ctx p.n bodies.old.count p.left }
     requires i_in_bounds { (i < length t.now.acts.now / 8) × (p.n < 256) × Behind (length t.now.acts.now / 8) i first count }
-    ensures out { ActOut (form_at t.now.acts.now t.now.blocks.now at.depth i (Repeat times first count) at.ctx p.n bodies.old.count) p.n bodies.old.count p.left bodies.old.same bodies.old.seen.now list.old bodies.old.words.now list.new bodies.new.words.now (told bodies.new.count bodies.new.same result) }
-    ensures same_reference { bodies.new.words.ghost_name ≡ bodies.old.words.ghost_name }
-    ensures same_seen { bodies.new.seen.now ≡ bodies.old.seen.now }
-    ensures same_length { length bodies.new.words.now ≡ length bodies.old.words.now }
+    ensures out { FlattensAct (form_at t.now.acts.now t.now.blocks.now at.depth i (Repeat times first count) at.ctx p.n bodies.old.count) p bodies.old bodies.new list.old list.new result }
+    ensures lent { SameLent bodies.old bodies.new }
 {
     if repeat_fails(at.ctx, times) {
         return Ok(one_step(list, p, Step::Fail));
@@ -285,10 +276,8 @@ fn flatten_branch(
 ) -> Result<Progress, Refusal>
     requires start { Start (length body.old) at.depth at.ctx p.n bodies.old.count p.left }
     requires i_in_bounds { (i < length t.now.acts.now / 8) × (p.n < 256) × Behind (length t.now.acts.now / 8) i then_first then_count × Behind (length t.now.acts.now / 8) i else_first else_count }
-    ensures out { ActOut (form_at t.now.acts.now t.now.blocks.now at.depth i (Conditional condition then_first then_count else_first else_count) at.ctx p.n bodies.old.count) p.n bodies.old.count p.left bodies.old.same bodies.old.seen.now list.old bodies.old.words.now list.new bodies.new.words.now (told bodies.new.count bodies.new.same result) }
-    ensures same_reference { bodies.new.words.ghost_name ≡ bodies.old.words.ghost_name }
-    ensures same_seen { bodies.new.seen.now ≡ bodies.old.seen.now }
-    ensures same_length { length bodies.new.words.now ≡ length bodies.old.words.now }
+    ensures out { FlattensAct (form_at t.now.acts.now t.now.blocks.now at.depth i (Conditional condition then_first then_count else_first else_count) at.ctx p.n bodies.old.count) p bodies.old bodies.new list.old list.new result }
+    ensures lent { SameLent bodies.old bodies.new }
 {
     if at.ctx.in_conditional {
         return Ok(one_step(list, p, Step::Fail));

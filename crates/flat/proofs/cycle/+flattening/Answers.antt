@@ -70,8 +70,8 @@ flatten_after-returns-clause-out t c =
     let w = rw (c.in_ok-q.was, e.0, e.1) at c.flatten_list.ensures.out in
     let x = c.append_steps in
     rw x.ensures.same_count
-    (after-there (begun c.args.t.now.checked.tables c.args.t.now.resolved c.args.t.now.calls_len c.requires.start) c.args.ms c.requires.i_in_bounds.2 c.if-at.false w refl c.flatten_list.ensures.same_length c.put_after.ensures
-    (rw c.flatten_list.ensures.same_seen at x.ensures.behinds) x.ensures.words_unchanged)
+    (after-there (begun c.args.t.now.checked.tables c.args.t.now.resolved c.args.t.now.calls_len c.requires.start) c.args.ms c.requires.i_in_bounds.2 c.if-at.false w refl c.flatten_list.ensures.lent.2 c.put_after.ensures
+    (rw c.flatten_list.ensures.lent.1 at x.ensures.behinds) x.ensures.words_unchanged)
 
 -- A CONDITIONAL ---------------------------------------------------------------------------------------------------------------------
 pub flatten_branch-returns-then-at-clause-out : goal.flatten_branch-returns-then-at-clause-out
@@ -125,8 +125,8 @@ flatten_branch-returns-clause-out t c =
     let f = c.flatten_list in
     let e = c.within_conditional-inner.ensures in
     let w = rw (c.in_ok-q.was, e.0, e.1) at f.ensures.out in
-    let v = rw (c.in_ok-r.was, e.0, e.1, f.ensures.same_seen) at c.flatten_list-2.ensures.out in
-    branch-wrote (begun c.args.t.now.checked.tables c.args.t.now.resolved c.args.t.now.calls_len c.requires.start) c.args.condition h.2 h.3 c.if-at.false w f.auto.list f.ensures.same_length c.flatten_list-2.auto.list v c.put.ensures
+    let v = rw (c.in_ok-r.was, e.0, e.1, f.ensures.lent.1) at c.flatten_list-2.ensures.out in
+    branch-wrote (begun c.args.t.now.checked.tables c.args.t.now.resolved c.args.t.now.calls_len c.requires.start) c.args.condition h.2 h.3 c.if-at.false w f.auto.list f.ensures.lent.2 c.flatten_list-2.auto.list v c.put.ensures
 
 -- A CALL ----------------------------------------------------------------------------------------------------------------------------
 pub flatten_call-returns-then-at-eq0-clause-out : goal.flatten_call-returns-then-at-eq0-clause-out
@@ -195,10 +195,10 @@ flatten_list-returns-in_err-q-clause-out t c =
 pub flatten_list-loop-i-preserved : goal.flatten_list-loop-i-preserved
 flatten_list-loop-i-preserved t c =
     let f = c.flatten_action in (
-      next c.loop-i.invariant.0 c.requires.count_in_bounds c.loop-i-test.true (omega arith) c.if-q-eq0.false f.auto.list f.ensures.same_length (rw (c.in_ok-q.was, c.loop-i.invariant.3) at f.ensures.out),
+      next c.loop-i.invariant.0 c.requires.count_in_bounds c.loop-i-test.true (omega arith) c.if-q-eq0.false f.auto.list f.ensures.lent.2 (rw (c.in_ok-q.was, c.loop-i.invariant.3) at f.ensures.out),
       f.auto.body ∙ c.loop-i.invariant.1,
-      f.ensures.same_reference ∙ c.loop-i.invariant.2,
-      f.ensures.same_seen ∙ c.loop-i.invariant.3,
+      f.ensures.lent.0 ∙ c.loop-i.invariant.2,
+      f.ensures.lent.1 ∙ c.loop-i.invariant.3,
     )
 
 pub flatten_list-returns-clause-out : goal.flatten_list-returns-clause-out

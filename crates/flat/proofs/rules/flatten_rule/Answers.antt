@@ -26,6 +26,6 @@ returns c =
     let p = c.append_steps in
     let z = rw c.in_ok-q.was at f.ensures.out in
     rw p.ensures.same_count
-    (rule-ends (sym (p.ensures.same_reference ∙ f.ensures.same_reference)) (search rules)
+    (rule-ends (sym (p.ensures.lent.0 ∙ f.ensures.lent.0)) (search rules)
     (rule-wrote _ a.left a.same a.seen.now a.own.now a.words.now f.new.list f.new.bodies.words.now _ _ _ _ (rule-short a.t.now.acts.now a.t.now.blocks.now a.t.now.rules.now a.t.now.depth a.t.now.limit a.k a.left a.t.now.checked)
-    z p.new.b.words.now p.new.b.same c.requires.in_bounds.0 f.ensures.same_length p.ensures.same_length (rw f.ensures.same_seen at p.ensures.behinds)))
+    z p.new.b.words.now p.new.b.same c.requires.in_bounds.0 f.ensures.lent.2 p.ensures.lent.2 (rw f.ensures.lent.1 at p.ensures.behinds)))
