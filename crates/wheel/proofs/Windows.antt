@@ -2,29 +2,13 @@
 use mathlib.Core.Path.{◌≡◌}
 use mathlib.Core.Bool.{Bool, true, false}
 use mathlib.Core.List.{List}
-use Prim.Native.Nat.{ℕ, ◌+◌, ◌-◌, ◌*◌, ◌≤◌, ◌<◌}
-use native.Mathlib.Omega.{arith}
-use lib.Dec.{leb}
-use borrow.Author.Tests.{le-leb, lt-leb}
+use Prim.Native.Nat.{ℕ, ◌+◌, ◌*◌}
 use Rattle.model.specs.Arith.{has_day}
 use Rattle.model.specs.Lists.{any}
 use Rattle.model.specs.Rules.{rule_indices, triggers_of}
 use Rattle.model.specs.State.{Rest, is_enabled}
-use Rattle.model.specs.Wheel.{cyclic_dist, in_window, weekdays, minute_due, is_wall_trigger, has_wall_triggers}
+use Rattle.model.specs.Wheel.{in_window, weekdays, minute_due, is_wall_trigger, has_wall_triggers}
 use Rattle.wheel.specs.Wall.{day_due, enabled_wall}
-
-pub no_distance : (from to : ℕ) → to + 10080 < from → 0 ≡ cyclic_dist from to
-unfolding cyclic_dist
-no_distance from to h = let e : to + 10080 - from ≡ 0 = omega arith in rw e
-
-module _ (base window target : ℕ) {dist : ℕ} (is : dist ≡ cyclic_dist base target) where
-  pub behind : 1 ≤ dist → leb dist window ≡ in_window base window target
-  unfolding in_window
-  behind h = rw (← is, le-leb 1 dist h)
-
-  pub at_base : dist < 1 → leb 1 dist ≡ in_window base window target
-  unfolding in_window
-  at_base h = rw (← is, lt-leb 1 dist h)
 
 module _ (base window days minute d : ℕ) {has : Bool} (is : has ≡ has_day days d) where
   pub on-day : {r : Bool} → has ≡ true → r ≡ in_window base window (d * 1440 + minute) → r ≡ day_due base window days minute d

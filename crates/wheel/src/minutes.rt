@@ -23,11 +23,7 @@ pub fn cyclic_dist(from: u64, to: u64) -> u64
     requires { to ≤ 100 * max32 }
     ensures { result ≡ cyclic_dist from to }
 {
-    let end = to + WEEK_MINUTES;
-    if end < from {
-        return 0;
-    }
-    (end - from) % WEEK_MINUTES
+    (to + WEEK_MINUTES).saturating_sub(from) % WEEK_MINUTES
 }
 
 // The minutes that a tick looks at: those behind the base, so many at most.
@@ -43,8 +39,7 @@ impl Window {
         requires { target ≤ 100 * max32 }
         ensures { result ≡ in_window self.base self.window target }
     {
-        let dist = cyclic_dist(self.base, target);
-        1 <= dist && dist <= self.window
+        (1..=self.window).contains(&cyclic_dist(self.base, target))
     }
 
     // A minute of one day is due.

@@ -18,10 +18,7 @@ use state::timers::{due_timers, without_due};
 fn is_timer(trigger: Trigger, timer: u32) -> bool
     ensures { result ≡ fires_on timer trigger }
 {
-    match trigger {
-        Trigger::TimerFires { timer: name } => name == timer,
-        _ => false,
-    }
+    matches!(trigger, Trigger::TimerFires { timer: name } if name == timer)
 }
 
 // A trigger of the rule is this timer.

@@ -73,13 +73,11 @@ fn trigger_kind(snapshot: &[u32], window: Window, trigger: Trigger, missed: bool
     ensures { Kind snapshot.now window.base window.window missed (trigger ∷ []) result }
 {
     match trigger {
-        Trigger::TimerFires { timer } => no_kind(missed),
-        Trigger::Every { period_ms } => no_kind(missed),
         Trigger::AtTime { hour, minute, days } => time_kind(window, hour, minute, days, missed),
         Trigger::AtSolar { event, offset_ms } => solar_kind(
             snapshot, window, event, offset_ms, missed,
         ),
-        Trigger::Other => no_kind(missed),
+        Trigger::TimerFires { .. } | Trigger::Every { .. } | Trigger::Other => no_kind(missed),
     }
 }
 

@@ -1,9 +1,11 @@
 -- `wheel::minutes::Window::in_window` meets its contract. Assumes nothing.
-use Rattle.wheel.proofs.Windows.{behind, at_base}
+use Rattle.model.specs.Wheel.{in_window}
+use Rattle.image.proofs.Ranges.{le-is}
 use Rattle.wheel.proofs.minutes.Window.in_window.Goals as goal
 
-pub returns-then-dist-ge1 : goal.returns-then-dist-ge1
-returns-then-dist-ge1 c = behind _ _ _ c.cyclic_dist-dist.ensures c.if-dist-ge1.true
-
-pub returns-else-dist-ge1 : goal.returns-else-dist-ge1
-returns-else-dist-ge1 c = at_base _ _ _ c.cyclic_dist-dist.ensures c.if-dist-ge1.false
+pub returns : goal.returns
+unfolding in_window
+returns c =
+    let d = c.new.ensures in
+    let n = c.cyclic_dist.result in
+    rw (← c.cyclic_dist.ensures, c.contains.ensures.value, d.start, d.end, d.exhausted, le-is 1 n, le-is n c.args.self.window)
