@@ -1,17 +1,16 @@
 -- `fields::occurrences` meets its contract. Assumes nothing.
-use mathlib.Core.Path.{◌∙◌}
-use native.Mathlib.Omega.{arith}
-use lib.Dec.{eqb}
-use lib.ListN.{get_or}
 use borrow.Author.Rules.{rules}
-use Rattle.fields.proofs.Total.{empty, adds}
-use Rattle.fields.proofs.Marks.{one_if}
+use borrow.Author.Tests.{tests}
+use Rattle.std.proofs.lemmas.Iterator.{YieldsList-from_slice, YieldsList-from_map}
+use Rattle.std.proofs.lemmas.Iterator.Consumers.{sum_from_yields_List, fits_from_yields_list}
+use Rattle.std.proofs.Common.{of_calls}
+use Rattle.fields.specs.Marks.{is_mark}
+use Rattle.fields.proofs.Marks.{marks-fit}
 use Rattle.fields.proofs.occurrences.Goals as goal
 
-pub loop-j-init : goal.loop-j-init
-loop-j-init c = (search rules, empty _, search rules)
+pub sum-requires : goal.sum-requires
+sum-requires c =
+    record { can = search of_calls; finite = search of_calls; fits = fits_from_yields_list c.map.result _ (YieldsList-from_map _ (is_mark c.args.m) (YieldsList-from_slice c.args.marks.now cc) c.map.ensures.closure (λ x r q k. search (rules, tests))) (marks-fit c.args.m c.args.marks.now c.requires) }
 
-pub loop-j-preserved : goal.loop-j-preserved
-loop-j-preserved c =
-    let one = one_if (eqb (get_or c.args.marks.now c.loop-j.j 0) c.args.m) in
-    (omega arith, adds _ _ _ _ c.loop-j.invariant.1 (c.from-sum.ensures ∙ one.0), omega (arith, c.from-sum.ensures, one.1))
+pub returns : goal.returns
+returns c = sum_from_yields_List c.map.result _ c.sum.ensures.ran (YieldsList-from_map _ (is_mark c.args.m) (YieldsList-from_slice c.args.marks.now cc) c.map.ensures.closure (λ x r q k. search (rules, tests)))

@@ -1,8 +1,6 @@
 -- `fields::Records::marks_differ` meets its contract: a record whose mark no record before it has differs from them. Assumes nothing.
 use mathlib.Core.Path.{◌≡◌}
 use mathlib.Core.Bool.{true}
-use Prim.Native.Nat.{◌≤◌}
-use lib.ListN.{length}
 use Rattle.model.specs.Lists.{every}
 use Rattle.model.specs.Field.{fresh_key}
 use Rattle.fields.proofs.Marks.{Kept}
@@ -10,4 +8,4 @@ use Rattle.fields.proofs.Records.marks_differ.Given as goal
 
 abbrev pub invariant-loop-i : goal.invariant-loop-i
 invariant-loop-i l =
-    (l.i ≤ l.n) × (length l.marks ≡ 256) × Kept l.self.words.now l.self.start l.self.width l.key l.marks l.i × (every l.i (fresh_key l.self.words.now l.self.start l.self.width l.key) ≡ true)
+    Kept l.self.words.now l.self.start l.self.width l.key l.marks.items l.i × (every l.i (fresh_key l.self.words.now l.self.start l.self.width l.key) ≡ true)

@@ -1,20 +1,20 @@
 -- `world::check::table_fits` meets its contract. Assumes nothing.
+use mathlib.Core.Path.{refl, ap, ◌∙◌}
 use native.Mathlib.Omega.{arith}
 use borrow.Author.Rules.{rules}
-use Rattle.fields.proofs.Every.{starts, goes, leaves}
+use Rattle.std.proofs.lemmas.Iterator.{serves_from_Range}
+use Rattle.model.specs.Lists.{every}
+use Rattle.model.specs.Snapshot.{row_fits}
+use Rattle.fields.proofs.Chains.{computes-every}
+use Rattle.world.specs.Tables.{number}
 use Rattle.world.proofs.Cells.{row_room, row-tested}
 use Rattle.world.proofs.check.table_fits.Goals as goal
 
-pub loop-i-init : goal.loop-i-init
-loop-i-init c = starts _
+pub returns : goal.returns
+returns c =
+    let p = row_fits c.args.s.now (number c.args.t) in
+    computes-every _ _ _ p _ _ c.all.ensures.ran refl (λ x b q k. (search rules, row-tested _ _ _ _ _ c.start-first.ensures.0 c.width.ensures.0 (search rules)))
+    ∙ ap (λ n. every n p) c.count-n.ensures
 
-pub row_fits-requires : goal.row_fits-requires
-row_fits-requires c = row_room _ _ _ _ _ c.start-first.ensures.0 c.width-step.ensures.0 c.requires (omega (arith, c.loop-i-test.true, c.count-n.ensures))
-
-pub returns-then-not-row_fits : goal.returns-then-not-row_fits
-returns-then-not-row_fits c =
-    leaves _ _ _ _ (omega (arith, c.loop-i-test.true, c.count-n.ensures)) (row-tested _ _ _ _ _ c.start-first.ensures.0 c.width-step.ensures.0 c.row_fits.ensures) (search rules)
-
-pub loop-i-preserved : goal.loop-i-preserved
-loop-i-preserved c =
-    goes _ _ _ c.loop-i.invariant (row-tested _ _ _ _ _ c.start-first.ensures.0 c.width-step.ensures.0 c.row_fits.ensures) (search rules)
+pub all-requires-clause-callable : goal.all-requires-clause-callable
+all-requires-clause-callable c = serves_from_Range (λ x q k. search rules) (λ x lo hi. (λ κs r g e n l u v f h. search rules, λ κs r g e n l u v f h. search rules, λ κs r g e n l u v f h z. row_room _ _ _ _ _ c.start-first.ensures.0 c.width.ensures.0 c.requires (omega (arith, hi, c.count-n.ensures))))
