@@ -1,4 +1,4 @@
-//! One store and the eight calls on it, each a transaction: a refused call changes nothing.
+//! One store and the eight calls on it, each a transaction: a refused call changes nothing. More than 400 lines: the store is one type, whose fields no other module sees.
 
 use dali2rust_rules_model::limits::{self, Limits};
 use dali2rust_rules_model::{InputRef, LightTarget, TriggerKind};

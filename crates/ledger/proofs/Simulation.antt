@@ -1,5 +1,6 @@
 -- The ledger follows the store. What each tick resumes is what leaves the ledger, and what is pending at the end is
 -- what stands there. The proof opens no primitive action, no condition and no trigger: it knows an action by its answer alone.
+-- More than 400 lines, as one file: the lemmas of one simulation share the parameters of its modules.
 use mathlib.Core.Path.{◌≡◌, refl, sym, ◌∙◌, ap, ap₂, subst}
 use Prim.Native.Nat.{ℕ, zero, suc, pred, ◌+◌, ◌≤◌, ◌<◌}
 use native.Mathlib.Omega.{arith}

@@ -48,7 +48,7 @@ number_of (handled os) = 0
 number_of (due t) = 0
 number_of (counted cs) = 0
 
--- its values, as words: yes 1 or no 0; the numbers of outcomes and effects; a mark and a time; the 16 counters. "a refusal returns its
+-- its values, as words: yes 1 or no 0; the numbers of outcomes and effects; a mark and a time; the 16 words of the counters. "a refusal returns its
 -- number only"
 unfoldable pub values_of : Answer → List ℕ
 values_of done = []

@@ -1,5 +1,6 @@
 // The data types that the specification and the code share, and no logic but a refusal's number. Names and fields are the Rust's; a field that is an index
 // leads into a table of the image, and a nested list is its first record and its count.
+// One file, though it has more than 400 lines: the specification names each type by `model::specs::declared`, and a module would stand in each of those names.
 
 // What a word of a record may be: document 01, refusals 13, 14 and 21.
 #![tactic(auto)]
@@ -294,7 +295,8 @@ pub enum Value {
     NoValue,
 }
 
-// kept: no Option. Each enum that an image's records name has a variant for a number that names no kind (NoAction, NoCondition, NoValue), and this is that of bounds.
+// kept: no Option, as it would be no plainer: each enum that an image's records name has a variant for a number that names no kind (NoAction,
+// NoCondition, NoValue), and this is that of bounds.
 #[derive(Clone, Copy)]
 pub enum TimeBound {
     Clock { hour: u32, minute: u32 },
@@ -416,7 +418,8 @@ pub struct NamedTimer {
     pub due: u64,
 }
 
-// An integer is kept as its 64 bits, a text as its number. kept: no Result. Both variants are values, and neither is an error.
+// An integer is kept as its 64 bits, a text as its number.
+// kept: no Result, as it would be no plainer: both variants are values, and neither is an error.
 #[derive(Clone, Copy)]
 pub enum VarValue {
     Int(u64),
@@ -538,7 +541,8 @@ impl From<Refusal> for u32 {
     }
 }
 
-// The same of an answer: 0 where nothing is refused. kept: a function and no `From`, which only the crate of `Result` or of `u32` may give.
+// The same of an answer: 0 where nothing is refused.
+// kept: a function, since a rule of the language lets only the crate of `Result` or of `u32` write `From` between them.
 pub fn refusal_number(answer: Result<(), Refusal>) -> u32
     ensures { result ≡ refusal_number answer }
 {
