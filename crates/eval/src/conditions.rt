@@ -1,8 +1,4 @@
 // The condition of a record, and the conditions of a rule.
-ghost use Rattle.std.specs.Prelude.{◌≡◌, ◌<◌};
-ghost use Rattle.model.specs.Image.{size_of};
-ghost use Rattle.model.specs.Rows.{rules};
-ghost use Rattle.image.specs.Accepted.{Accepted};
 ghost use Rattle.eval.specs.Equals.{Evaluates, ConditionAt, RuleHolds};
 
 use crate::Env;
@@ -89,7 +85,6 @@ pub fn condition_at(env: &Env, i: u32) -> Option<bool>
 // The conditions of a rule: the first that does not hold decides.
 #[tactic(auto, using(crate::proofs::Holding::starts))]
 pub fn conditions_hold(env: &Env, rule: u32) -> Option<bool>
-    requires { Accepted env.now.image.now × (rule < size_of env.now.image.now rules) }
     ensures { RuleHolds env.now rule result }
 {
     let n = env.image.condition_count(rule);
