@@ -1,7 +1,6 @@
 -- Laws that belong to no one function.
 pub mod Follows
 pub mod Cases
-pub mod PoolWords
 pub mod Stepped
 pub mod Bounds
 pub mod Going

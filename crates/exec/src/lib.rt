@@ -16,7 +16,6 @@ mod timers;
 mod variables;
 
 ghost use Rattle.std.specs.Prelude.{◌≡◌};
-ghost use Rattle.image.specs.Sized.{Sized};
 ghost use Rattle.state.specs.Meaning.{meaning};
 ghost use Rattle.exec.specs.Results.{ValueAt};
 
@@ -42,8 +41,6 @@ pub struct Env<'a> {
     pub snapshot: &'a [u32],
     pub image: &'a Image<'a>,
     pub job: Job,
-
-    ghost sized: { Sized image.now },
 }
 
 impl Env<'_> {

@@ -82,7 +82,6 @@ fn cycle_place(v: &State, index: u32, count: u32) -> u32
     state::rules::cycle_pos(v, index as usize).unwrap_or(0) % count
 }
 
-// The sum saturates: past the end of the image there is no word, however far.
 #[tactic(auto, unfolding(model::specs::Actions::run_prim, model::specs::Actions::prim_cycle))]
 pub fn prim_cycle(env: &Env, v: &mut State, first: u32, count: u32) -> PrimResult
     ensures { (snapshot : List ℕ) → PerformsIn snapshot env.now.image.now env.now.job v.old (Cycle first count) (action_done v.new result) }
@@ -91,8 +90,7 @@ pub fn prim_cycle(env: &Env, v: &mut State, first: u32, count: u32) -> PrimResul
         return fails(v);
     }
     let at = cycle_place(v, env.job.index, count);
-    let place = first.saturating_add(at);
-    let scene = env.image.word_at(Table::Pool, place, 0);
+    let scene = env.image.word_from(Table::Pool, first, at, 0);
     if env.job.dry {
         return emits(EffectKind::SceneRecall, scene, 0, 0, env.job.hold);
     }
