@@ -1,3 +1,2 @@
 -- What the contracts of `every` cite.
 pub mod Joined
-pub mod Facts

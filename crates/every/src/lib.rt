@@ -1,18 +1,15 @@
 // The Every slots of a set: `rebuild_every` of wheel.rs.
 #![tactic(auto)]
 
-ghost use Rattle.std.specs.Prelude.{◌≡◌, true, [], ◌∷◌, ◌<◌};
+ghost use Rattle.std.specs.Prelude.{◌≡◌, true, [], ◌∷◌};
 ghost use Rattle.model.specs.Parts.{slot_row};
-ghost use Rattle.model.specs.Rows.{rules};
-ghost use Rattle.model.specs.Image.{size_of, few_enough};
+ghost use Rattle.model.specs.Image.{few_enough};
 ghost use Rattle.model.specs.Rules.{name_of, triggers_of};
 ghost use Rattle.model.specs.Slots.{slots_from, rebuild_every};
 ghost use Rattle.model.specs.State.{with_rest, with_every};
 ghost use Rattle.model.specs.Store.{same_slots};
 ghost use Rattle.model.specs.declared.Trigger.TheVariants.{Every};
-ghost use Rattle.image.specs.Accepted.{Accepted};
 ghost use Rattle.state.specs.Meaning.{Means, Holds, meaning, base};
-ghost use Rattle.every.specs.Facts.{accepted-prop};
 ghost use Rattle.every.specs.Joined.{HasRoom, Joined};
 
 pub mod kept;
@@ -23,12 +20,11 @@ use model::{EverySlot, Trigger};
 use state::State;
 use state::place::{PENDING, SLOTS};
 
-// The words of an image that load accepts, of at most as many slots as there is room for.
+// An image of at most as many slots as there is room for.
 #[derive(Clone, Copy)]
 struct Loadable<'a> {
     image: &'a Image<'a>,
 
-    ghost accepted: { Accepted image.now } by { accepted-prop _ },
     ghost few: { few_enough image.now ≡ true },
 }
 
@@ -67,8 +63,7 @@ fn join_slot(old: &Slots, time: u64, rule: u32, place: u32, trigger: Trigger, t:
 impl Loadable<'_> {
     // The slots of rule i join the table t.
     fn join_rule(&self, i: u32, old: &Slots, time: u64, t: &mut [u32])
-        requires in_image { i < size_of self.now.image.now rules }
-        requires has_room { HasRoom t.old (slots_from old.now time (name_of self.now.image.now i) 0 (triggers_of self.now.image.now i)) }
+        requires { HasRoom t.old (slots_from old.now time (name_of self.now.image.now i) 0 (triggers_of self.now.image.now i)) }
         ensures { Joined t.old (slots_from old.now time (name_of self.now.image.now i) 0 (triggers_of self.now.image.now i)) t.new }
     {
         let rule = self.image.name_of(i);
@@ -93,7 +88,7 @@ impl Loadable<'_> {
 
 // The slots of a state become those of an image's rules: one of the old slots keeps its due time.
 pub fn rebuild_every(image: &Image, old: &Slots, time: u64, v: &mut State)
-    requires { Accepted image.now × (few_enough image.now ≡ true) }
+    requires { few_enough image.now ≡ true }
     ensures { Means v.new (base v.old) (with_rest (with_every (rebuild_every image.now old.now time) (meaning v.old).rest) (meaning v.old)) }
 {
     state::slots::drop_every(v);
@@ -102,7 +97,7 @@ pub fn rebuild_every(image: &Image, old: &Slots, time: u64, v: &mut State)
 
 // Whether these slots are those of an image's rules, by name and then by place, whatever their due times.
 pub fn same_slots(slots: &Slots, image: &Image) -> bool
-    requires { Accepted image.now × (few_enough image.now ≡ true) }
+    requires { few_enough image.now ≡ true }
     ensures { result ≡ same_slots slots.now (rebuild_every image.now [] 0) }
 {
     let mut rebuilt = [0u32; PENDING - SLOTS];

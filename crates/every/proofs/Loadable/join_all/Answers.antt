@@ -5,7 +5,7 @@ use Rattle.model.specs.Rows.{rules}
 use Rattle.model.specs.Rules.{name_order}
 use Rattle.model.specs.Slots.{rebuild_every}
 use Rattle.image.proofs.Accepted.{rules-few}
-use Rattle.image.proofs.Names.{name-order-length, order_same, order-at}
+use Rattle.image.proofs.Names.{name-order-length, order_same}
 use Rattle.image.proofs.Slots.{every-slots-few}
 use Rattle.every.proofs.Slots.{starts, room, joins-on, joined-all, rule-left, no-rule-left}
 use Rattle.every.proofs.Loadable.join_all.Goals as goal
@@ -20,13 +20,8 @@ loop-p-init c = starts _ _ c.requires
 pub bounds-order-p : goal.bounds-order-p
 bounds-order-p c = omega (arith, rules-few _ c.args.self.now.few)
 
-pub join_rule-requires-clause-in_image : goal.join_rule-requires-clause-in_image
-join_rule-requires-clause-in_image c =
-    let img = c.args.self.now.image.now in
-    order-at img c.name_order-order.result c.name_order-order.ensures c.loop-p.p (omega arith)
-
-pub join_rule-requires-clause-has_room : goal.join_rule-requires-clause-has_room
-join_rule-requires-clause-has_room c =
+pub join_rule-requires : goal.join_rule-requires
+join_rule-requires c =
     let l = c.loop-p in
     let img = c.args.self.now.image.now in
     let order = c.name_order-order in

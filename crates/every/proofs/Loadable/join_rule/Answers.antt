@@ -4,7 +4,7 @@ use Rattle.every.proofs.Slots.{begins, room, joins-on, joined-all, trigger-left,
 use Rattle.every.proofs.Loadable.join_rule.Goals as goal
 
 pub loop-p-init : goal.loop-p-init
-loop-p-init c = let b = begins _ _ (rw (← c.name_of-rule.ensures) at c.requires.has_room) in (b.1, b.0)
+loop-p-init c = let b = begins _ _ (rw (← c.name_of-rule.ensures) at c.requires) in (b.1, b.0)
 
 pub join_slot-requires : goal.join_slot-requires
 join_slot-requires c =
