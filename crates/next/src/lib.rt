@@ -5,14 +5,10 @@
 ghost use Rattle.std.specs.Prelude.{◌≡◌, map, ◌+◌, ◌*◌, ◌%◌, ◌<◌, ◌≤◌, eqb};
 ghost use Rattle.words.specs.Saturating.{max32};
 ghost use Rattle.model.specs.Arith.{has_day};
-ghost use Rattle.model.specs.Image.{size_of};
-ghost use Rattle.model.specs.Rows.{rules};
 ghost use Rattle.model.specs.World.{is_one};
 ghost use Rattle.model.specs.declared.Trigger.TheVariants as trigger;
-ghost use Rattle.image.specs.Accepted.{Accepted};
 ghost use Rattle.next.specs.NextStart.{on_days, due_in, starts_in, first_from, next_from};
 ghost use Rattle.next.specs.Distance.{within, day_ahead, start_of, best_of};
-ghost use Rattle.next.specs.Facts.{accepted-prop};
 
 use eval::time::{has_day, solar_minute};
 use image::layout::{Image, Table};
@@ -34,7 +30,7 @@ struct Best {
     name: u32,
 }
 
-// What is asked: the words of an accepted image and of its rules' bits (1 is enabled), the sun's times, and the minute of the week it is.
+// What is asked: the words of an image and of its rules' bits (1 is enabled), the sun's times, and the minute of the week it is.
 #[derive(Clone, Copy)]
 struct Asked<'a> {
     image: &'a Image<'a>,
@@ -42,7 +38,6 @@ struct Asked<'a> {
     sun: Option<model::SunTimes>,
     t: u32,
 
-    ghost accepted: { Accepted image.now } by { accepted-prop _ },
     ghost in_week: { t < 10080 },
 }
 
@@ -104,7 +99,6 @@ impl Asked<'_> {
 
     // To the first start of rule i, which has none while its bit is not set.
     fn rule_minutes(&self, i: u32) -> Option<u32>
-        requires { i < size_of self.now.image.now rules }
         ensures { result ≡ within (first_from (starts_in self.now.image.now (map is_one self.now.bits.now) self.now.sun self.now.t i) 1 10080) }
     {
         if fields::word(self.bits, i as usize) != 1 {
@@ -117,7 +111,6 @@ impl Asked<'_> {
 
     // The first start of rule i, with its name.
     fn rule_start(&self, i: u32) -> Option<Best>
-        requires { i < size_of self.now.image.now rules }
         ensures { result ≡ start_of self.now.image.now (map is_one self.now.bits.now) self.now.sun self.now.t i }
     {
         let minutes = self.rule_minutes(i)?;
@@ -135,9 +128,9 @@ impl Asked<'_> {
     }
 }
 
-// From minute t of the week on, of an accepted image and the words of its rules' bits: 1 is enabled.
+// From minute t of the week on, of an image and the words of its rules' bits: 1 is enabled.
 pub fn next_from(image: &Image, bits: &[u32], sun: Option<model::SunTimes>, t: u32) -> NextStart
-    requires { Accepted image.now × (t < 10080) }
+    requires { t < 10080 }
     ensures { result ≡ next_from image.now (map is_one bits.now) sun t }
 {
     let asked = Asked {
