@@ -66,8 +66,6 @@ impl Tally {
 // kept: one pass counts three kinds. `filter` and `count` would read every trigger three times, and the closure of a `fold` would have to count on from any
 // tally, where only those of this loop have room for one more.
 fn starts(image: &Image, i: u32) -> u64
-    requires accepted { Accepted image.now }
-    requires i_bound { i < size_of image.now rules }
     ensures { (result ≡ starts_of image.now i) × (result ≤ 4294967312) }
 {
     let n = image.trigger_count(i);
