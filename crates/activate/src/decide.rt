@@ -1,8 +1,4 @@
 // Whether a rule starts now: the part of `activate` in front of `execute`.
-ghost use Rattle.std.specs.Prelude.{◌≡◌, ◌<◌};
-ghost use Rattle.model.specs.Image.{size_of};
-ghost use Rattle.model.specs.Rows.{rules};
-ghost use Rattle.image.specs.Accepted.{Accepted};
 ghost use Rattle.state.specs.Meaning.{meaning};
 ghost use Rattle.activate.specs.Decisions.{InCooldownIs, Decides};
 
@@ -34,7 +30,6 @@ fn in_cooldown(env: &eval::Env, i: u32) -> bool
 // Only an automatic activation waits for the cooldown.
 #[tactic(auto, unfolding(model::specs::Activate::decide))]
 pub fn decide(env: &Env, v: &State, mode: Mode) -> Decision
-    requires { Accepted env.now.image.now × (env.now.job.index < size_of env.now.image.now rules) }
     ensures { Decides env.now.snapshot.now env.now.image.now env.now.job.index mode (meaning v.now).rest result }
 {
     let i = env.job.index;

@@ -88,7 +88,7 @@ pub fn activate(
     kind: TriggerKind,
     mode: Mode,
 ) -> Handled
-    requires accepted { Accepted image.now × (i < size_of image.now rules) }
+    requires accepted { Accepted image.now }
     requires room { Room 1 (carried v.old x) }
     ensures { Activates snapshot.now image.now rule.now.part.now rule.now.own i (trigger_number kind) mode (carried v.old x) outcomes.old effects.old (carried v.new result) outcomes.new effects.new }
 {
@@ -128,7 +128,7 @@ pub fn resume(
     i: u32,
     c: Pending,
 ) -> Handled
-    requires accepted { Accepted image.now × (rule_named image.now c.rule ≡ Some i) }
+    requires named { rule_named image.now c.rule ≡ Some i }
     requires budget_bound { (c.budget ≤ 256) × Room 1 (carried v.old x) }
     ensures { Resumes snapshot.now image.now rule.now.part.now rule.now.own i c (carried v.old x) outcomes.old effects.old (carried v.new result) outcomes.new effects.new }
 {

@@ -10,4 +10,4 @@ run_wet-requires c =
 
 pub returns : goal.returns
 returns c =
-    resumes c.args.snapshot.now c.args.image.now c.args.rule.now.part.now c.args.rule.now.own c.args.i c.args.c (carried c.args.v.now c.args.x) _ _ _ _ _ _ c.job_of-job.result c.job_of-job.ensures c.requires.accepted.1 c.bump.ensures c.run_wet.ensures
+    resumes c.args.snapshot.now c.args.image.now c.args.rule.now.part.now c.args.rule.now.own c.args.i c.args.c (carried c.args.v.now c.args.x) _ _ _ _ _ _ c.job_of-job.result c.job_of-job.ensures c.requires.named c.bump.ensures c.run_wet.ensures
