@@ -8,9 +8,7 @@ mod outcomes;
 
 ghost use Rattle.std.specs.Prelude.{◌≡◌, ◌≤◌, ◌<◌};
 ghost use Rattle.std.specs.Prelude.{Some};
-ghost use Rattle.model.specs.Image.{size_of};
 ghost use Rattle.model.specs.Kinds.{trigger_number};
-ghost use Rattle.model.specs.Rows.{rules};
 ghost use Rattle.model.specs.Rules.{rule_named, hold_hcl_of};
 ghost use Rattle.image.specs.Accepted.{Accepted};
 ghost use Rattle.activate.specs.Carried.{carried};

@@ -4,7 +4,6 @@ use Rattle.std.specs.Prelude.{Option, None, Some}
 use Rattle.model.specs.State.{RuleSet, Store}
 use Rattle.model.specs.Steps.{FlatStep}
 use Rattle.model.specs.Wheel.{least, wall_poll}
-use Rattle.image.specs.Accepted.{Accepted}
 use Rattle.state.specs.Cuts.{rows_in, wide_of}
 use Rattle.state.specs.Meaning.{meaning}
 
@@ -19,10 +18,6 @@ set_if (Some image) flat = Some (record { image = image; flat = flat })
 
 abbrev pub store_of : Option (List ℕ) → List (List FlatStep) → List ℕ → ℕ → Store
 store_of image flat v last = record { now = last; loaded = set_if image flat; vol = meaning v }
-
-abbrev pub AcceptedIf : Option (List ℕ) → Type 0
-AcceptedIf None = Unit
-AcceptedIf (Some image) = Accepted image
 
 abbrev pub Poll : Option (List ℕ) → List ℕ → ℕ → Option ℕ → Type 0
 Poll image v last r =

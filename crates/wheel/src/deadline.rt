@@ -6,7 +6,7 @@ ghost use Rattle.std.specs.Option.{option_to_list};
 ghost use Rattle.model.specs.Steps.{FlatStep};
 ghost use Rattle.model.specs.Wheel.{least, next_deadline};
 ghost use Rattle.state.specs.Cuts.{Fits};
-ghost use Rattle.wheel.specs.Deadline.{row_times, AcceptedIf, store_of, Poll};
+ghost use Rattle.wheel.specs.Deadline.{row_times, store_of, Poll};
 
 use crate::wall::has_wall_triggers;
 use image::layout::Image;
@@ -33,7 +33,6 @@ fn earliest_of(times: &[Option<u64>]) -> Option<u64>
 
 // A wall schedule is looked at again a second later.
 fn wall_poll(image: Option<Image>, v: &State, last: u64) -> Option<u64>
-    requires { AcceptedIf image }
     ensures { Poll image.entry v.now last result }
 {
     if has_wall_triggers(&image?, v) {
@@ -44,7 +43,6 @@ fn wall_poll(image: Option<Image>, v: &State, last: u64) -> Option<u64>
 
 // When a store that was last called at `last` next has something to do. `image` is the loaded one, where there is one.
 pub fn next_deadline(image: Option<Image>, v: &State, last: u64) -> Option<u64>
-    requires { AcceptedIf image }
     ensures { (flat : List (List FlatStep)) → result ≡ next_deadline (store_of image.entry flat v.now last) }
 {
     let poll = wall_poll(image, v, last);

@@ -4,7 +4,6 @@
 ghost use Rattle.std.specs.Prelude.{◌<◌};
 ghost use Rattle.model.specs.Image.{size_of};
 ghost use Rattle.model.specs.Rows.{rules};
-ghost use Rattle.image.specs.Accepted.{Accepted};
 ghost use Rattle.wheel.specs.Tick.{Holds, Ordered};
 
 mod continuations;
@@ -31,7 +30,6 @@ pub struct Env<'a> {
     pub store: &'a [u32],
     pub order: &'a [u32],
 
-    ghost accepted: { Accepted image.now },
     ghost holds: { Holds store.now image.now },
     ghost ordered: { Ordered image.now order.now },
 }

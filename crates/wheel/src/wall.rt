@@ -1,11 +1,8 @@
 // Wall schedules: which trigger of a rule is due, and whether a rule has one.
-ghost use Rattle.std.specs.Prelude.{◌≡◌, [], ◌∷◌, ◌<◌};
-ghost use Rattle.model.specs.Image.{size_of};
-ghost use Rattle.model.specs.Rows.{rules};
+ghost use Rattle.std.specs.Prelude.{◌≡◌, [], ◌∷◌};
 ghost use Rattle.model.specs.Rules.{triggers_of};
 ghost use Rattle.model.specs.Wheel.{is_wall_trigger, has_wall_triggers};
 ghost use Rattle.model.specs.declared.Trigger.TheVariants as trigger;
-ghost use Rattle.image.specs.Accepted.{Accepted};
 ghost use Rattle.state.specs.Meaning.{meaning};
 ghost use Rattle.wheel.specs.Wall.{kind_if, no_kind, Kind, KindAnywhere, enabled_wall};
 
@@ -90,7 +87,6 @@ pub fn due_wall_kind(
     i: u32,
     missed: bool,
 ) -> WallKind
-    requires { Accepted image.now × (i < size_of image.now rules) }
     ensures { Kind snapshot.now window.base window.window missed (triggers_of image.now i) result }
 {
     let mut unsynced = missed;
@@ -112,9 +108,7 @@ fn is_wall_trigger(trigger: Trigger) -> bool
 }
 
 // Rule i is enabled and has a wall trigger.
-// kept: this, `has_wall_triggers` and `due_wall_kind` ask themselves that the image is accepted: the other two are public and take any such image.
 fn enabled_wall(image: &Image, v: &State, i: u32) -> bool
-    requires { Accepted image.now × (i < size_of image.now rules) }
     ensures { result ≡ enabled_wall image.now (meaning v.now).rest i }
 {
     is_enabled(v, i as usize)
@@ -123,7 +117,6 @@ fn enabled_wall(image: &Image, v: &State, i: u32) -> bool
 
 // An enabled rule has a wall trigger.
 pub fn has_wall_triggers(image: &Image, v: &State) -> bool
-    requires { Accepted image.now }
     ensures { result ≡ has_wall_triggers image.now (meaning v.now).rest }
 {
     (0..image.size_of(Table::Rules)).any(|i| enabled_wall(image, v, i))

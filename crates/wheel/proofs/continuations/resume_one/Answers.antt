@@ -17,7 +17,7 @@ resume-requires c =
     let h = c.args.env.now.holds in
     let n = sym c.rule_named.ensures ∙ c.in-Some.is in
     record {
-      accepted = (c.args.env.now.accepted, n);
+      named = n;
       budget_bound = (small-budget _ _ c.requires.fits h.accepted, c.requires.room);
     }
 

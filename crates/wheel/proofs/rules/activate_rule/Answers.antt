@@ -1,6 +1,7 @@
 -- `wheel::rules::activate_rule` meets its contract. Assumes nothing.
 use Rattle.model.specs.Kinds.{trigger_number}
 use Rattle.activate.specs.Carried.{carried}
+use Rattle.store.proofs.SetRules.{image-accepted}
 use Rattle.wheel.proofs.Fires.{activated}
 use Rattle.wheel.proofs.RuleParts.{part_says, keeps}
 use Rattle.wheel.proofs.rules.activate_rule.Goals as goal
@@ -9,7 +10,7 @@ pub rule_flat-steps-requires : goal.rule_flat-steps-requires
 rule_flat-steps-requires c = let h = c.args.rule.now.env.now.holds in keeps _ _ _ h.kept h.accepted _ c.args.rule.now.inside
 
 pub activate-requires : goal.activate-requires
-activate-requires c = record { accepted = (c.args.rule.now.env.now.accepted, c.args.rule.now.inside); room = c.requires }
+activate-requires c = record { accepted = image-accepted _ c.args.rule.now.env.now.holds.accepted; room = c.requires }
 
 pub returns : goal.returns
 returns c =

@@ -2,7 +2,6 @@
 use mathlib.Core.Path.{ap, ◌∙◌}
 use Prim.Native.Nat.{ℕ}
 use lib.ListN.{take}
-use Rattle.store.proofs.SetRules.{image-accepted}
 use Rattle.wheel.specs.Tick.{tick_env}
 use Rattle.wheel.proofs.Ticks.{whole-tick}
 use Rattle.wheel.proofs.tick.service_tick.Goals as goal
@@ -10,7 +9,6 @@ use Rattle.wheel.proofs.tick.service_tick.Goals as goal
 pub invariant_of-env : goal.invariant_of-env
 invariant_of-env c =
     record {
-      accepted = image-accepted _ c.requires.holds.accepted;
       holds = c.requires.holds;
       ordered = ap (λ (n : ℕ). take n c.name_order-all.result) c.size_of.ensures ∙ c.name_order-all.ensures;
     }
