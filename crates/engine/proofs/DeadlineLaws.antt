@@ -1,10 +1,9 @@
 -- The next deadline of a store that reads. Assumes nothing.
 use mathlib.Core.Path.{◌≡◌, refl, sym, ap, ◌∙◌}
 use mathlib.Core.List.{List, []}
-use Rattle.std.specs.Prelude.{⊤, Option, None, Some, Ok, MatchOption, option_map}
+use Rattle.std.specs.Prelude.{Option, None, Some, Ok, option_map}
 use Rattle.std.proofs.lemmas.Option.{none-some, same_Some}
 use Prim.Native.Nat.{ℕ}
-use Rattle.model.specs.Load.{image_refusal}
 use Rattle.model.specs.State.{RuleSet, Store}
 use Rattle.model.specs.Steps.{FlatStep}
 use Rattle.model.specs.Store.{write}
@@ -13,17 +12,12 @@ use Rattle.model.specs.Calls.{deadline, due, call}
 use Rattle.model.specs.Answers as answers
 use Rattle.model.specs.OnWords.{call_on}
 use Rattle.state.specs.Meaning.{AllNumbered}
-use Rattle.wheel.specs.Deadline.{set_if, store_of, AcceptedIf}
+use Rattle.wheel.specs.Deadline.{set_if, store_of}
 use Rattle.engine.specs.Seen.{seen}
 use Rattle.engine.specs.Answers.{due_values, shown}
 use Rattle.engine.proofs.Seeing.{Same, no-outcomes, no-effects, OnStore, call-seen}
 use Rattle.engine.proofs.WordLaws.{Said}
-use Rattle.engine.proofs.SetLaws.{loadable}
 use Rattle.engine.proofs.LoadedLaws.{none-given}
-
-pub accepted-if : (o : Option (List ℕ)) → MatchOption o ⊤ (λ img. image_refusal img ≡ 0) → AcceptedIf o
-accepted-if None a = tt
-accepted-if (Some img) a = (loadable img a).accepted
 
 -- the loaded set, by the words of its image
 record SetIs (o : Option (List ℕ)) (set : Option RuleSet) : Type 0 where

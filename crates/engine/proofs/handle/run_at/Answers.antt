@@ -37,8 +37,7 @@ activate-requires-clause-accepted c =
     let q = c.requires.loaded in
     let n = set-of s.loaded c.args.rule c.args.i q in
     let l = image-of _ _ s c.words-words.ensures c.image_in.ensures n.0 n.1 in
-    let b = rule-inside _ _ s l c.args.rule c.args.i q in
-    rw c.new-image.ensures ((loadable _ l.passes).accepted, b)
+    rw c.new-image.ensures (loadable _ l.passes).accepted
 
 pub returns : goal.returns
 returns c set l =

@@ -15,8 +15,7 @@ new-old-requires c =
 
 pub rebuild_every-requires : goal.rebuild_every-requires
 rebuild_every-requires c =
-    let l = loadable c.args.image.now c.requires in
-    (l.accepted, l.few_enough)
+    (loadable c.args.image.now c.requires).few_enough
 
 pub put_rules-requires : goal.put_rules-requires
 put_rules-requires c = (loadable c.args.image.now c.requires).few

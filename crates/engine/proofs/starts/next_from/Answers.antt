@@ -1,13 +1,9 @@
 -- `engine::starts::next_from` meets its contract. Assumes nothing.
-use Rattle.engine.proofs.SetLaws.{loadable}
 use Rattle.engine.proofs.StartLaws.{nothing-starts, starts_from}
 use Rattle.engine.proofs.starts.next_from.Goals as goal
 
 pub returns-in-None : goal.returns-in-None
 returns-in-None c = nothing-starts c.args.store.now _ _ c.in-None.ensures.value
-
-pub next_from-requires : goal.next_from-requires
-next_from-requires c = ((loadable _ c.in-Some.ensures.accepted).accepted, c.requires)
 
 pub returns-in-Some : goal.returns-in-Some
 returns-in-Some c = starts_from c.args.store.now _ _ _ _ _ c.in-Some.ensures.value c.bits_in.ensures c.next_from.ensures

@@ -1,7 +1,7 @@
 -- `store::hold::Loaded::slots_hold` meets its contract. Assumes nothing.
 use native.Mathlib.Omega.{arith}
 use Rattle.store.proofs.Parts.{counted}
-use Rattle.store.proofs.SetRules.{image-accepted, image-few, slots-are}
+use Rattle.store.proofs.SetRules.{image-few, slots-are}
 use Rattle.store.proofs.hold.Loaded.slots_hold.Goals as goal
 
 pub new-slots-requires : goal.new-slots-requires
