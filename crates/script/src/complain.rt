@@ -19,6 +19,9 @@ pub enum Wrong {
     LineTooLong,
 }
 
+// The largest word.
+const WORD_MOST: u64 = u32::MAX as u64;
+
 // What is wrong with a number over the largest.
 #[derive(Clone, Copy)]
 struct Over(u64);
@@ -29,7 +32,7 @@ impl fmt::Display for Over {
     fn fmt<W: fmt::Write>(&self, f: &mut fmt::Formatter<W>) -> fmt::Result {
         match self.0 {
             u64::MAX => write!(f, " does not fit into 64 bits"),
-            4294967295 => write!(f, " does not fit into 32 bits"),
+            WORD_MOST => write!(f, " does not fit into 32 bits"),
             1 => write!(f, " is neither 0 nor 1"),
             most => write!(f, " is over {most}"),
         }
@@ -49,7 +52,7 @@ impl fmt::Display for Wrong {
                 write!(f, "{call}: word {word} is no decimal number")
             }
             Wrong::WordOutOfRange { call, word } => {
-                write!(f, "{call}: word {word}{}", Over(4294967295))
+                write!(f, "{call}: word {word}{}", Over(WORD_MOST))
             }
             Wrong::TooManyWords { call } => write!(f, "{call}: a word too many"),
             Wrong::ListTooLong { call, room } => write!(f, "{call}: more than {room} words"),
