@@ -67,6 +67,7 @@ fn row(out: &mut Output, name: &str, x: Columns, ws: &[u32], i: usize)
 }
 
 // So many records of a lent store, from number `first` on.
+// kept: places and no chunks of the store, since a record past its end is printed too, as zeros.
 fn rows(out: &mut Output, name: &str, x: Columns, ws: &[u32], first: u32, count: u32)
     requires { (x.width ≤ 64) × (x.from ≤ 64) × (x.shown ≤ 64) }
     ensures { Gathers out.old (row_lines name.now x ws.now first count) out.new }
@@ -149,6 +150,7 @@ pub fn handled(
     outcomes_of(out, count, outcomes, effects)
 }
 
+// kept: the mark is a number, as the C interface writes it.
 pub fn deadline(out: &mut Output, answer: &[u32; 16])
     ensures { Gathers out.old (deadline_of answer.now) out.new }
 {
@@ -186,6 +188,7 @@ pub fn triggers(out: &mut Output, answer: &[u32; 16], triggers: &[u32])
 }
 
 // The next start: none, unknown, or minutes and rule, by the mark.
+// kept: the mark is a number, as the C interface writes it.
 #[tactic(auto, using(crate::proofs::Gathering::gathers_by), unfolding(crate::specs::Printed::words_at))]
 pub fn start(out: &mut Output, answer: &[u32; 16])
     ensures { Gathers out.old (start_lines answer.now []) out.new }

@@ -46,6 +46,7 @@ pub struct Said<'a> {
 #[derive(Clone, Copy, PartialEq, Eq)]
 struct Refused(u32);
 
+// kept: 0 is a number here, as it is at the C interface, whose refusals the player prints by their numbers.
 fn accepted(number: u32) -> Result<(), Refused>
     ensures { MatchResult result (λ _. number ≡ 0) (λ e. (number ≡ e.0) × (number ≢ 0)) }
 {
@@ -116,6 +117,8 @@ fn counters(size: usize, store: &[u32], out: &mut Output) -> Result<(), Refused>
     Ok(())
 }
 
+// kept: this and `run` are two calls of the C interface, with two and four arguments of their own; one function over a closure would need the contracts
+// of both as `requires`, and is longer than the two.
 fn tick(
     most: Settings,
     snapshot: &[u32],

@@ -116,7 +116,7 @@ impl Player {
     }
 
     #[tactic(auto, using(crate::proofs::Standing::reads_none, crate::proofs::Standing::reads_then))]
-    // A proved loop has to end, and nothing says that the input does. So the loop has a number of turns that no run uses up.
+    // kept: a `for` and no `loop`, since a proved loop has to end, and nothing says that the input does: it has a number of turns that no run uses up.
     pub fn play(&mut self, mut from: Stdin)
         ensures { Reads self.old self.new }
     {
