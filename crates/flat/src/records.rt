@@ -66,12 +66,10 @@ fn find_block(blocks: &[u32], name: u32) -> u16
     ensures result_value { block_at blocks.now result ≡ block_named [] blocks.now name }
     ensures upper_bound { result ≤ length blocks.now / 8 }
 {
-    for i in 0..blocks.len() / 8 {
-        if read_record(blocks, i).kind == name {
-            return i as u16 + 1;
-        }
+    match (0..blocks.len() / 8).position(|i| read_record(blocks, i).kind == name) {
+        Some(i) => i as u16 + 1,
+        None => 0,
     }
-    0
 }
 
 // Which block the action in record i calls.

@@ -1,58 +1,99 @@
--- `flat::records::find_block` meets its contract: what is left to search is what the whole search finds. Assumes nothing.
-use mathlib.Core.Path.{◌≡◌, ◌∙◌}
-use mathlib.Core.List.{List, []}
-use Prim.Native.Nat.{ℕ, suc, ◌+◌, ◌*◌, ◌-◌, ◌/◌, ◌≤◌, ◌<◌}
+-- `flat::records::find_block` meets its contract: the first place that passes is that of the first record of the name. Assumes nothing.
+use mathlib.Core.Path.{◌≡◌, refl, sym, ◌∙◌}
+use mathlib.Core.Bool.{Bool, true, false, cond}
+use mathlib.Core.List.{List, [], map}
+use Prim.Native.Nat.{ℕ, zero, suc, ◌+◌, ◌/◌}
 use native.Mathlib.Numerals.{add-one}
-use native.Mathlib.Nat.{sub-zero}
 use native.Mathlib.Omega.{arith}
-use borrow.Author.Tests.{eq-eqb, ne_eqb}
-use lib.ListN.{length, get_or}
+use native.Mathlib.Decide.{dec_le}
+use borrow.Author.Tests.{lt-ltb, le-ltb}
+use borrow.Author.Rules.{rules}
+use lib.Dec.{eqb, ltb}
+use lib.ListN.{length}
+use Rattle.std.specs.Prelude.{Option, None, Some}
+use Rattle.std.specs.List.{range_with_len, position, position_or_len}
+use Rattle.std.proofs.lemmas.Iterator.{YieldsList-from_range}
+use Rattle.std.proofs.lemmas.Iterator.Search.{position_from_yields_List}
+use Rattle.std.proofs.lemmas.List.FromFn.{length-range_with_len}
+use Rattle.std.proofs.lemmas.Option.{none-some, same_Some}
 use Rattle.model.specs.declared.Record.{Record}
+use Rattle.model.specs.Lists.{find, up_from}
 use Rattle.model.specs.Rules.{record_in}
 use Rattle.model.specs.Flat.{block_named}
 use Rattle.flat.specs.Outcome.{block_at}
-use Rattle.flat.proofs.records.find_block.Invariants.{searched}
 use Rattle.flat.proofs.records.find_block.Goals as goal
 
-module _ (t : List ℕ) (n i name : ℕ) (h : i < n) (r : Record) (e : r ≡ record_in t i) where
-  more : n - i ≡ suc (n - (i + 1))
-  more = omega arith
+module _ (t : List ℕ) (name : ℕ) where
+  abbrev named : ℕ → Bool
+  named i = eqb (record_in t i).kind name
 
-  here : r.kind ≡ name → block_at t (i + 1) ≡ searched t name i (n - i)
-  unfolding block_at
-  here k =
-      let g : get_or t (i * 8) 0 ≡ name = rw e at k in
-      rw (add-one i, more, eq-eqb (get_or t (i * 8) 0) name g)
+  abbrev first : ℕ → ℕ → ℕ
+  first i n = position_or_len named (range_with_len i n)
 
-  past : (r.kind ≡ name → ⊥) → searched t name (i + 1) (n - (i + 1)) ≡ searched t name i (n - i)
-  past k =
-      let g : get_or t (i * 8) 0 ≡ name → ⊥ = rw e at k in
-      rw (more, ne_eqb (get_or t (i * 8) 0) name g, add-one i)
+  abbrev searched : ℕ → ℕ → Option Record
+  searched i n = find (λ (r : Record). eqb r.kind name) (map (record_in t) (up_from i n))
 
-none_left : (t : List ℕ) (n i name : ℕ) → n ≤ i → block_at t 0 ≡ searched t name i (n - i)
-unfolding block_at
-none_left t n i name h = let e : n - i ≡ 0 = omega arith in rw e
+  abbrev at_first : ℕ → ℕ → ℕ → Option Record
+  at_first i n f = cond (ltb f n) (Some (record_in t (i + f))) None
 
-whole : (t : List ℕ) (name : ℕ) → searched t name 0 (length t / 8 - 0) ≡ block_named [] t name
-unfolding block_named
-whole t name = rw (sub-zero (length t / 8))
+  one-on : (i n f g : ℕ) → f ≡ suc g → at_first (suc i) n g ≡ at_first i (suc n) f
+  one-on i n f g e =
+      let z : i + suc g ≡ suc i + g = omega arith in
+      elim (dec_le (suc g) n) [
+        | yes h ↦ rw (e, z, lt-ltb g n h, lt-ltb (suc g) (suc n) (omega arith)) refl
+        | no h ↦ rw (e, z, le-ltb g n (omega arith), le-ltb (suc g) (suc n) (omega arith)) refl
+      ]
 
-pub loop-i-init : goal.loop-i-init
-loop-i-init c = whole c.args.blocks.now c.args.name
+  at-once : (i n f : ℕ) → f ≡ 0 → Some (record_in t i) ≡ at_first i (suc n) f
+  at-once i n f e = let z : i + 0 ≡ i = omega arith in rw (e, z, lt-ltb 0 (suc n) (omega arith)) refl
 
-pub returns-then-read_record-name-clause-result_value : goal.returns-then-read_record-name-clause-result_value
-returns-then-read_record-name-clause-result_value c =
-    let a = c.args in
-    let x = c.read_record in
-    here a.blocks.now (length a.blocks.now / 8) c.loop-i.i a.name c.loop-i-test.true x.result x.ensures c.if-read_record-name.true ∙ c.loop-i.invariant
+  found : (i n : ℕ) → searched i n ≡ at_first i n (first i n)
+  found i zero = refl
+  found i (suc n) = go (named i) refl (found (suc i) n)
+    where
+      go : (b : Bool) → named i ≡ b → searched (suc i) n ≡ at_first (suc i) n (first (suc i) n) → searched i (suc n) ≡ at_first i (suc n) (first i (suc n))
+      go true e h =
+          let s : searched i (suc n) ≡ Some (record_in t i) = rw e refl in
+          let f : first i (suc n) ≡ 0 = rw e refl in
+          s ∙ at-once i n (first i (suc n)) f
+      go false e h =
+          let s : searched i (suc n) ≡ searched (suc i) n = rw e refl in
+          let f : first i (suc n) ≡ suc (first (suc i) n) = rw (e, add-one i) (omega arith) in
+          s ∙ h ∙ one-on i n (first i (suc n)) (first (suc i) n) f
 
-pub loop-i-preserved : goal.loop-i-preserved
-loop-i-preserved c =
-    let a = c.args in
-    let x = c.read_record in
-    past a.blocks.now (length a.blocks.now / 8) c.loop-i.i a.name c.loop-i-test.true x.result x.ensures c.if-read_record-name.false ∙ c.loop-i.invariant
+  at-place : (b : Bool) (f k : ℕ) → Some k ≡ cond b (Some f) None → cond b (Some (record_in t (0 + f))) None ≡ Some (record_in t k)
+  at-place true f k e = let q : k ≡ f = same_Some _ _ e in let z : 0 + f ≡ k = omega arith in rw z refl
+  at-place false f k e = absurd (none-some _ (sym e))
 
-pub returns-clause-result_value : goal.returns-clause-result_value
-returns-clause-result_value c =
-    let a = c.args in
-    none_left a.blocks.now (length a.blocks.now / 8) c.loop-i.i a.name c.loop-i-test.false ∙ c.loop-i.invariant
+  nowhere : (b : Bool) (f : ℕ) → None ≡ cond b (Some f) None → cond b (Some (record_in t (0 + f))) None ≡ None
+  nowhere true f e = absurd (none-some _ e)
+  nowhere false f e = refl
+
+  module _ (r : Option ℕ) (p : r ≡ position named (range_with_len 0 (length t / 8))) where
+    abbrev n : ℕ
+    n = length t / 8
+
+    place-is : r ≡ cond (ltb (first 0 n) n) (Some (first 0 n)) None
+    place-is = rw (length-range_with_len 0 n) at p
+
+    there : (k : ℕ) → r ≡ Some k → block_at t (k + 1) ≡ block_named [] t name
+    unfolding block_at block_named
+    there k e =
+        let s : k + 1 ≡ suc k = omega arith in
+        rw s (sym (found 0 n ∙ at-place _ _ k (sym e ∙ place-is)))
+
+    none : r ≡ None → block_at t 0 ≡ block_named [] t name
+    unfolding block_at block_named
+    none e = sym (found 0 n ∙ nowhere _ _ (sym e ∙ place-is))
+
+pub returns-in-Some-clause-result_value : goal.returns-in-Some-clause-result_value
+returns-in-Some-clause-result_value c =
+    let t = c.args.blocks.now in
+    let n = length t / 8 in
+    there t c.args.name _ (position_from_yields_List (named t c.args.name) _ _ _ c.position.ensures.ran (YieldsList-from_range 0 n n refl (omega arith)) (λ x b q k. search rules)) _ c.in-Some.is
+
+pub returns-in-None-clause-result_value : goal.returns-in-None-clause-result_value
+returns-in-None-clause-result_value c =
+    let t = c.args.blocks.now in
+    let n = length t / 8 in
+    none t c.args.name _ (position_from_yields_List (named t c.args.name) _ _ _ c.position.ensures.ran (YieldsList-from_range 0 n n refl (omega arith)) (λ x b q k. search rules)) c.in-None.is
