@@ -1,34 +1,25 @@
--- The words lent for values. Assumes nothing.
-use mathlib.Core.Path.{◌≡◌, refl, sym, ◌∙◌}
+-- Words lent for values: values past their end are not written, and words behind the values are 0. Assumes nothing.
+use mathlib.Core.Path.{◌≡◌, refl, ap, ◌∙◌}
 use mathlib.Core.List.{List, [], ◌∷◌, ◌++◌}
-use Prim.Native.Nat.{ℕ, zero, suc, ◌≤◌, ◌<◌}
+use Prim.Native.Nat.{ℕ, zero, suc, ◌≤◌, min}
+use native.Mathlib.Nat.{le_refl}
 use native.Mathlib.Omega.{arith}
-use lib.ListN.{length, get_or, replicate, length-append, length-replicate}
-use lib.Seq.{length-take-le, get_or-take, ext_get_or}
+use lib.ListN.{length, take, drop, replicate, length-replicate}
 use Rattle.cerambiu.specs.Called.{lent_answer}
 
-lent-long : (n : ℕ) (vs : List ℕ) → length (lent_answer n vs) ≡ n
+zeros : (n r : ℕ) → n ≤ r → replicate {A = ℕ} n 0 ≡ take n (replicate r 0)
+zeros zero r h = refl
+zeros (suc n) zero h = absurd (omega arith)
+zeros (suc n) (suc r) h = ap (λ (l : List ℕ). 0 ∷ l) (zeros n r (omega arith))
+
+-- k values and the zeros behind them, of n words
+filled : (vs : List ℕ) (n r k : ℕ) → n ≤ r → k ≡ min (length vs) n → take k vs ++ drop k (replicate n 0) ≡ take n (vs ++ replicate r 0)
+filled [] n r k h e = let z : k ≡ 0 = omega arith in rw z (zeros n r h)
+filled (v ∷ vs) zero r k h e = let z : k ≡ 0 = omega arith in rw z
+filled (v ∷ vs) (suc n) r zero h e = absurd (omega arith)
+filled (v ∷ vs) (suc n) r (suc k) h e = ap (λ (l : List ℕ). v ∷ l) (filled vs n r k (omega arith) (omega arith))
+
+-- the values are copied over the first of n zeros
+pub copied : (vs : List ℕ) (n k : ℕ) {z front : List ℕ} → z ≡ replicate n 0 → k ≡ min (length vs) (length z) → front ≡ take k vs → front ++ drop k z ≡ lent_answer n vs
 unfolding lent_answer
-lent-long n vs =
-    length-take-le n (vs ++ replicate n 0) (omega (arith, length-append vs (replicate n 0), length-replicate {A = ℕ} n 0))
-
--- zeros behind values, and past the end, are all the same
-padded-at : (vs : List ℕ) (m j : ℕ) → get_or (vs ++ replicate m 0) j 0 ≡ get_or vs j 0
-padded-at [] zero j = refl
-padded-at [] (suc m) zero = refl
-padded-at [] (suc m) (suc j) = padded-at [] m j
-padded-at (x ∷ xs) m zero = refl
-padded-at (x ∷ xs) m (suc j) = padded-at xs m j
-
-lent_at : (n : ℕ) (vs : List ℕ) (j : ℕ) → j < n → get_or (lent_answer n vs) j 0 ≡ get_or vs j 0
-unfolding lent_answer
-lent_at n vs j h = get_or-take n (vs ++ replicate n 0) j 0 h ∙ padded-at vs n j
-
--- words that are the values up to i, with 0 behind them
-pub record UpTo (i : ℕ) (a vs : List ℕ) : Type 0 where
-  pub same : (j : ℕ) → j < i → get_or a j 0 ≡ get_or vs j 0
-
-pub all-put : (a vs : List ℕ) (n i : ℕ) → length a ≡ n → n ≤ i → UpTo i a vs → a ≡ lent_answer n vs
-all-put a vs n i l h f =
-    ext_get_or 0 a (lent_answer n vs) (l ∙ sym (lent-long n vs))
-    (λ j b. f.same j (omega (arith, l, b)) ∙ sym (lent_at n vs j (omega (arith, l, b))))
+copied vs n k e h f = rw (f, e) (filled vs n n k (le_refl n) (h ∙ rw (e, length-replicate {A = ℕ} n 0)))

@@ -119,9 +119,9 @@ impl Answer for Needed {
 fn put_values(answer: &mut [u32], values: &[u32])
     ensures { answer.new ≡ lent_answer (length answer.old) values.now }
 {
-    for (i, word) in answer.iter_mut().enumerate() {
-        *word = values.get(i).copied().unwrap_or(0);
-    }
+    lent_words::clear(answer);
+    let n = values.len().min(answer.len());
+    answer[..n].copy_from_slice(&values[..n]);
 }
 
 // A refusal has no values.
