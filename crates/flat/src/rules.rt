@@ -1,6 +1,6 @@
 // Flattening all rules of an image: document 01, refusal 16, and the flat part of a store.
 ghost use Rattle.std.specs.Prelude.{◌≡◌, [], ◌∷◌, ◌++◌, ◌+◌, ◌*◌, ◌/◌, ◌≤◌, ◌<◌, length, take};
-ghost use Rattle.model.specs.Image.{trailer as trailerIn, first_of, size_of, table_of};
+ghost use Rattle.model.specs.Image.{size_of};
 ghost use Rattle.model.specs.Flat.{flatten_rules};
 ghost use Rattle.model.specs.Rows.{rules};
 ghost use Rattle.flat.specs.Load.{RuleOut, EachOut, rule_at, Checked, Loading, Stored, flatten_tables, loaded, same_flat};
@@ -9,6 +9,7 @@ use crate::cycle::flatten_list;
 use crate::records::find_calls;
 use crate::steps::{append_steps, clear, place};
 use crate::{Around, Bodies, Done, Made, Progress, Source};
+use image::layout::{Image, Table};
 use model::{FlattenCtx, Refusal};
 
 // The row of list k: where it begins, and how many steps it has; written if there is room.
@@ -135,34 +136,6 @@ fn flatten_tables(
     Ok(made)
 }
 
-// Word j of the trailer.
-#[tactic(auto, unfolding(model::specs::Image::trailer))]
-fn trailer(image: &[u32], j: usize) -> u32
-    requires { (13 ≤ length image.now) × (j < 13) }
-    ensures { result ≡ trailerIn image.now j }
-{
-    image[image.len() - 13 + j]
-}
-
-// The first word of table t.
-#[tactic(auto, unfolding(model::specs::Image::first_of))]
-fn first_of(image: &[u32], t: usize) -> usize
-    requires { (13 ≤ length image.now) × (t < 8) }
-    ensures { result ≡ first_of image.now t }
-{
-    trailer(image, 5 + t) as usize
-}
-
-// The words of table t.
-fn table(image: &[u32], t: usize) -> &[u32]
-    requires { Checked image.now × (t < 7) }
-    ensures { result.now ≡ table_of image.now t }
-{
-    let from = first_of(image, t);
-    let to = first_of(image, t + 1);
-    &image[from..to]
-}
-
 // The flat part of the image's set: its steps in `words`, the rows of its lists in `lists`, both if they have room; and the steps are
 // compared with `seen`, if that has any words.
 fn flatten_image(
@@ -175,9 +148,10 @@ fn flatten_image(
     requires words_len_bound { (length words.old ≤ 8192) × (length seen.now ≤ 8192) }
     ensures { Loading (flatten_rules image.now) seen.now words.new lists.new result }
 {
-    let acts = table(image, 4);
-    let blocks = table(image, 1);
-    let rules = table(image, 0);
+    let tables = Image::new(image);
+    let acts = tables.table(Table::Actions);
+    let blocks = tables.table(Table::Blocks);
+    let rules = tables.table(Table::Rules);
     let mut calls = [0u16; 512];
     find_calls(acts, blocks, &mut calls);
     let source = Source {
@@ -185,8 +159,8 @@ fn flatten_image(
         blocks,
         rules,
         calls: &calls,
-        depth: trailer(image, 1) as usize,
-        limit: trailer(image, 2),
+        depth: tables.call_depth() as usize,
+        limit: tables.repeat_limit(),
     };
     flatten_tables(&source, words, lists, seen)
 }

@@ -1,0 +1,28 @@
+-- Where the tables of an image end whose places fit. Assumes nothing.
+use mathlib.Core.Path.{◌≡◌}
+use mathlib.Core.Bool.{true}
+use mathlib.Core.List.{List}
+use Prim.Native.Nat.{ℕ, zero, suc, ◌+◌, ◌-◌, ◌≤◌}
+use native.Mathlib.Omega.{arith}
+use lib.ListN.{length}
+use Rattle.model.specs.Image.{first_of, places_fit}
+use Rattle.model.proofs.ImageLaws.{table-follows, last-first}
+use Rattle.image.specs.declared.layout.Table.{Table}
+use Rattle.image.specs.Tables.{number_of}
+use Rattle.image.proofs.Padding.{numbered}
+
+module _ (img : List ℕ) (placed : places_fit img ≡ true) where
+  ends : (k : ℕ) → k ≤ 8 → first_of img (8 - k) ≤ length img
+  ends zero l = omega (arith, last-first img)
+  ends (suc k) l =
+      let e : 8 - suc k + 1 ≡ 8 - k = omega arith in
+      omega (arith, rw e at (table-follows img placed (8 - suc k) (omega arith)), ends k (omega arith))
+
+  pub table-order : (t : Table) → first_of img (number_of t) ≤ first_of img (number_of t + 1)
+  table-order t = table-follows img placed (number_of t) (numbered t)
+
+  pub table-end : (t : Table) → first_of img (number_of t + 1) ≤ length img
+  table-end t =
+      let n = numbered t in
+      let e : 8 - (7 - number_of t) ≡ number_of t + 1 = omega arith in
+      rw e at (ends (7 - number_of t) (omega arith))
