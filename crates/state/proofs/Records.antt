@@ -32,7 +32,7 @@ use Rattle.rows.proofs.Writing.{one_set}
 use Rattle.state.specs.Cuts.{cut, rows_in, table_of, passes, is_other, is_later, Fits, Table}
 use Rattle.state.specs.Meaning.{pending_row, part_sizes, pending_part, next_part, stored_part, accepted_part, place_of, words_in, meaning_of, base_in, stored_in, accepted_in, records_in, numbered, offset_from, Below, meaning, base, accepted, stored_count, pending_count, Sound, Means, MeansSoundly, Holds, Counted}
 use Rattle.state.specs.Selection.{records_at}
-use Rattle.state.specs.Pending.{later_than, with_next, with_record, kept_by, closed_up, ClosesUp, emptied, Schedules}
+use Rattle.state.specs.Pending.{later_than, with_next, with_record, kept_by, closed_up, ClosesUp, due_times, emptied, Schedules}
 use Rattle.state.proofs.Closing.{keep_append}
 use Rattle.state.proofs.Tables.{to-come}
 use Rattle.state.proofs.Numbers.{numbered-length, numbered-all, numbered-joins, keep-numbered, below-append, below_more, below-keep}
@@ -348,3 +348,21 @@ records-read w s all n e =
     let read : table_at pending_row n w (place_of pending_part + 1) ≡ records w = ap (λ (i : ℕ). table_at pending_row i w (place_of pending_part + 1)) e ∙ table-read pending_row pending-laws 32 w (place_of pending_part) (words_in pending_part) (records w) (records-hold w s) in
     let few : length (records w) ≤ stored_in (cut part_sizes w) = omega (arith, all, records-count w s, part_at pending_part (omega arith) w 0 (omega arith)) in
     rows_same n (drop (place_of pending_part + 1) w) ∙ read ∙ sym (numbered-all (base_in (cut part_sizes w)) (stored_in (cut part_sizes w)) (records w) few)
+
+-- their numbers do not change their times
+times-offset : (b : ℕ) (ps : List Pending) → due_times (map (offset_from b) ps) ≡ due_times ps
+times-offset b [] = refl
+times-offset b (p ∷ ps) = ap (λ (l : List ℕ). p.due ∷ l) (times-offset b ps)
+
+times-numbered : (b n : ℕ) (ps : List Pending) → due_times (numbered b n ps) ≡ due_times ps
+unfolding numbered
+times-numbered b zero ps = times-offset b ps
+times-numbered b (suc n) [] = refl
+times-numbered b (suc n) (p ∷ ps) = ap (λ (l : List ℕ). p.due ∷ l) (times-numbered b n ps)
+
+pub times-read : (w : List ℕ) → Sound w → (l : List Pending) → l ≡ table_at parts.pending_row (get_or w (place_of pending_part) 0) w (place_of pending_part + 1) → due_times l ≡ due_times (meaning w).pending
+unfolding table_at meaning records
+times-read w s l e =
+    let k = place_of pending_part in
+    let read = table-read pending_row pending-laws 32 w k (words_in pending_part) (records w) (records-hold w s) in
+    ap due_times (e ∙ rows_same (get_or w k 0) (drop (k + 1) w) ∙ read) ∙ sym (times-numbered (base_in (cut part_sizes w)) (stored_in (cut part_sizes w)) (records w))

@@ -4,20 +4,18 @@ use mathlib.Core.Bool.{Bool, true, false, not}
 use mathlib.Core.List.{List, [], ◌∷◌, ◌++◌, append_assoc, append-nil}
 use Rattle.std.specs.List.{copy_within}
 use Prim.Native.Nat.{ℕ, suc, ◌+◌, ◌-◌, ◌*◌, ◌≤◌, ◌<◌}
-use native.Mathlib.Nat.{add-zero, zero-mul, suc-mul, mul-le-mul_right}
+use native.Mathlib.Nat.{zero-mul, suc-mul, mul-le-mul_right}
 use native.Mathlib.Numerals.{add-one}
 use native.Mathlib.Omega.{arith}
 use lib.Dec.{leb, ltb}
 use lib.ListN.{length, get_or, take, drop, set, replicate, length-append, length-drop, length-replicate, replicate-append-replicate}
-use lib.Seq.{drop_at, drop-drop, take-suc, length-take-le, set_split, get_or-take, get_or-drop, take_all}
+use lib.Seq.{drop_at, drop-drop, take-suc, length-take-le, set_split, take_all}
 use borrow.Author.Tests.{leb-true, leb-false, lt-ltb, le-ltb}
-use Rattle.model.specs.Codec.{wide}
 use Rattle.model.specs.Lists.{flatten, keep}
 use Rattle.model.proofs.CodecLaws.{rest_of}
 use Rattle.rows.specs.Places.{laid}
-use Rattle.rows.specs.Places as rows
 use Rattle.rows.proofs.Writing.{laid-long}
-use Rattle.state.specs.Cuts.{cut, sum, rows_in, table_of, Fits, Table, RowSet, word_in, wide_of}
+use Rattle.state.specs.Cuts.{cut, sum, rows_in, table_of, Fits, Table, RowSet}
 use Rattle.state.proofs.Closing.{Keeps, Closing, keep_append, starts, keeps, skips, done}
 use Rattle.state.proofs.Cutting.{laid-drop, laid-behind, word-before, cut-long, cut_at, cut-laid, cut-first, sum_same, sum_first, size_same, row-end}
 
@@ -35,10 +33,6 @@ module _ (f : ℕ) (p : List ℕ) (h : Fits f p) where
       let m : i < length (replicate {A = ℕ} n f) = rw (length-replicate {A = ℕ} n f) l in
       cut_at (replicate n f) (drop 1 p) i m
       ∙ rw (size_same n f i l, sum_first n f i (omega arith), drop-drop (i * f) 1 p)
-
-  pub word-at : (i at : ℕ) → i < n → at < f → get_or p (1 + i * f + at) 0 ≡ word_in f p i at
-  word-at i at l m =
-      sym (rw (row_at i l, get_or-take f (drop (1 + i * f) p) at 0 m, get_or-drop (1 + i * f) p at 0))
 
   pub row_within : (i : ℕ) → i < n → 1 + i * f + f ≤ length p
   row_within i l = let e = row-end i n f l in omega (arith, e, h.within)
@@ -77,14 +71,6 @@ to-come time due = by (leb due time) refl
     by : (late : Bool) → leb due time ≡ late → ltb time due ≡ not late
     by true e = le-ltb time due (leb-true due time e)
     by false e = lt-ltb time due (leb-false due time e)
-
--- a time of a row that was read
-pub wide-at : (row x : List ℕ) (at : ℕ) → row ≡ x → rows.row_at wide row at ≡ wide_of at x
-unfolding rows.row_at
-wide-at row x at e =
-    let a : get_or (drop at row) 0 0 ≡ get_or row at 0 = get_or-drop at row 0 0 ∙ ap (λ (n : ℕ). get_or row n 0) (add-zero at) in
-    let b : get_or (drop at row) 1 0 ≡ get_or row (at + 1) 0 = get_or-drop at row 1 0 in
-    rw (a, b, e)
 
 -- A ROW MOVED -----------------------------------------------------------------------------------------------------------------------------
 pub row_moved : (f : ℕ) (p : List ℕ) (from to : ℕ) → Fits f p → from < get_or p 0 0 → to ≤ from → RowSet f p to (get_or (rows_in f p) from []) (copy_within p (1 + from * f) (1 + from * f + f) (1 + to * f))

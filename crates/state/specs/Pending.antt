@@ -1,5 +1,5 @@
 -- The continuations: what the contracts on them cite.
-use Rattle.std.specs.Prelude.{ℕ, suc, ◌+◌, ◌≡◌, Bool, not, List, [], ◌∷◌, ◌++◌, leb, eqb, length}
+use Rattle.std.specs.Prelude.{ℕ, suc, ◌+◌, ◌≡◌, Bool, not, List, [], ◌∷◌, ◌++◌, map, leb, eqb, length}
 use Rattle.model.specs.Actions.{Job}
 use Rattle.model.specs.Exec as model
 use Rattle.model.specs.Lists.{keep}
@@ -13,6 +13,9 @@ of_other_rule rule c = not (eqb c.rule rule)
 
 abbrev pub later_than : ℕ → Pending → Bool
 later_than now c = not (leb c.due now)
+
+abbrev pub due_times : List Pending → List ℕ
+due_times = map (λ (c : Pending). c.due)
 
 -- one number is given; and a record that holds its offset joins
 abbrev pub with_next : Volatile → Volatile

@@ -14,10 +14,14 @@ use model::EverySlot;
 use rows::SLOT_WORDS;
 use rows::put::clear;
 use rows::row::Row;
-use rows::tables::table_at;
+use rows::tables::{Rows, table_at};
 
-// The word of a row where its due time begins.
-pub const DUE: usize = 3;
+// The slots.
+pub fn all(v: &State) -> Rows<'_, EverySlot>
+    ensures { result ≡ (meaning v.now).rest.every }
+{
+    Rows::new(&v.words, place::SLOTS + 1, v.words[place::SLOTS] as usize)
+}
 
 // A due slot is due again a period from now.
 #[tactic(auto, unfolding(words::specs::Saturating::saturating_add))]

@@ -1,14 +1,14 @@
 // A counted table in words, whatever its rows are: its count, rows of `width` words, zeros behind.
 ghost use Rattle.std.specs.Prelude.{◌≡◌, Bool, [], ◌+◌, ◌-◌, ◌≤◌, ◌<◌, length, get_or, take};
 ghost use Rattle.model.specs.Lists.{keep};
-ghost use Rattle.state.specs.Cuts.{rows_in, table_of, wide_in, passes, with_row, HasRoom, Words, Fits, Table, RowSet};
+ghost use Rattle.state.specs.Cuts.{rows_in, table_of, passes, with_row, HasRoom, Words, Fits, Table, RowSet};
 
 use rows::put::clear;
 use rows::row::Row;
 
 // Row i.
-// kept: a view that knows `Fits` would be made, and ask it, where these functions are called: by `pending::close_up`, by wheel's `earliest`, and at
-// each turn of `close_up`, whose rows move before the count is written. Those that ask it are this, `wide_of`, `count_kept` and `move_row`.
+// kept: a view that knows `Fits` would be made, and ask it, where these functions are called: by `pending::close_up`, and at each turn of `close_up`,
+// whose rows move before the count is written. Those that ask it are this, `count_kept` and `move_row`.
 fn row_of(t: &[u32], width: usize, i: usize) -> &[u32]
     requires { Fits width t.now × (i < get_or t.now 0 0) }
     ensures is { result.now ≡ get_or (rows_in width t.now) i [] }
@@ -16,14 +16,6 @@ fn row_of(t: &[u32], width: usize, i: usize) -> &[u32]
 {
     let k = 1 + i * width;
     &t[k..k + width]
-}
-
-// The time at word `at` of row i.
-pub fn wide_of(t: &[u32], width: usize, i: usize, at: usize) -> u64
-    requires { Fits width t.now × (i < get_or t.now 0 0) × (at < width - 1) }
-    ensures { result ≡ wide_in width t.now i at }
-{
-    u64::at(row_of(t, width, i), at)
 }
 
 // How many of the first m rows stay: those whose value at word `at` passes.

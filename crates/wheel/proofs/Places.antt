@@ -1,7 +1,7 @@
 -- Chains over a range of numbers, where the specification goes over the numbers or over a list by its places. Assumes nothing.
 use mathlib.Core.Path.{◌≡◌, refl, ap}
 use mathlib.Core.Bool.{Bool, ◌||◌}
-use mathlib.Core.List.{List, ◌∷◌, map}
+use mathlib.Core.List.{List}
 use Prim.Native.Nat.{ℕ, zero, suc, ◌+◌, ◌<◌, ◌≤◌}
 use native.Mathlib.Numerals.{add-one}
 use native.Mathlib.Omega.{arith}
@@ -23,13 +23,3 @@ module _ {A : Type 0} (p : A → Bool) (xs : List A) (d : A) where
 
   pub any-places : (n : ℕ) → n ≡ length xs → list_any (λ k. p (get_or xs k d)) (range_with_len 0 n) ≡ any p xs
   any-places n e = from_place 0 n (omega arith)
-
-module _ {A B : Type 0} (f : A → B) (xs : List A) (d : A) where
-  map-from : (i n : ℕ) → i + n ≡ length xs → map (λ k. f (get_or xs k d)) (range_with_len i n) ≡ map f (drop i xs)
-  map-from i zero e = let h : length xs ≤ i = omega arith in rw (drop_of_length-le xs {i = i} h)
-  map-from i (suc n) e =
-      let h : i < length xs = omega arith in
-      rw (drop-cons xs i d h) (ap (λ (l : List B). f (get_or xs i d) ∷ l) (rw add-one (map-from (suc i) n (omega arith))))
-
-  pub map-places : (n : ℕ) → n ≡ length xs → map (λ k. f (get_or xs k d)) (range_with_len 0 n) ≡ map f xs
-  map-places n e = map-from 0 n (omega arith)

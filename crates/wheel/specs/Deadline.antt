@@ -1,15 +1,10 @@
 -- The next deadline.
-use Rattle.std.specs.Prelude.{ℕ, ◌≡◌, List, map}
+use Rattle.std.specs.Prelude.{ℕ, ◌≡◌, List}
 use Rattle.std.specs.Prelude.{Option, None, Some}
 use Rattle.model.specs.State.{RuleSet, Store}
 use Rattle.model.specs.Steps.{FlatStep}
 use Rattle.model.specs.Wheel.{least, wall_poll}
-use Rattle.state.specs.Cuts.{rows_in, wide_of}
 use Rattle.state.specs.Meaning.{meaning}
-
--- the times at word `at` of a table's rows
-abbrev pub row_times : ℕ → ℕ → List ℕ → List ℕ
-row_times width at p = map (wide_of at) (rows_in width p)
 
 -- a store of these parts; a set is loaded where there is an image
 abbrev pub set_if : Option (List ℕ) → List (List FlatStep) → Option RuleSet

@@ -1,28 +1,17 @@
 // The next deadline: the least due time of the continuations, timers and Every slots, and a second from the last call where a wall
 // schedule waits.
-ghost use Rattle.std.specs.Prelude.{◌≡◌, List, ◌-◌, ◌<◌, min};
+ghost use Rattle.std.specs.Prelude.{◌≡◌, List, min};
 ghost use Rattle.std.specs.List.{reduce, flat_map};
 ghost use Rattle.std.specs.Option.{option_to_list};
 ghost use Rattle.model.specs.Steps.{FlatStep};
-ghost use Rattle.model.specs.Wheel.{least, next_deadline};
-ghost use Rattle.state.specs.Cuts.{Fits};
-ghost use Rattle.wheel.specs.Deadline.{row_times, store_of, Poll};
+ghost use Rattle.model.specs.Wheel.{next_deadline};
+ghost use Rattle.wheel.specs.Deadline.{store_of, Poll};
 
 use crate::wall::has_wall_triggers;
 use image::layout::Image;
-use rows::{PENDING_WORDS, SLOT_WORDS, TIMER_WORDS};
-use state::table::wide_of;
-use state::{State, pending, place, slots, timers};
+use state::{State, pending, slots, timers};
 
 const WALL_POLL_MS: u64 = 1000;
-
-// The earliest of the times at word `at` of a table's rows.
-fn earliest(t: &[u32], width: usize, at: usize) -> Option<u64>
-    requires { Fits width t.now × (at < width - 1) }
-    ensures { result ≡ least (row_times width at t.now) }
-{
-    (0..t[0] as usize).map(|i| wide_of(t, width, i, at)).min()
-}
 
 // The earliest of some times that may be missing.
 fn earliest_of(times: &[Option<u64>]) -> Option<u64>
@@ -46,20 +35,8 @@ pub fn next_deadline(image: Option<Image>, v: &State, last: u64) -> Option<u64>
     ensures { (flat : List (List FlatStep)) → result ≡ next_deadline (store_of image.entry flat v.now last) }
 {
     let poll = wall_poll(image, v, last);
-    let slot = earliest(
-        &v.words[place::SLOTS..place::PENDING],
-        SLOT_WORDS,
-        slots::DUE,
-    );
-    let timer = earliest(
-        &v.words[place::TIMERS..place::SLOTS],
-        TIMER_WORDS,
-        timers::DUE,
-    );
-    let record = earliest(
-        &v.words[place::PENDING..place::WEEK],
-        PENDING_WORDS,
-        pending::DUE,
-    );
+    let slot = slots::all(v).map(|x| x.due).min();
+    let timer = timers::all(v).map(|t| t.due).min();
+    let record = pending::all(v).map(|c| c.due).min();
     earliest_of(&[record, timer, slot, poll])
 }

@@ -1,19 +1,29 @@
 -- `wheel::deadline::next_deadline` meets its contract. Assumes nothing.
-use native.Mathlib.Omega.{arith}
-use mathlib.Core.Path.{◌∙◌}
-use Rattle.wheel.proofs.Least.{slots-fit, timers-fit, records-fit, next-is}
+use Rattle.std.proofs.Common.{rules, sym, ap, ◌∙◌}
+use Rattle.std.proofs.lemmas.Iterator.{YieldsList-from_map}
+use Rattle.std.proofs.lemmas.Iterator.Adapters.{option_map_id}
+use Rattle.std.proofs.lemmas.Iterator.Consumers.{YieldsList-from_first, min_from_yields_List}
+use Rattle.std.specs.List.{reduce}
+use Prim.Native.Nat.{min}
+use Rattle.model.specs.declared.EverySlot.{EverySlot}
+use Rattle.model.specs.declared.NamedTimer.{NamedTimer}
+use Rattle.model.specs.declared.Pending.{Pending}
+use Rattle.wheel.proofs.Least.{next-is}
 use Rattle.wheel.proofs.deadline.next_deadline.Goals as goal
-
-pub earliest-slot-requires : goal.earliest-slot-requires
-earliest-slot-requires c = (slots-fit _ c.v.invariant, omega arith)
-
-pub earliest-timer-requires : goal.earliest-timer-requires
-earliest-timer-requires c = (timers-fit _ c.v.invariant, omega arith)
-
-pub earliest-record-requires : goal.earliest-record-requires
-earliest-record-requires c = (records-fit _ c.v.invariant, omega arith)
 
 pub returns : goal.returns
 returns c flat =
-    let words = c.v.view_is in
-    c.earliest_of.ensures ∙ next-is _ (rw words at c.v.invariant) c.args.image c.args.last _ _ _ _ c.wall_poll-poll.ensures (rw words at c.earliest-slot.ensures) (rw words at c.earliest-timer.ensures) (rw words at c.earliest-record.ensures) flat
+    let slot =
+    sym (option_map_id _)
+    ∙ min_from_yields_List c.map.result _ c.min-slot.ensures.ran (YieldsList-from_map _ (λ (x : EverySlot). x.due) (YieldsList-from_first (λ x. x) (λ rest. rest) _ (c.map.ensures.source ∙ c.all.ensures)) c.map.ensures.closure (λ x r q k. search rules))
+    in
+    let timer =
+    sym (option_map_id _)
+    ∙ min_from_yields_List c.map-2.result _ c.min-timer.ensures.ran (YieldsList-from_map _ (λ (x : NamedTimer). x.due) (YieldsList-from_first (λ x. x) (λ rest. rest) _ (c.map-2.ensures.source ∙ c.all-2.ensures)) c.map-2.ensures.closure (λ x r q k. search rules))
+    in
+    let continuation =
+    sym (option_map_id _)
+    ∙ min_from_yields_List c.map-3.result _ c.min-record.ensures.ran (YieldsList-from_map _ (λ (x : Pending). x.due) (YieldsList-from_first (λ x. x) (λ rest. rest) _ c.map-3.ensures.source) c.map-3.ensures.closure (λ x r q k. search rules))
+    ∙ ap (reduce min) c.all-3.ensures
+    in
+    c.earliest_of.ensures ∙ next-is _ c.args.image c.args.last _ _ _ _ c.wall_poll-poll.ensures slot timer continuation flat
