@@ -4,11 +4,11 @@ ghost use Rattle.words.specs.Saturating.{max64};
 ghost use Rattle.image.specs.Accepted.{Accepted};
 ghost use Rattle.state.specs.Meaning.{meaning};
 ghost use Rattle.state.specs.Reasons.{reason_number};
-ghost use Rattle.activate.specs.Carried.{carried};
+ghost use Rattle.activate.specs.Carried.{carried_by, Over};
 ghost use Rattle.activate.specs.Handled.{Room};
 ghost use Rattle.activate.specs.Executes.{RunRoom, NotesPartial, Starts, FinishesWet, RunsWet, RunsDry, Executes};
 
-use crate::Handled;
+use crate::Lent;
 use counters::Counter;
 use exec::dry::run_steps_dry;
 use exec::runs::run_steps;
@@ -56,63 +56,42 @@ fn finish_wet(v: &mut State, effects: u32, reason: Option<Reason>)
 }
 
 // A run from a point on, with a budget, and its outcome.
-pub fn run_wet(
-    env: &Env,
-    rule: &FlatRule,
-    outcomes: &mut [u32],
-    effects: &mut [u32],
-    v: &mut State,
-    x: Handled,
-    from: Point,
-    most: u32,
-) -> Handled
-    requires { (most ≤ 256) × RunRoom (carried v.old x) }
-    ensures { RunsWet env.now.snapshot.now env.now.image.now rule.now.part.now rule.now.own env.now.job from most (carried v.old x) outcomes.old effects.old (carried v.new result) outcomes.new effects.new }
+pub fn run_wet(env: &Env, rule: &FlatRule, lent: &mut Lent, from: Point, most: u32)
+    requires { (most ≤ 256) × RunRoom (carried_by lent.old) }
+    ensures { Over (RunsWet env.now.snapshot.now env.now.image.now rule.now.part.now rule.now.own env.now.job from most) lent.old lent.new }
 {
-    let run = run_steps(env, rule, effects, v, from, most, x.effects);
-    finish_wet(v, run.count - x.effects, run.reason);
-    x.push_outcome(outcomes, env.job, run.reason, run.count)
+    let x = lent.handled;
+    let run = run_steps(env, rule, lent.effects, lent.state, from, most, x.effects);
+    finish_wet(lent.state, run.count - x.effects, run.reason);
+    lent.handled = x.push_outcome(lent.outcomes, env.job, run.reason, run.count);
 }
 
 // A dry run of the whole rule, and its outcome.
-fn run_dry(
-    env: &Env,
-    rule: &FlatRule,
-    outcomes: &mut [u32],
-    effects: &mut [u32],
-    v: &mut State,
-    x: Handled,
-) -> Handled
-    requires { Accepted env.now.image.now × (env.now.job.dry ≡ true) × Room 1 (carried v.old x) }
-    ensures { RunsDry env.now.snapshot.now env.now.image.now rule.now.part.now rule.now.own env.now.job (carried v.old x) outcomes.old effects.old (carried v.new result) outcomes.new effects.new }
+fn run_dry(env: &Env, rule: &FlatRule, lent: &mut Lent)
+    requires { Accepted env.now.image.now × (env.now.job.dry ≡ true) × Room 1 (carried_by lent.old) }
+    ensures { Over (RunsDry env.now.snapshot.now env.now.image.now rule.now.part.now rule.now.own env.now.job) lent.old lent.new }
 {
+    let x = lent.handled;
     let most = env.image.budget();
-    let run = run_steps_dry(env, rule, effects, v, START, most, x.effects);
-    x.push_outcome(outcomes, env.job, run.reason, run.count)
+    let run = run_steps_dry(env, rule, lent.effects, lent.state, START, most, x.effects);
+    lent.handled = x.push_outcome(lent.outcomes, env.job, run.reason, run.count);
 }
 
 // kept: that the image is accepted, not only sized, is asked here and where it decides the budget; exec's Env asks less of its callers
-pub fn execute(
-    env: &Env,
-    rule: &FlatRule,
-    outcomes: &mut [u32],
-    effects: &mut [u32],
-    v: &mut State,
-    x: Handled,
-) -> Handled
-    requires { Accepted env.now.image.now × Room 1 (carried v.old x) }
-    ensures { Executes env.now.snapshot.now env.now.image.now rule.now.part.now rule.now.own env.now.job (carried v.old x) outcomes.old effects.old (carried v.new result) outcomes.new effects.new }
+pub fn execute(env: &Env, rule: &FlatRule, lent: &mut Lent)
+    requires { Accepted env.now.image.now × Room 1 (carried_by lent.old) }
+    ensures { Over (Executes env.now.snapshot.now env.now.image.now rule.now.part.now rule.now.own env.now.job) lent.old lent.new }
 {
     if env.job.dry {
-        state::bump(v, Counter::ActivationsDry, 1);
-        return run_dry(env, rule, outcomes, effects, v, x);
+        state::bump(lent.state, Counter::ActivationsDry, 1);
+        return run_dry(env, rule, lent);
     }
-    let job = start(env.snapshot, v, env.job);
+    let job = start(env.snapshot, lent.state, env.job);
     let begun = Env {
         snapshot: env.snapshot,
         image: env.image,
         job,
     };
     let most = env.image.budget();
-    run_wet(&begun, rule, outcomes, effects, v, x, START, most)
+    run_wet(&begun, rule, lent, START, most);
 }

@@ -1,5 +1,5 @@
 // One activation and one resumption: activate.rs, and `resume` of wheel.rs. Outcomes and effects go into words that the caller
-// lends; where there is no room they are counted, and no word is written.
+// lends; where there is no room they are counted, and no word is written: the C interface answers with the counts.
 #![tactic(auto)]
 
 mod decide;
@@ -11,7 +11,7 @@ ghost use Rattle.std.specs.Prelude.{Some};
 ghost use Rattle.model.specs.Kinds.{trigger_number};
 ghost use Rattle.model.specs.Rules.{rule_named, hold_hcl_of};
 ghost use Rattle.image.specs.Accepted.{Accepted};
-ghost use Rattle.activate.specs.Carried.{carried};
+ghost use Rattle.activate.specs.Carried.{carried_by, Over};
 ghost use Rattle.activate.specs.Decisions.{is_auto, is_dry};
 ghost use Rattle.activate.specs.Handled.{Room, Activates, Resumes};
 
@@ -24,14 +24,20 @@ use model::{Pending, TriggerKind};
 use state::State;
 use state::reasons::Reason;
 
-// What activations and resumptions did so far: how many outcomes and effects are written, or would be. They stand beside the words that
-// the caller lends, and in no slice of them: the C interface counts on where there is no room.
-// kept: outcomes, effects and the state's words go on one by one to where each is written (`push_outcome`, `run_steps`, crate `state`); what
-// there is room for (`Room`) is said of these numbers and of the words together
+// What activations and resumptions did so far: how many outcomes and effects are written, or would be.
 #[derive(Clone, Copy)]
 pub struct Handled {
     pub outcomes: u32,
     pub effects: u32,
+}
+
+// What a call lends for it: the words of the outcomes and of the effects, and the state; and what was done so far.
+#[derive(Drop)]
+pub struct Lent<'a> {
+    pub outcomes: &'a mut [u32],
+    pub effects: &'a mut [u32],
+    pub state: &'a mut State,
+    pub handled: Handled,
 }
 
 #[derive(Clone, Copy)]
@@ -78,17 +84,14 @@ pub fn activate(
     snapshot: &[u32],
     image: &Image,
     rule: &FlatRule,
-    outcomes: &mut [u32],
-    effects: &mut [u32],
-    v: &mut State,
-    x: Handled,
+    lent: &mut Lent,
     i: u32,
     kind: TriggerKind,
     mode: Mode,
-) -> Handled
+)
     requires accepted { Accepted image.now }
-    requires room { Room 1 (carried v.old x) }
-    ensures { Activates snapshot.now image.now rule.now.part.now rule.now.own i (trigger_number kind) mode (carried v.old x) outcomes.old effects.old (carried v.new result) outcomes.new effects.new }
+    requires room { Room 1 (carried_by lent.old) }
+    ensures { Over (Activates snapshot.now image.now rule.now.part.now rule.now.own i (trigger_number kind) mode) lent.old lent.new }
 {
     let dry = mode.is_dry();
     let job = job_of(image, image.name_of(i), i, u32::from(kind), dry, 0);
@@ -97,46 +100,31 @@ pub fn activate(
         image,
         job,
     };
-    match decide::decide(&env, v, mode) {
-        Decision::Begins => execute::execute(&env, rule, outcomes, effects, v, x),
-        Decision::InCooldown => {
-            state::bump(v, Counter::SuppressedCooldown, 1);
-            x
-        }
-        Decision::Rejected => {
-            state::bump(v, Counter::ConditionsRejected, 1);
-            x
-        }
+    match decide::decide(&env, lent.state, mode) {
+        Decision::Begins => execute::execute(&env, rule, lent),
+        Decision::InCooldown => state::bump(lent.state, Counter::SuppressedCooldown, 1),
+        Decision::Rejected => state::bump(lent.state, Counter::ConditionsRejected, 1),
         Decision::Unevaluable => {
-            execute::note_wet_partial(v, dry);
-            x.push_outcome(outcomes, job, Some(Reason::ConditionUnevaluable), x.effects)
+            execute::note_wet_partial(lent.state, dry);
+            let x = lent.handled;
+            let reason = Some(Reason::ConditionUnevaluable);
+            lent.handled = x.push_outcome(lent.outcomes, job, reason, x.effects);
         }
     }
 }
 
 // A continuation of rule i goes on where it stood, under its own number.
-pub fn resume(
-    snapshot: &[u32],
-    image: &Image,
-    rule: &FlatRule,
-    outcomes: &mut [u32],
-    effects: &mut [u32],
-    v: &mut State,
-    x: Handled,
-    i: u32,
-    c: Pending,
-) -> Handled
+pub fn resume(snapshot: &[u32], image: &Image, rule: &FlatRule, lent: &mut Lent, i: u32, c: Pending)
     requires named { rule_named image.now c.rule ≡ Some i }
-    requires budget_bound { (c.budget ≤ 256) × Room 1 (carried v.old x) }
-    ensures { Resumes snapshot.now image.now rule.now.part.now rule.now.own i c (carried v.old x) outcomes.old effects.old (carried v.new result) outcomes.new effects.new }
+    requires budget_bound { (c.budget ≤ 256) × Room 1 (carried_by lent.old) }
+    ensures { Over (Resumes snapshot.now image.now rule.now.part.now rule.now.own i c) lent.old lent.new }
 {
-    let from = c.point;
     let job = job_of(image, c.rule, i, c.trigger, false, c.number);
     let env = Env {
         snapshot,
         image,
         job,
     };
-    state::bump(v, Counter::ContinuationsFired, 1);
-    execute::run_wet(&env, rule, outcomes, effects, v, x, from, c.budget)
+    state::bump(lent.state, Counter::ContinuationsFired, 1);
+    execute::run_wet(&env, rule, lent, c.point, c.budget);
 }

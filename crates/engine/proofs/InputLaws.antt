@@ -15,7 +15,7 @@ use Rattle.state.specs.Meaning.{AllNumbered, meaning}
 use Rattle.activate.specs.Handled.{Continues}
 use Rattle.activate.specs.Carried.{Carried}
 use Rattle.activate.specs.declared.Handled.{Handled}
-use Rattle.engine.specs.Seen.{seen}
+use Rattle.engine.specs.Seen.{Seen, seen}
 use Rattle.engine.specs.Asked.{lowest_of}
 use Rattle.engine.specs.Answers.{handled_values, shown}
 use Rattle.engine.specs.Handling.{begun, Commits}
@@ -38,3 +38,8 @@ input-ends Tick snap w os es s v ow ew ow₁ ew₁ w' ow' ew' x r t e z o f a u 
     tick-ends snap w os es s v ow ew ow₁ ew₁ w' ow' ew' x r t e z o f a u c l m k
 input-ends (RunRule name dry) snap w os es s v ow ew ow₁ ew₁ w' ow' ew' x r t e z o f a u c l m k =
     run-ends name dry snap w os es s v ow ew ow₁ ew₁ w' ow' ew' x r t e z o f a u c l m k
+
+-- where the words that were lent are told by the names of what was lent
+pub told-ends : {G H : Type 0} {a b : G} {c d : H} (r : Result Handled Refusal) (w : List ℕ) {ow ew ow' ew' : List ℕ} {x : Seen} → a ≡ b → (a ≡ b → ow' ≡ ow) → c ≡ d → (c ≡ d → ew' ≡ ew)
+    → shown handled_values r w ow ew ≡ x → shown handled_values r w ow' ew' ≡ x
+told-ends r w e g f h k = rw (g e, h f) k

@@ -11,11 +11,10 @@ use Rattle.model.specs.State.{Env}
 use Rattle.model.specs.Wheel.{activate_each, resume_all, fire_due_wall_rules}
 use Rattle.model.specs.declared.Pending.{Pending}
 use Rattle.state.specs.Meaning.{Means, meaning, base}
-use Rattle.activate.specs.Carried.{Carried, carried}
+use Rattle.activate.specs.Carried.{Carried}
 use Rattle.activate.proofs.Continues.{with_vol}
 use Rattle.wheel.specs.Tick.{Fires, count_missed}
 use Rattle.wheel.specs.Turns.{Turns}
-use Rattle.wheel.specs.declared.schedules.WallTurn.{WallTurn}
 use Rattle.wheel.proofs.Each.{each_left, each-turns, each-ends, resume_left, resume-turns, resume-ends}
 use Rattle.wheel.proofs.Fires.{same-part, changed}
 use Rattle.wheel.proofs.Going.{Going, going-starts, going-turns, going-closes, going-ends}
@@ -67,11 +66,11 @@ module _ (e : Env) (from window : ℕ) (order : List ℕ) where
   turning-starts x₀ ow₀ ew₀ = going-starts 1 (fire_due_wall_rules e from window false order) x₀ ow₀ ew₀
 
   module _ {x₀ : Carried} {ow₀ ew₀ : List ℕ} (missed : Bool) {j : ℕ} {x : Carried} {ow ew : List ℕ} (inv : Turning x₀ ow₀ ew₀ missed j x ow ew) where
-    pub turning-goes : (d i : ℕ) {w : List ℕ} {t : WallTurn} {ow' ew' : List ℕ} → j < length order → i ≡ get_or order j d → Turns e from window i missed x ow ew w t ow' ew'
-        → Turning x₀ ow₀ ew₀ t.missed (j + 1) (carried w t.handled) ow' ew'
-    turning-goes d i {w} {t} {ow'} {ew'} h is g =
-        going-turns 1 (fire_due_wall_rules e from window false order) x₀ ow₀ ew₀ j (wall_left e from window order missed j) x ow ew inv _ (wall_left e from window order t.missed (j + 1)) (carried w t.handled) ow' ew'
-        (wall-turns e from window order missed t.missed j d (meaning x.vol) h (rw is at g.missed))
+    pub turning-goes : (d i : ℕ) (after : Bool) {y : Carried} {ow' ew' : List ℕ} → j < length order → i ≡ get_or order j d → Turns e from window i missed after x ow ew y ow' ew'
+        → Turning x₀ ow₀ ew₀ after (j + 1) y ow' ew'
+    turning-goes d i after {y} {ow'} {ew'} h is g =
+        going-turns 1 (fire_due_wall_rules e from window false order) x₀ ow₀ ew₀ j (wall_left e from window order missed j) x ow ew inv _ (wall_left e from window order after (j + 1)) y ow' ew'
+        (wall-turns e from window order missed after j d (meaning x.vol) h (rw is at g.missed))
         (rw is at g.fires)
 
     pub turning-ends : (n : ℕ) {w : List ℕ} → length order ≤ j → j ≤ n → Means w (base x.vol) (count_missed missed (meaning x.vol)) → Fires n (fire_due_wall_rules e from window false order) x₀ ow₀ ew₀ (with_vol w x) ow ew

@@ -17,8 +17,7 @@ use Rattle.model.specs.World.{world_of}
 use Rattle.state.specs.Meaning.{Means, meaning, base}
 use Rattle.state.proofs.Follows.{follows}
 use Rattle.activate.specs.Handled.{Room}
-use Rattle.activate.specs.Carried.{Carried, carried}
-use Rattle.activate.specs.declared.Handled.{Handled}
+use Rattle.activate.specs.Carried.{Carried}
 use Rattle.activate.proofs.Continues.{with_vol}
 use Rattle.wheel.specs.Tick.{tick_env, Fires, turn_handled, count_missed, remembering, without_wall}
 use Rattle.wheel.specs.Turns.{Turns}
@@ -40,25 +39,25 @@ module _ (s : model-state.Volatile) (r : List ℕ) (base : ℕ) where
   uncounted true h m = let z : ◌≡◌ {A = ℕ} 0 1 = cc in absurd (omega arith)
 
 -- ---- a rule's turn
-module _ (snapshot image : List ℕ) (from window i : ℕ) (missed : Bool) (v : List ℕ) (x : Handled) {on : Bool} (is : on ≡ is_enabled (meaning v).rest i) where
+module _ (snapshot image : List ℕ) (from window i : ℕ) (missed : Bool) (x : Carried) {on : Bool} (is : on ≡ is_enabled (meaning x.vol).rest i) where
   abbrev env : Env
   env = tick_env snapshot image
 
-  pub passes-by : (ow ew : List ℕ) → not on ≡ true → Turns env from window i missed (carried v x) ow ew v (record { handled = x; missed = missed }) ow ew
+  pub passes-by : (ow ew : List ℕ) → not on ≡ true → Turns env from window i missed missed x ow ew x ow ew
   passes-by ow ew h = record {
-    fires = skips 1 (turn_handled env from window i) (carried v x) ow ew (turn-off env from window i missed (meaning v) is h);
-    missed = missed-off env from window i missed (meaning v) is h;
+    fires = skips 1 (turn_handled env from window i) x ow ew (turn-off env from window i missed (meaning x.vol) is h);
+    missed = missed-off env from window i missed (meaning x.vol) is h;
   }
 
   due-here : (w : WallKind) → Kind snapshot from window missed (triggers_of image i) w → wall_kind w ≡ missed_too missed (due_wall_kind env from window (triggers_of env.set.image i))
   unfolding tick_env set_of
   due-here w k = k image (set_of image (flatten_rules image)).flat
 
-  pub takes-turn : (w : WallKind) {ow ew u : List ℕ} (r : Handled) {ow' ew' : List ℕ} → not on ≡ false → Kind snapshot from window missed (triggers_of image i) w
-      → Fires 1 (start_wall (number_if w.kind) env i) (carried v x) ow ew (carried u r) ow' ew' → Turns env from window i missed (carried v x) ow ew u (record { handled = r; missed = w.unsynced }) ow' ew'
-  takes-turn w r h k f =
+  pub takes-turn : (w : WallKind) {ow ew : List ℕ} {r : Carried} {ow' ew' : List ℕ} → not on ≡ false → Kind snapshot from window missed (triggers_of image i) w
+      → Fires 1 (start_wall (number_if w.kind) env i) x ow ew r ow' ew' → Turns env from window i missed w.unsynced x ow ew r ow' ew'
+  takes-turn w h k f =
       let d = due-here w k in
-      let m = meaning v in
+      let m = meaning x.vol in
       record {
         fires = same-part 1 (start_wall (number_if w.kind) env i) (turn_handled env from window i) (turn_on env from window i missed m is h ∙ ap (λ (o : Option ℕ). start_wall o env i m) (sym (ap (λ (y : wheel.WallKind). y.kind) d))) f;
         missed = ap (λ (y : wheel.WallKind). y.unsynced) d ∙ sym (missed-on env from window i missed m is h);

@@ -62,9 +62,6 @@ pub record Ready (snapshot image store : List ℕ) (v : List ℕ) : Type 0 where
   pub pending : all (fits_set image) (meaning v).pending ≡ true
   pub records : HasRecords store v
 
-abbrev pub start : List ℕ → Carried
-start v = record { vol = v; outcomes = 0; effects = 0 }
-
 -- a timer is a trigger of rule i
 unfoldable pub on_timer : List ℕ → ℕ → ℕ → Bool
 on_timer img timer i = any (fires_on timer) (triggers_of img i)

@@ -7,7 +7,7 @@ ghost use Rattle.model.specs.Snapshot.{snapshot_refusal};
 ghost use Rattle.model.specs.Wheel.{start_wall, fire_due_wall_rules, window_of, fire_window, is_set_back, fire_wall_at, fire_wall_schedules};
 ghost use Rattle.state.specs.Meaning.{Means, meaning, base};
 ghost use Rattle.world.specs.Ranges.{WallInRange};
-ghost use Rattle.activate.specs.Carried.{carried};
+ghost use Rattle.activate.specs.Carried.{carried_by, Over};
 ghost use Rattle.activate.specs.Handled.{Room};
 ghost use Rattle.wheel.specs.Given.{env_of};
 ghost use Rattle.wheel.specs.Tick.{Fires, count_missed, remembering, without_wall};
@@ -18,7 +18,7 @@ use crate::minutes::{WEEK_MINUTES, Window, cyclic_dist, week_minute};
 use crate::rules::activate_rule;
 use crate::wall::{due_wall_kind, has_wall_triggers};
 use crate::{Env, Rule};
-use activate::Handled;
+use activate::Lent;
 use counters::Counter;
 use model::{TriggerKind, WallTime};
 use state::State;
@@ -30,55 +30,28 @@ const CATCH_UP_MINUTES: u64 = 60;
 // A clock set back by so many minutes at most starts nothing.
 const SET_BACK_MINUTES: u64 = 120;
 
-// A rule's turn: what was done so far, and whether a sun was missed so far.
-// kept: the two belong to every turn, and neither says whether the other is there, so that an Option of one would say no more.
-#[derive(Clone, Copy)]
-pub struct WallTurn {
-    pub handled: Handled,
-    pub missed: bool,
-}
-
 // A rule starts, where a trigger of it is due.
-fn start_wall(
-    rule: &Rule,
-    outcomes: &mut [u32],
-    effects: &mut [u32],
-    v: &mut State,
-    x: Handled,
-    kind: Option<TriggerKind>,
-) -> Handled
-    requires { Room 1 (carried v.old x) }
-    ensures { Fires 1 (start_wall (number_if kind) (env_of rule.now.env.now) rule.now.i) (carried v.old x) outcomes.old effects.old (carried v.new result) outcomes.new effects.new }
+fn start_wall(rule: &Rule, lent: &mut Lent, kind: Option<TriggerKind>)
+    requires { Room 1 (carried_by lent.old) }
+    ensures { Over (Fires 1 (start_wall (number_if kind) (env_of rule.now.env.now) rule.now.i)) lent.old lent.new }
 {
-    match kind {
-        Some(kind) => activate_rule(rule, outcomes, effects, v, x, kind),
-        None => x,
+    if let Some(kind) = kind {
+        activate_rule(rule, lent, kind);
     }
 }
 
-fn wall_turn(
-    rule: &Rule,
-    outcomes: &mut [u32],
-    effects: &mut [u32],
-    v: &mut State,
-    x: Handled,
-    window: Window,
-    missed: bool,
-) -> WallTurn
-    requires { Room 1 (carried v.old x) }
-    ensures { Turns (env_of rule.now.env.now) window.base window.window rule.now.i missed (carried v.old x) outcomes.old effects.old v.new result outcomes.new effects.new }
+// A rule's turn: whether a sun was missed so far.
+fn wall_turn(rule: &Rule, lent: &mut Lent, window: Window, missed: bool) -> bool
+    requires { Room 1 (carried_by lent.old) }
+    ensures { Over (Turns (env_of rule.now.env.now) window.base window.window rule.now.i missed result) lent.old lent.new }
 {
-    if !is_enabled(v, rule.i as usize) {
-        return WallTurn { handled: x, missed };
+    if !is_enabled(lent.state, rule.i as usize) {
+        return missed;
     }
     let env = rule.env;
     let w = due_wall_kind(env.snapshot, env.image, window, rule.i, missed);
-    let kind = w.kind;
-    let handled = start_wall(rule, outcomes, effects, v, x, kind);
-    WallTurn {
-        handled,
-        missed: w.unsynced,
-    }
+    start_wall(rule, lent, w.kind);
+    w.unsynced
 }
 
 // A tick without the time that it was asked for is counted.
@@ -90,27 +63,16 @@ fn count_missed(v: &mut State, missed: bool)
     }
 }
 
-fn fire_due_wall_rules(
-    env: &Env,
-    outcomes: &mut [u32],
-    effects: &mut [u32],
-    v: &mut State,
-    x: Handled,
-    window: Window,
-) -> Handled
-    requires { Room 64 (carried v.old x) }
-    ensures { Fires 64 (fire_due_wall_rules (env_of env.now) window.base window.window false (name_order env.now.image.now)) (carried v.old x) outcomes.old effects.old (carried v.new result) outcomes.new effects.new }
+fn fire_due_wall_rules(env: &Env, lent: &mut Lent, window: Window)
+    requires { Room 64 (carried_by lent.old) }
+    ensures { Over (Fires 64 (fire_due_wall_rules (env_of env.now) window.base window.window false (name_order env.now.image.now))) lent.old lent.new }
 {
-    let mut h = x;
     let mut missed = false;
     for i in env.order {
         let rule = Rule { env, i: *i };
-        let turn = wall_turn(&rule, outcomes, effects, v, h, window, missed);
-        h = turn.handled;
-        missed = turn.missed;
+        missed = wall_turn(&rule, lent, window, missed);
     }
-    count_missed(v, missed);
-    h
+    count_missed(lent.state, missed);
 }
 
 fn window_of(prev: u64, minute: u64) -> u64
@@ -131,26 +93,18 @@ fn is_set_back(prev: u32, minute: u64) -> bool
     behind.in_window(prev as u64)
 }
 
-fn fire_window(
-    env: &Env,
-    outcomes: &mut [u32],
-    effects: &mut [u32],
-    v: &mut State,
-    x: Handled,
-    minute: u64,
-    window: u64,
-) -> Handled
-    requires { Room 64 (carried v.old x) × (minute < 10080) × (window ≤ 60) }
-    ensures { Fires 64 (fire_window (env_of env.now) minute window) (carried v.old x) outcomes.old effects.old (carried v.new result) outcomes.new effects.new }
+fn fire_window(env: &Env, lent: &mut Lent, minute: u64, window: u64)
+    requires { Room 64 (carried_by lent.old) × (minute < 10080) × (window ≤ 60) }
+    ensures { Over (Fires 64 (fire_window (env_of env.now) minute window)) lent.old lent.new }
 {
-    if !has_wall_triggers(env.image, v) {
-        return x;
+    if !has_wall_triggers(env.image, lent.state) {
+        return;
     }
     if window == 0 {
-        return x;
+        return;
     }
     let base = (minute + WEEK_MINUTES - window) % WEEK_MINUTES;
-    fire_due_wall_rules(env, outcomes, effects, v, x, Window { base, window })
+    fire_due_wall_rules(env, lent, Window { base, window });
 }
 
 fn remember(v: &mut State, minute: u32)
@@ -160,27 +114,20 @@ fn remember(v: &mut State, minute: u32)
 }
 
 // The minute of this tick is remembered, and what has become due since the one before starts, unless the clock was set back.
-fn fire_wall_at(
-    env: &Env,
-    outcomes: &mut [u32],
-    effects: &mut [u32],
-    v: &mut State,
-    x: Handled,
-    w: WallTime,
-) -> Handled
-    requires { Room 64 (carried v.old x) × WallInRange w }
-    ensures { Fires 64 (fire_wall_at (Some w) (env_of env.now)) (carried v.old x) outcomes.old effects.old (carried v.new result) outcomes.new effects.new }
+fn fire_wall_at(env: &Env, lent: &mut Lent, w: WallTime)
+    requires { Room 64 (carried_by lent.old) × WallInRange w }
+    ensures { Over (Fires 64 (fire_wall_at (Some w) (env_of env.now))) lent.old lent.new }
 {
-    let prev = state::prev_week_min(v);
+    let prev = state::prev_week_min(lent.state);
     let minute = week_minute(w);
-    remember(v, minute);
-    let Some(before) = prev else { return x };
+    remember(lent.state, minute);
+    let Some(before) = prev else { return };
     let to = minute as u64;
     if is_set_back(before, to) {
-        return x;
+        return;
     }
     let window = window_of(before as u64, to);
-    fire_window(env, outcomes, effects, v, x, to, window)
+    fire_window(env, lent, to, window);
 }
 
 // Without a wall clock the minute before is forgotten.
@@ -192,21 +139,12 @@ fn without_clock(env: &Env, v: &mut State)
     state::set_prev_week_min(v, None);
 }
 
-pub fn fire_wall_schedules(
-    env: &Env,
-    outcomes: &mut [u32],
-    effects: &mut [u32],
-    v: &mut State,
-    x: Handled,
-) -> Handled
-    requires { Room 64 (carried v.old x) × (snapshot_refusal env.now.snapshot.now ≡ 0) }
-    ensures { Fires 64 (fire_wall_schedules (env_of env.now)) (carried v.old x) outcomes.old effects.old (carried v.new result) outcomes.new effects.new }
+pub fn fire_wall_schedules(env: &Env, lent: &mut Lent)
+    requires { Room 64 (carried_by lent.old) × (snapshot_refusal env.now.snapshot.now ≡ 0) }
+    ensures { Over (Fires 64 (fire_wall_schedules (env_of env.now))) lent.old lent.new }
 {
     match world::wall(env.snapshot) {
-        Some(w) => fire_wall_at(env, outcomes, effects, v, x, w),
-        None => {
-            without_clock(env, v);
-            x
-        }
+        Some(w) => fire_wall_at(env, lent, w),
+        None => without_clock(env, lent.state),
     }
 }

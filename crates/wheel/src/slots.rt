@@ -1,70 +1,47 @@
 // The Every slots that are due: each is due again a period from now, and then their rules start.
 ghost use Rattle.std.specs.Prelude.{◌≤◌, length};
 ghost use Rattle.model.specs.Wheel.{by_every, activate_each, fire_every};
-ghost use Rattle.activate.specs.Carried.{carried};
+ghost use Rattle.activate.specs.Carried.{carried_by, Over};
 ghost use Rattle.activate.specs.Handled.{Room};
 ghost use Rattle.wheel.specs.Given.{env_of};
 ghost use Rattle.wheel.specs.Tick.{Fires, rules_of_slot, rules_of_slots};
 
 use crate::rules::activate_if_enabled;
 use crate::{Env, Rule};
-use activate::Handled;
+use activate::Lent;
 use model::{EverySlot, TriggerKind};
-use state::State;
 use state::slots::{due_slots, move_slots};
 
-fn fire_slot(
-    env: &Env,
-    outcomes: &mut [u32],
-    effects: &mut [u32],
-    v: &mut State,
-    x: Handled,
-    slot: EverySlot,
-) -> Handled
-    requires { Room 1 (carried v.old x) }
-    ensures { Fires 1 (activate_each (env_of env.now) by_every (rules_of_slot env.now.image.now slot)) (carried v.old x) outcomes.old effects.old (carried v.new result) outcomes.new effects.new }
+fn fire_slot(env: &Env, lent: &mut Lent, slot: EverySlot)
+    requires { Room 1 (carried_by lent.old) }
+    ensures { Over (Fires 1 (activate_each (env_of env.now) by_every (rules_of_slot env.now.image.now slot))) lent.old lent.new }
 {
     match env.image.rule_named(slot.rule) {
         Some(i) => {
             let rule = Rule { env, i };
-            activate_if_enabled(&rule, outcomes, effects, v, x, TriggerKind::Every)
+            activate_if_enabled(&rule, lent, TriggerKind::Every);
         }
-        None => x,
+        None => {}
     }
 }
 
-fn fire_slots(
-    env: &Env,
-    outcomes: &mut [u32],
-    effects: &mut [u32],
-    v: &mut State,
-    x: Handled,
-    due: &[EverySlot],
-) -> Handled
+fn fire_slots(env: &Env, lent: &mut Lent, due: &[EverySlot])
     requires few { length due.now ≤ 64 }
-    requires room { Room 64 (carried v.old x) }
-    ensures { Fires 64 (activate_each (env_of env.now) by_every (rules_of_slots env.now.image.now due.now)) (carried v.old x) outcomes.old effects.old (carried v.new result) outcomes.new effects.new }
+    requires room { Room 64 (carried_by lent.old) }
+    ensures { Over (Fires 64 (activate_each (env_of env.now) by_every (rules_of_slots env.now.image.now due.now))) lent.old lent.new }
 {
-    let mut h = x;
     for slot in due {
-        h = fire_slot(env, outcomes, effects, v, h, *slot);
+        fire_slot(env, lent, *slot);
     }
-    h
 }
 
 // kept: see `fire_continuations`.
-pub fn fire_every(
-    env: &Env,
-    outcomes: &mut [u32],
-    effects: &mut [u32],
-    v: &mut State,
-    x: Handled,
-) -> Handled
-    requires { Room 64 (carried v.old x) }
-    ensures { Fires 64 (fire_every (env_of env.now)) (carried v.old x) outcomes.old effects.old (carried v.new result) outcomes.new effects.new }
+pub fn fire_every(env: &Env, lent: &mut Lent)
+    requires { Room 64 (carried_by lent.old) }
+    ensures { Over (Fires 64 (fire_every (env_of env.now))) lent.old lent.new }
 {
     let time = world::now_ms(env.snapshot);
-    let due = due_slots(v, time);
-    move_slots(v, time);
-    fire_slots(env, outcomes, effects, v, x, due.as_slice())
+    let due = due_slots(lent.state, time);
+    move_slots(lent.state, time);
+    fire_slots(env, lent, due.as_slice());
 }

@@ -3,16 +3,15 @@ ghost use Rattle.std.specs.Prelude.{◌≡◌, [], ◌∷◌, ◌≤◌, length}
 ghost use Rattle.model.specs.Lists.{any, keep};
 ghost use Rattle.model.specs.Rules.{triggers_of};
 ghost use Rattle.model.specs.Wheel.{by_timer, fires_on, activate_each, rules_on_timer, fire_timers};
-ghost use Rattle.activate.specs.Carried.{carried};
+ghost use Rattle.activate.specs.Carried.{carried_by, Over};
 ghost use Rattle.activate.specs.Handled.{Room};
 ghost use Rattle.wheel.specs.Given.{env_of};
 ghost use Rattle.wheel.specs.Tick.{Fires, on_timer, rules_of_timers};
 
 use crate::rules::activate_if_enabled;
 use crate::{Env, Rule};
-use activate::Handled;
+use activate::Lent;
 use model::{NamedTimer, Trigger, TriggerKind};
-use state::State;
 use state::timers::{due_timers, without_due};
 
 fn is_timer(trigger: Trigger, timer: u32) -> bool
@@ -31,74 +30,42 @@ fn fires_on(rule: &Rule, timer: u32) -> bool
 }
 
 // The rule, where it has the timer as a trigger.
-fn fire_rule(
-    rule: &Rule,
-    outcomes: &mut [u32],
-    effects: &mut [u32],
-    v: &mut State,
-    x: Handled,
-    timer: u32,
-) -> Handled
-    requires { Room 1 (carried v.old x) }
-    ensures { Fires 1 (activate_each (env_of rule.now.env.now) by_timer (keep (on_timer rule.now.env.now.image.now timer) (rule.now.i ∷ []))) (carried v.old x) outcomes.old effects.old (carried v.new result) outcomes.new effects.new }
+fn fire_rule(rule: &Rule, lent: &mut Lent, timer: u32)
+    requires { Room 1 (carried_by lent.old) }
+    ensures { Over (Fires 1 (activate_each (env_of rule.now.env.now) by_timer (keep (on_timer rule.now.env.now.image.now timer) (rule.now.i ∷ [])))) lent.old lent.new }
 {
-    if !fires_on(rule, timer) {
-        return x;
+    if fires_on(rule, timer) {
+        activate_if_enabled(rule, lent, TriggerKind::TimerFires);
     }
-    activate_if_enabled(rule, outcomes, effects, v, x, TriggerKind::TimerFires)
 }
 
-fn fire_one_timer(
-    env: &Env,
-    outcomes: &mut [u32],
-    effects: &mut [u32],
-    v: &mut State,
-    x: Handled,
-    timer: u32,
-) -> Handled
-    requires { Room 64 (carried v.old x) }
-    ensures { Fires 64 (activate_each (env_of env.now) by_timer (rules_on_timer env.now.image.now timer)) (carried v.old x) outcomes.old effects.old (carried v.new result) outcomes.new effects.new }
+fn fire_one_timer(env: &Env, lent: &mut Lent, timer: u32)
+    requires { Room 64 (carried_by lent.old) }
+    ensures { Over (Fires 64 (activate_each (env_of env.now) by_timer (rules_on_timer env.now.image.now timer))) lent.old lent.new }
 {
-    let mut h = x;
     for i in env.order {
         let rule = Rule { env, i: *i };
-        h = fire_rule(&rule, outcomes, effects, v, h, timer);
+        fire_rule(&rule, lent, timer);
     }
-    h
 }
 
-fn fire_due_timers(
-    env: &Env,
-    outcomes: &mut [u32],
-    effects: &mut [u32],
-    v: &mut State,
-    x: Handled,
-    due: &[NamedTimer],
-) -> Handled
+fn fire_due_timers(env: &Env, lent: &mut Lent, due: &[NamedTimer])
     requires few { length due.now ≤ 16 }
-    requires room { Room 1024 (carried v.old x) }
-    ensures { Fires 1024 (activate_each (env_of env.now) by_timer (rules_of_timers env.now.image.now due.now)) (carried v.old x) outcomes.old effects.old (carried v.new result) outcomes.new effects.new }
+    requires room { Room 1024 (carried_by lent.old) }
+    ensures { Over (Fires 1024 (activate_each (env_of env.now) by_timer (rules_of_timers env.now.image.now due.now))) lent.old lent.new }
 {
-    let mut h = x;
     for t in due {
-        h = fire_one_timer(env, outcomes, effects, v, h, t.name);
+        fire_one_timer(env, lent, t.name);
     }
-    h
 }
 
 // kept: see `fire_continuations`.
-pub fn fire_timers(
-    env: &Env,
-    outcomes: &mut [u32],
-    effects: &mut [u32],
-    v: &mut State,
-    x: Handled,
-) -> Handled
-    requires { Room 1024 (carried v.old x) }
-    ensures { Fires 1024 (fire_timers (env_of env.now)) (carried v.old x) outcomes.old effects.old (carried v.new result) outcomes.new effects.new }
+pub fn fire_timers(env: &Env, lent: &mut Lent)
+    requires { Room 1024 (carried_by lent.old) }
+    ensures { Over (Fires 1024 (fire_timers (env_of env.now))) lent.old lent.new }
 {
     let time = world::now_ms(env.snapshot);
-    let due = due_timers(v, time);
-    without_due(v, time);
-    fire_due_timers(env, outcomes, effects, v, x, due.as_slice())
+    let due = due_timers(lent.state, time);
+    without_due(lent.state, time);
+    fire_due_timers(env, lent, due.as_slice());
 }

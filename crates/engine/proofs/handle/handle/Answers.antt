@@ -1,9 +1,10 @@
 -- `engine::handle::handle` meets its contract. Assumes nothing.
-use Rattle.std.proofs.Common.{sym, ◌∙◌}
+use Rattle.std.proofs.Common.{refl, sym, ◌∙◌, rules}
 use Rattle.std.proofs.lemmas.Result.{err_from_is_err_and}
 use lib.ListN.{length}
+use Rattle.wheel.proofs.Fires.{same-outcomes, same-effects}
 use Rattle.engine.specs.Answers.{handled_values}
-use Rattle.engine.proofs.InputLaws.{input-declined, input-ends}
+use Rattle.engine.proofs.InputLaws.{input-declined, input-ends, told-ends}
 use Rattle.engine.proofs.SizedLaws.{unsized-lowest, array-is}
 use Rattle.engine.proofs.handle.handle.Goals as goal
 
@@ -21,14 +22,17 @@ returns-in_err-checked c =
     let p = err_from_is_err_and c.from_residual-in_err-checked.result c.from_residual-in_err-checked.ensures.1 in
     rw (p.1, p.2, ← s.same) (input-declined handled_values a.input a.snapshot.now (length a.outcomes.now) (length a.effects.now) _ _ _ _ c.in_err-checked.ensures.number c.clear.ensures c.clear-2.ensures)
 
-pub dispatch-x-requires : goal.dispatch-x-requires
-dispatch-x-requires c = (c.in_ok-checked.ensures.accepted, c.begin.ensures)
+pub dispatch-requires : goal.dispatch-requires
+dispatch-requires c = record { ready = (c.in_ok-checked.ensures.accepted, c.begin.ensures); nothing = refl }
 
 pub returns : goal.returns
 returns c =
     let a = c.args in
     let s = array-is _ _ _ c.as_mut_array.ensures.cases (sym c.ok_or.ensures.value ∙ c.in_ok-words.was) in
+    let d = c.dispatch.ensures in
+    let e = c.commit.ensures in
     rw (← s.same)
+    (told-ends c.commit.result _ (sym (e.same.0 ∙ d.same.0)) (search rules) (sym (e.same.1 ∙ d.same.1)) (search rules)
     (input-ends a.input a.snapshot.now _ (length a.outcomes.now) (length a.effects.now) _ _ _ _ _ _ _ _ _ _ _ _
     c.in_ok-checked.ensures.value c.in_ok-checked.ensures.accepted c.clear.ensures c.clear-2.ensures c.begin.ensures c.now_ms.ensures
-    c.dispatch-x.ensures c.outcomes-2-1.given c.effects-2-1.given c.commit.ensures)
+    d.does (same-outcomes d.does) (same-effects d.does) e.ends))

@@ -4,7 +4,7 @@ use mathlib.Core.Bool.{cond}
 use Rattle.model.specs.Activate as model
 use Rattle.activate.specs.Handled.{mode_of}
 use borrow.Author.Tests.{not-true, not-false}
-use Rattle.activate.specs.Carried.{carried}
+use Rattle.activate.specs.Carried.{carried_by}
 use Rattle.wheel.proofs.RuleParts.{part_says, keeps}
 use Rattle.engine.proofs.SetLaws.{loadable}
 use Rattle.engine.proofs.LoadedLaws.{image-of, set-of}
@@ -13,9 +13,12 @@ use Rattle.engine.proofs.handle.run_at.Goals as goal
 use Rattle.engine.proofs.handle.run_at.Goals.{then-dry, else-dry}
 
 pub returns-then-not-starts : goal.returns-then-not-starts
-returns-then-not-starts c set l =
+returns-then-not-starts c =
     let a = c.args in
-    not-started _ (carried a.v.now a.x) _ a.i _ _ _ a.dry c.starts.ensures (not-true _ c.if-not-starts.true-raw) c.bump.ensures refl refl
+    record {
+      does = λ set l. not-started _ (carried_by a.lent.now) _ a.i _ _ _ a.dry c.starts.ensures (not-true _ c.if-not-starts.true-raw) c.bump.ensures refl refl;
+      same = (refl, refl, refl);
+    }
 
 pub new-image-requires : goal.new-image-requires
 new-image-requires c =
@@ -40,12 +43,16 @@ activate-requires-clause-accepted c =
     rw c.new-image.ensures (loadable _ l.passes).accepted
 
 pub returns : goal.returns
-returns c set l =
+returns c =
     let a = c.args in
     let s = a.store.now in
-    let i = image-of _ _ s c.words-words.ensures c.image_in.ensures set l in
-    let n = rule-inside _ _ s i a.rule a.i c.requires.loaded in
     let m : mode_of c.if-dry.mode ≡ cond a.dry model.Dry model.Manual =
     elim c.if-dry.branch [ then-dry w ↦ rw (w.mode-is, w.if-dry.true) refl | else-dry w ↦ rw (w.mode-is, w.if-dry.false) refl ] in
-    started a.snapshot.now _ set (carried a.v.now a.x) _ a.i _ _ _ _ _ a.dry _ i.image c.starts.ensures (not-false _ c.if-not-starts.false-raw) m
-    ((rw c.new-image.ensures at c.activate.ensures.says) set.flat (part_says _ _ _ i.kept a.i n _ _ c.rule_flat-steps.ensures))
+    record {
+      does = λ set l.
+          let i = image-of _ _ s c.words-words.ensures c.image_in.ensures set l in
+          let n = rule-inside _ _ s i a.rule a.i c.requires.loaded in
+          started a.snapshot.now _ set (carried_by a.lent.now) _ a.i _ _ _ _ _ a.dry _ i.image c.starts.ensures (not-false _ c.if-not-starts.false-raw) m
+          ((rw c.new-image.ensures at c.activate.ensures.does.says) set.flat (part_says _ _ _ i.kept a.i n _ _ c.rule_flat-steps.ensures));
+      same = c.activate.ensures.same;
+    }

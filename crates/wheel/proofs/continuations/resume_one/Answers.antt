@@ -1,7 +1,7 @@
 -- `wheel::continuations::resume_one` meets its contract. Assumes nothing.
 use mathlib.Core.Path.{sym, ◌∙◌}
 use Rattle.image.proofs.Rules.{named_rule}
-use Rattle.activate.specs.Carried.{carried}
+use Rattle.activate.specs.Carried.{carried_by}
 use Rattle.wheel.proofs.Due.{small-budget, has-rule}
 use Rattle.wheel.proofs.Fires.{resumed}
 use Rattle.wheel.proofs.RuleParts.{part_says, keeps}
@@ -25,7 +25,10 @@ pub returns-in-Some : goal.returns-in-Some
 returns-in-Some c =
     let n = sym c.rule_named.ensures ∙ c.in-Some.is in
     let says = part_says _ _ _ c.args.env.now.holds.kept _ (named_rule _ _ _ n).0 _ _ c.rule_flat-steps.ensures in
-    resumed c.args.env.now.snapshot.now c.args.env.now.image.now _ _ _ (carried c.args.v.now c.args.x) _ _ _ _ _ says c.args.c c.resume.ensures
+    record {
+      does = resumed c.args.env.now.snapshot.now c.args.env.now.image.now _ _ _ (carried_by c.args.lent.now) _ _ _ _ _ says c.args.c c.resume.ensures.does;
+      same = c.resume.ensures.same;
+    }
 
 pub returns-in-None : goal.returns-in-None
 returns-in-None c =

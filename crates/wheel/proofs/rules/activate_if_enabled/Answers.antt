@@ -1,19 +1,26 @@
 -- `wheel::rules::activate_if_enabled` meets its contract. Assumes nothing.
+use mathlib.Core.Path.{refl}
 use Rattle.model.specs.Activate as model
 use Rattle.model.specs.Wheel.{activate_if_enabled}
 use Rattle.model.specs.Kinds.{trigger_number}
-use Rattle.activate.specs.Carried.{carried}
+use Rattle.activate.specs.Carried.{carried_by}
 use Rattle.wheel.specs.Tick.{tick_env}
 use Rattle.wheel.proofs.Each.{is-off, is-on}
 use Rattle.wheel.proofs.Fires.{same-part, skips}
 use Rattle.wheel.proofs.rules.activate_if_enabled.Goals as goal
 
-pub returns-then-not-is_enabled : goal.returns-then-not-is_enabled
-returns-then-not-is_enabled c =
+pub returns-else-is_enabled : goal.returns-else-is_enabled
+returns-else-is_enabled c =
     let e = tick_env c.args.rule.now.env.now.snapshot.now c.args.rule.now.env.now.image.now in
-    skips 1 (activate_if_enabled e (trigger_number c.args.kind) c.args.rule.now.i) (carried c.args.v.now c.args.x) _ _ (is-off e (trigger_number c.args.kind) c.args.rule.now.i _ c.is_enabled.ensures c.if-not-is_enabled.true-raw)
+    record {
+      does = skips 1 (activate_if_enabled e (trigger_number c.args.kind) c.args.rule.now.i) (carried_by c.args.lent.now) _ _ (is-off e (trigger_number c.args.kind) c.args.rule.now.i _ c.is_enabled.ensures (rw c.if-is_enabled.false refl));
+      same = (refl, refl, refl);
+    }
 
-pub returns : goal.returns
-returns c =
+pub returns-then-is_enabled : goal.returns-then-is_enabled
+returns-then-is_enabled c =
     let e = tick_env c.args.rule.now.env.now.snapshot.now c.args.rule.now.env.now.image.now in
-    same-part 1 (model.activate e c.args.rule.now.i (trigger_number c.args.kind) model.Auto) (activate_if_enabled e (trigger_number c.args.kind) c.args.rule.now.i) (is-on e (trigger_number c.args.kind) c.args.rule.now.i _ c.is_enabled.ensures c.if-not-is_enabled.false-raw) c.activate_rule.ensures
+    record {
+      does = same-part 1 (model.activate e c.args.rule.now.i (trigger_number c.args.kind) model.Auto) (activate_if_enabled e (trigger_number c.args.kind) c.args.rule.now.i) (is-on e (trigger_number c.args.kind) c.args.rule.now.i _ c.is_enabled.ensures (rw c.if-is_enabled.true refl)) c.activate_rule.ensures.does;
+      same = c.activate_rule.ensures.same;
+    }

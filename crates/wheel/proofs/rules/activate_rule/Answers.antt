@@ -1,6 +1,6 @@
 -- `wheel::rules::activate_rule` meets its contract. Assumes nothing.
 use Rattle.model.specs.Kinds.{trigger_number}
-use Rattle.activate.specs.Carried.{carried}
+use Rattle.activate.specs.Carried.{carried_by}
 use Rattle.store.proofs.SetRules.{image-accepted}
 use Rattle.wheel.proofs.Fires.{activated}
 use Rattle.wheel.proofs.RuleParts.{part_says, keeps}
@@ -15,4 +15,7 @@ activate-requires c = record { accepted = image-accepted _ c.args.rule.now.env.n
 pub returns : goal.returns
 returns c =
     let says = part_says _ _ _ c.args.rule.now.env.now.holds.kept _ c.args.rule.now.inside _ _ c.rule_flat-steps.ensures in
-    activated c.args.rule.now.env.now.snapshot.now c.args.rule.now.env.now.image.now _ _ c.args.rule.now.i (carried c.args.v.now c.args.x) _ _ _ _ _ says (trigger_number c.args.kind) c.activate.ensures
+    record {
+      does = activated c.args.rule.now.env.now.snapshot.now c.args.rule.now.env.now.image.now _ _ c.args.rule.now.i (carried_by c.args.lent.now) _ _ _ _ _ says (trigger_number c.args.kind) c.activate.ensures.does;
+      same = c.activate.ensures.same;
+    }

@@ -1,6 +1,6 @@
 -- `wheel::slots::fire_every` meets its contract. Assumes nothing.
 use mathlib.Core.Path.{◌∙◌}
-use Rattle.activate.specs.Carried.{carried}
+use Rattle.activate.specs.Carried.{carried_by}
 use Rattle.wheel.proofs.Fired.{slots-room, slots-fire}
 use Rattle.wheel.proofs.slots.fire_every.Goals as goal
 
@@ -8,9 +8,12 @@ pub fire_slots-requires : goal.fire_slots-requires
 fire_slots-requires c =
     record {
       few = c.as_slice.ensures.fits;
-      room = slots-room c.args.env.now.snapshot.now c.args.env.now.image.now _ c.now_ms-time.ensures (carried c.args.v.now c.args.x) _ c.move_slots.ensures 64 c.requires;
+      room = slots-room c.args.env.now.snapshot.now c.args.env.now.image.now _ c.now_ms-time.ensures (carried_by c.args.lent.now) _ c.move_slots.ensures 64 c.requires;
     }
 
 pub returns : goal.returns
 returns c =
-    slots-fire c.args.env.now.snapshot.now c.args.env.now.image.now _ c.now_ms-time.ensures (carried c.args.v.now c.args.x) _ c.move_slots.ensures _ (c.as_slice.ensures.value ∙ c.due_slots-due.ensures) c.fire_slots.ensures
+    record {
+      does = slots-fire c.args.env.now.snapshot.now c.args.env.now.image.now _ c.now_ms-time.ensures (carried_by c.args.lent.now) _ c.move_slots.ensures _ (c.as_slice.ensures.value ∙ c.due_slots-due.ensures) c.fire_slots.ensures.does;
+      same = c.fire_slots.ensures.same;
+    }

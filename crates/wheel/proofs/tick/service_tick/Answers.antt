@@ -9,10 +9,17 @@ use Rattle.wheel.proofs.tick.service_tick.Goals as goal
 pub invariant_of-env : goal.invariant_of-env
 invariant_of-env c =
     record {
-      holds = c.requires.holds;
+      holds = c.requires.ready.holds;
       ordered = ap (λ (n : ℕ). take n c.name_order-all.result) c.size_of.ensures ∙ c.name_order-all.ensures;
     }
 
 pub returns : goal.returns
 returns c =
-    whole-tick (tick_env c.args.snapshot.now c.args.image.now) c.fire_continuations-resumed.ensures c.fire_timers-timed.ensures c.fire_every-repeated.ensures c.fire_wall_schedules.ensures
+    let a = c.fire_continuations.ensures.same in
+    let b = c.fire_timers.ensures.same in
+    let d = c.fire_every.ensures.same in
+    let e = c.fire_wall_schedules.ensures.same in
+    record {
+      does = whole-tick (tick_env c.args.snapshot.now c.args.image.now) c.fire_continuations.ensures.does c.fire_timers.ensures.does c.fire_every.ensures.does c.fire_wall_schedules.ensures.does;
+      same = (e.0 ∙ d.0 ∙ b.0 ∙ a.0, e.1 ∙ d.1 ∙ b.1 ∙ a.1, e.2 ∙ d.2 ∙ b.2 ∙ a.2);
+    }

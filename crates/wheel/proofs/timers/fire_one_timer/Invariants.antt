@@ -2,11 +2,11 @@
 use mathlib.Core.List.{[], ◌∷◌}
 use Rattle.model.specs.Lists.{keep}
 use Rattle.model.specs.Wheel.{by_timer}
-use Rattle.activate.specs.Carried.{carried}
+use Rattle.activate.specs.Carried.{Over}
 use Rattle.wheel.specs.Tick.{tick_env, on_timer}
 use Rattle.wheel.proofs.Loops.{Starting}
 use Rattle.wheel.proofs.timers.fire_one_timer.Given as goal
 
 abbrev pub invariant-loop-i : goal.invariant-loop-i
 invariant-loop-i l =
-    Starting 1 (tick_env l.env.snapshot.now l.env.image.now) by_timer (λ i. keep (on_timer l.env.image.now l.timer) (i ∷ [])) l.env.order.now (carried l.initial.v l.initial.h) l.initial.outcomes l.initial.effects l.i-index (carried l.v l.h) l.outcomes l.effects
+    Over (λ x ow ew. Starting 1 (tick_env l.env.snapshot.now l.env.image.now) by_timer (λ i. keep (on_timer l.env.image.now l.timer) (i ∷ [])) l.env.order.now x ow ew l.i-index) l.initial.lent l.lent
