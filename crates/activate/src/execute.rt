@@ -77,7 +77,8 @@ fn run_dry(env: &Env, rule: &FlatRule, lent: &mut Lent)
     lent.handled = x.push_outcome(lent.outcomes, env.job, run.reason, run.count);
 }
 
-// kept: that the image is accepted, not only sized, is asked here and where it decides the budget; exec's Env asks less of its callers
+// kept: that the image is accepted is asked here, by `run_dry` and by `activate`, since it bounds the budget; `resume`, which takes the budget of its
+// `Pending`, makes an Env of any image
 pub fn execute(env: &Env, rule: &FlatRule, lent: &mut Lent)
     requires { Accepted env.now.image.now × Room 1 (carried_by lent.old) }
     ensures { Over (Executes env.now.snapshot.now env.now.image.now rule.now.part.now rule.now.own env.now.job) lent.old lent.new }

@@ -65,7 +65,8 @@ impl Mode {
 pub const OUTCOME_WORDS: usize = 8;
 
 // Rule `name`, at place i of the image, under an activation number.
-// kept: the trigger is a word: a continuation brings the one of its `Pending`, the record that the specification shares
+// kept: the trigger is a number: `resume` has the one of its `Pending`, the record that the specification shares, and a `TriggerKind` made of it would be a number
+// again in the outcome. The five parameters beside the image are the fields of the `Job`, but for the one that is read here.
 fn job_of(image: &Image, name: u32, i: u32, trigger: u32, dry: bool, number: u64) -> Job
     ensures { result ≡ record { rule = name; index = i; hold = hold_hcl_of image.now i; trigger = trigger; dry = dry; number = number } }
 {

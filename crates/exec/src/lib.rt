@@ -25,6 +25,9 @@ use state::State;
 use state::reasons::Reason;
 
 // What a run knows of its rule: name, place in the image, hold_hcl; and the trigger and the activation number for the outcome, 0 for none.
+// kept: a number of 0 does not say that a run is dry: a wet activation whose conditions cannot be evaluated takes no number either, and document 01's outcome
+// has the 0 of both. An enum of a wet run with its number and a dry one would lose that, and an Option would be made a number again for the outcome.
+// kept: the trigger is the word of the outcome: `resume` has it from its `Pending`, and nothing here asks which kind it is.
 #[derive(Clone, Copy)]
 pub struct Job {
     pub rule: u32,

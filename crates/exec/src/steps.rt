@@ -64,7 +64,8 @@ fn schedule(env: &Env, v: &mut State, left: u32, ms: u32, to: Point) -> Option<R
 }
 
 // What follows a wait is scheduled, and the run ends: also where the continuation is dropped.
-// kept: how many continuations were accepted is bounded by the budget that is left, of one step to the next; no type holds both
+// kept: that one more can be accepted is asked here, by `schedule`, `run_after` and `exec`: it is of the state and the budget that is left together, from one
+// step to the next, and no value holds both
 #[tactic(auto, unfolding(model::specs::Exec::exec))]
 fn run_wait(env: &Env, v: &mut State, left: u32, sp: Point, ms: u32) -> StepResult
     requires { (accepted v.old < max64) × (suc sp.place ≤ max32) }
