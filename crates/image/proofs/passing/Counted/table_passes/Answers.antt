@@ -1,6 +1,5 @@
 -- `image::passing::Counted::table_passes` meets its contract. Assumes nothing.
 use mathlib.Core.Path.{refl}
-use native.Mathlib.Omega.{arith}
 use borrow.Author.Rules.{rules}
 use Rattle.std.proofs.lemmas.Iterator.{serves_from_Range}
 use Rattle.fields.proofs.Chains.{computes-every}
