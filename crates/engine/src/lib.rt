@@ -15,7 +15,7 @@ ghost use Rattle.engine.specs.Asked.{next_start_on};
 use activate::Handled;
 use asked::{opened, opened_with};
 use handle::{EngineInput, handle};
-use image::layout::Image;
+use load::Loadable;
 use model::Refusal;
 use next::NextStart;
 use state::State;
@@ -41,10 +41,10 @@ pub fn load(store: &mut [u32], time: u64, image: &[u32]) -> Result<(), Refusal>
 {
     let words = store.as_mut_array().ok_or(Refusal::StoreLength)?;
     let checked = opened(words)?;
-    load::refusal(image)?;
+    let loadable = Loadable::of(image)?;
     let mut v = State::new();
-    sets::with_set(&checked, &Image::new(image), time, &mut v);
-    store::put_set::put_loaded(words, image);
+    sets::with_set(&checked, &loadable, time, &mut v);
+    store::put_set::put_loaded(words, &loadable);
     store::volatile::put_state(words, &v);
     store::set::put_last(words, time);
     Ok(())

@@ -1,7 +1,6 @@
 // What load and unload make of the parts that calls change.
 ghost use Rattle.std.specs.Prelude.{◌≡◌, ◌≤◌};
 ghost use Rattle.model.specs.Image.{size_of};
-ghost use Rattle.model.specs.Load.{image_refusal};
 ghost use Rattle.model.specs.Rows.{rules};
 ghost use Rattle.model.specs.State.{with_rest};
 ghost use Rattle.model.specs.Calls.{kept, rest_with, rest_without};
@@ -10,6 +9,7 @@ ghost use Rattle.engine.specs.Sets.{cleared, rule_of, rules_of};
 
 use every::kept::Slots;
 use image::layout::{Image, Table};
+use load::Loadable;
 use rows::row::Row;
 use state::State;
 use store::checked::Checked;
@@ -62,17 +62,17 @@ fn put_rules(store: &Checked, image: &Image, v: &mut State)
 }
 
 // The state with the set of an image that load accepts.
-pub fn with_set(store: &Checked, image: &Image, time: u64, v: &mut State)
-    requires { image_refusal image.now ≡ 0 }
+pub fn with_set(store: &Checked, image: &Loadable, time: u64, v: &mut State)
     ensures { AllNumbered v.new (cleared (rest_with image.now time store.now) store.now.vol) }
 {
     let words = store.words();
     store.begin(v);
     let n = u32::at(words, table::SLOTS) as usize;
     let old = Slots::new(words, table::SLOTS + 1, n);
-    every::rebuild_every(image, &old, time, v);
+    let tables = Image::new(image.words());
+    every::rebuild_every(&tables, &old, time, v);
     state::pending::drop_all(v);
-    put_rules(store, image, v);
+    put_rules(store, &tables, v);
     // This opens the value, so that what is known of it can be cited; no code comes of it.
     let _ = &v.words;
 }

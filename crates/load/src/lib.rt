@@ -11,6 +11,7 @@ ghost use Rattle.image.specs.Accepted.{Accepted};
 
 use image::layout::Image;
 use model::Refusal;
+use std::marker::Model;
 
 // 16 and 17 of an image that passes 10 to 15: 16 is decided first. Flattening is lent no words, so that it only counts.
 fn flat_refusal(img: &[u32]) -> Result<(), Refusal>
@@ -35,5 +36,43 @@ pub fn refusal(img: &[u32]) -> Result<(), Refusal>
     match image::refusal(img) {
         Ok(()) => flat_refusal(img),
         Err(refusal) => Err(refusal),
+    }
+}
+
+// The words of an image that load accepts, seen as these words.
+#[derive(Drop)]
+pub struct Loadable<'a> {
+    words: &'a [u32],
+}
+
+impl<'a> Model for Loadable<'a> {
+    ghost use Rattle.std.specs.Prelude.{◌≡◌, List, ℕ};
+    ghost use Rattle.model.specs.Load.{image_refusal};
+
+    ghost Value = { List ℕ };
+
+    ghost view = { λ i. i.words.now };
+
+    ghost invariant = { λ i. image_refusal i.words.now ≡ 0 };
+}
+
+impl<'a> Loadable<'a> {
+    ghost use Rattle.std.specs.Prelude.{IfOk};
+
+    // The words, where load accepts them; else why not.
+    pub fn of(words: &'a [u32]) -> Result<Loadable<'a>, Refusal>
+        ensures number { refusal_number result ≡ image_refusal words.now }
+        ensures value { IfOk result (λ image. image ≡ words.now) }
+    {
+        refusal(words)?;
+        Ok(Loadable { words })
+    }
+
+    // The words themselves.
+    pub fn words(&self) -> &'a [u32]
+        ensures same { result.now ≡ self.now }
+        ensures accepted { image_refusal result.now ≡ 0 }
+    {
+        self.words
     }
 }

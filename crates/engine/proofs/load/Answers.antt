@@ -8,7 +8,6 @@ use Rattle.engine.proofs.Seeing.{refused-seen}
 use Rattle.engine.proofs.SizedLaws.{unsized-number, array-is}
 use Rattle.engine.proofs.WordLaws.{saying}
 use Rattle.engine.proofs.CallLaws.{itself, words-fit, load-on, load-refused, load-seen}
-use Rattle.engine.proofs.SetLaws.{loadable}
 use Rattle.engine.proofs.load.Goals as goal
 
 pub returns-in_err-words : goal.returns-in_err-words
@@ -24,17 +23,11 @@ returns-in_err-checked c =
     let p = err_from_is_err_and c.from_residual-in_err-checked.result c.from_residual-in_err-checked.ensures.1 in
     rw (p.1, p.2, ← s.same) (refused-seen _ _ c.in_err-checked.ensures.number no_values (load a.time a.image.now) _ _ (load-on a.time a.image.now _) refl refl)
 
-pub returns-in_err-refusal : goal.returns-in_err-refusal
-returns-in_err-refusal c =
+pub returns-in_err-loadable : goal.returns-in_err-loadable
+returns-in_err-loadable c =
     let s = array-is _ _ _ c.as_mut_array.ensures.cases (sym c.ok_or.ensures.value ∙ c.in_ok-words.was) in
-    let p = err_from_is_err_and c.from_residual-in_err-refusal.result c.from_residual-in_err-refusal.ensures.1 in
-    rw (p.1, p.2, ← s.same) (load-refused no_values c.args.time c.args.image.now _ _ (saying _ _ c.in_ok-checked.ensures.value) c.in_err-refusal.ensures)
-
-pub new-requires : goal.new-requires
-new-requires c = (loadable _ (sym c.in_ok-refusal.ensures)).sized
-
-pub put_loaded-requires : goal.put_loaded-requires
-put_loaded-requires c = sym c.in_ok-refusal.ensures
+    let p = err_from_is_err_and c.from_residual-in_err-loadable.result c.from_residual-in_err-loadable.ensures.1 in
+    rw (p.1, p.2, ← s.same) (load-refused no_values c.args.time c.args.image.now _ _ (saying _ _ c.in_ok-checked.ensures.value) c.in_err-loadable.ensures.number)
 
 pub put_state-requires : goal.put_state-requires
 put_state-requires c = itself c.with_set.ensures
@@ -46,8 +39,8 @@ returns c =
     rw (← s.same)
     (load-seen c.args.time img _ _ _ _ _ (omega (arith, c.ranges.time))
     (words-fit img (λ i. omega (arith, c.shared_slice_known-1.given i)))
-    (sym c.in_ok-refusal.ensures) (saying _ _ c.in_ok-checked.ensures.value)
-    (rw c.new.ensures at c.with_set.ensures)
-    c.put_loaded.ensures
+    (sym c.in_ok-loadable.ensures.number) (saying _ _ c.in_ok-checked.ensures.value)
+    (rw c.in_ok-loadable.ensures.value at c.with_set.ensures)
+    (rw c.in_ok-loadable.ensures.value at c.put_loaded.ensures)
     c.put_state.ensures
     c.put_last.ensures)

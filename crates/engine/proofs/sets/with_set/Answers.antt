@@ -13,16 +13,19 @@ new-old-requires c =
     let k = saying _ _ c.words-words.ensures in
     omega (arith, c.at-n.ensures, (counted _ k.reads.readable).slots)
 
+pub new-tables-requires : goal.new-tables-requires
+new-tables-requires c = (loadable _ c.words.ensures.accepted).sized
+
 pub rebuild_every-requires : goal.rebuild_every-requires
-rebuild_every-requires c =
-    (loadable c.args.image.now c.requires).few_enough
+rebuild_every-requires c = rw c.new-tables.ensures (loadable _ c.words.ensures.accepted).few_enough
 
 pub put_rules-requires : goal.put_rules-requires
-put_rules-requires c = (loadable c.args.image.now c.requires).few
+put_rules-requires c = rw c.new-tables.ensures (loadable _ c.words.ensures.accepted).few
 
 pub returns : goal.returns
 returns c =
     let s = c.args.store.now in
     let v = sym c.begin.ensures.says in
-    set-taken c.args.image.now c.args.time s _ _ _ _ _ (rw (c.v.view_is) at c.v.invariant) (itself c.begin.ensures) v (c.new-old.ensures ∙ old-slots _ s _ c.words-words.ensures c.at-n.ensures ∙ ap (λ (m : Volatile). m.rest.every) v)
-    c.rebuild_every.ensures c.drop_all.ensures.0 c.put_rules.ensures
+    rw (← (c.new-tables.ensures ∙ c.words.ensures.same))
+    (set-taken c.new-tables.result c.args.time s _ _ _ _ _ (rw (c.v.view_is) at c.v.invariant) (itself c.begin.ensures) v (c.new-old.ensures ∙ old-slots _ s _ c.words-words.ensures c.at-n.ensures ∙ ap (λ (m : Volatile). m.rest.every) v)
+    c.rebuild_every.ensures c.drop_all.ensures.0 c.put_rules.ensures)

@@ -7,20 +7,21 @@ use Rattle.store.proofs.put_set.put_flat.Goals as goal
 
 pub flatten_rules-requires : goal.flatten_rules-requires
 flatten_rules-requires c = record {
-  checked = (loads c.args.image.now c.requires).checked;
+  checked = (loads c.words.result.now c.words.ensures.accepted).checked;
   words_len_bound = search rules;
 }
 
 pub returns-in_default : goal.returns-in_default
-returns-in_default c = absurd (over-never (flatten_rules c.args.image.now) _ _ (loads c.args.image.now c.requires).few c.flatten_rules.ensures.value c.in_default.is)
+returns-in_default c = absurd (over-never (flatten_rules c.words.result.now) _ _ (loads c.words.result.now c.words.ensures.accepted).few c.flatten_rules.ensures.value c.in_default.is)
 
 pub overflow_cast-n : goal.overflow_cast-n
 overflow_cast-n c =
-    let k = loads c.args.image.now c.requires in
-    let n = count-few c.args.image.now _ _ k c.flatten_rules.ensures.value c.in-Ok.is in
+    let k = loads c.words.result.now c.words.ensures.accepted in
+    let n = count-few c.words.result.now _ _ k c.flatten_rules.ensures.value c.in-Ok.is in
     search rules
 
 pub returns : goal.returns
 returns c =
-    flat-put c.args.image.now c.args.s.now _ _ _ _ _ _ _ (loads c.args.image.now c.requires) c.told-s (search rules) (search rules)
-    c.flatten_rules.ensures.value c.in-Ok.is c.flatten_rules.ensures.stored refl c.put.ensures c.put_words.ensures
+    rw (← c.words.ensures.same)
+    (flat-put c.words.result.now c.args.s.now _ _ _ _ _ _ _ (loads c.words.result.now c.words.ensures.accepted) c.told-s (search rules) (search rules)
+    c.flatten_rules.ensures.value c.in-Ok.is c.flatten_rules.ensures.stored refl c.put.ensures c.put_words.ensures)

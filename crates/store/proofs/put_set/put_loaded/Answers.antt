@@ -3,7 +3,7 @@ use Rattle.store.proofs.LoadWords.{loads, set-put}
 use Rattle.store.proofs.put_set.put_loaded.Goals as goal
 
 pub put_image-requires : goal.put_image-requires
-put_image-requires c = (loads c.args.image.now c.requires).short
+put_image-requires c = (loads c.words.result.now c.words.ensures.accepted).short
 
 pub returns : goal.returns
-returns c = set-put _ _ _ _ c.args.image.now c.told-store (loads c.args.image.now c.requires) c.put.ensures c.put_image.ensures c.put_flat.ensures
+returns c = rw (← c.words.ensures.same) (set-put _ _ _ _ c.words.result.now c.told-store (loads c.words.result.now c.words.ensures.accepted) c.put.ensures c.put_image.ensures (rw (← c.words.ensures.same) at c.put_flat.ensures))

@@ -1,0 +1,6 @@
+-- `load::Loadable::of` meets its contract. Assumes nothing.
+use mathlib.Core.Path.{sym}
+use Rattle.load.proofs.Loadable.of.Goals as goal
+
+pub invariant_of-result : goal.invariant_of-result
+invariant_of-result c = sym c.in_ok-refusal.ensures
