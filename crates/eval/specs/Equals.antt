@@ -9,6 +9,7 @@ use Rattle.model.specs.declared.Reading.{Reading}
 use Rattle.model.specs.declared.Value.{Value}
 use Rattle.model.specs.declared.TimeBound.{TimeBound}
 use Rattle.model.specs.declared.Condition.{Condition}
+use Rattle.model.specs.declared.Cmp.{Cmp}
 use Rattle.state.specs.Meaning.{meaning}
 use Rattle.eval.specs.declared.Env.{Env as Given}
 use Rattle.eval.specs.Answers.{env_of}
@@ -51,7 +52,7 @@ module _ (given : Given) where
   Evaluates c r = (flat : List (List FlatStep)) → r ≡ eval_condition (env flat) s c
 
   -- a lamp's level against a value of the image
-  abbrev pub LevelIs : ℕ → Option ℕ → ℕ → Option Bool → Type 0
+  abbrev pub LevelIs : Option Cmp → Option ℕ → ℕ → Option Bool → Type 0
   LevelIs cmp level i r = (flat : List (List FlatStep)) → r ≡ level_is (env flat) s cmp level i
 
   -- the conditions of a rule

@@ -64,13 +64,7 @@ pub fn eval_condition(env: &Env, condition: Condition) -> Option<bool>
         ),
         Condition::TimerRunning { timer } => timer_running(env, timer),
         Condition::ControllerActive => controller_active(env.snapshot),
-        Condition::VarCompare {
-            name,
-            cmp,
-            tag,
-            operand,
-        } => compare_var(env, name, cmp, tag, operand),
-        Condition::NoCondition => None,
+        Condition::VarCompare { name, cmp, operand } => compare_var(env, name, cmp, operand),
     }
 }
 
@@ -78,7 +72,7 @@ pub fn eval_condition(env: &Env, condition: Condition) -> Option<bool>
 pub fn condition_at(env: &Env, i: u32) -> Option<bool>
     ensures { ConditionAt env.now i result }
 {
-    let condition = condition_of(env.image.record_at(Table::Conditions, i));
+    let condition = condition_of(env.image.record_at(Table::Conditions, i))?;
     eval_condition(env, condition)
 }
 
@@ -89,7 +83,7 @@ pub fn conditions_hold(env: &Env, rule: u32) -> Option<bool>
 {
     let n = env.image.condition_count(rule);
     for k in 0..n {
-        let condition = env.image.condition_at(rule, k);
+        let condition = env.image.condition_at(rule, k)?;
         let holds = eval_condition(env, condition)?;
         if !holds {
             return Some(false);

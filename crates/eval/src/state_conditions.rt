@@ -6,7 +6,7 @@ ghost use Rattle.eval.specs.Equals.{Evaluates};
 use crate::Env;
 use crate::compare::{compare_i64, compare_text};
 use crate::values::value_at;
-use model::VarValue;
+use model::{Cmp, VarOperand, VarValue};
 
 // False for a rule that is not loaded.
 #[tactic(auto, unfolding(model::specs::Eval::eval_condition))]
@@ -37,18 +37,17 @@ pub fn timer_running(env: &Env, timer: u32) -> Option<bool>
     Some(state::timers::has_timer(env.state, timer))
 }
 
-// An integer is compared with a value (tag 0), a text with a text (tag 1). Any other pairing differs, and so does a variable that is
-// not there.
+// An integer is compared with a value, a text with a text. Any other pairing differs, and so does a variable that is not there.
 #[tactic(auto, unfolding(model::specs::Eval::eval_condition))]
-pub fn compare_var(env: &Env, name: u32, cmp: u32, tag: u32, operand: u32) -> Option<bool>
-    ensures { Evaluates env.now (condition.VarCompare name cmp tag operand) result }
+pub fn compare_var(env: &Env, name: u32, cmp: Option<Cmp>, operand: VarOperand) -> Option<bool>
+    ensures { Evaluates env.now (condition.VarCompare name cmp operand) result }
 {
-    match state::variables::variable(env.state, name) {
-        Some(VarValue::Int(n)) if tag != 1 => {
-            let right = value_at(env, operand)?;
+    match (state::variables::variable(env.state, name), operand) {
+        (Some(VarValue::Int(n)), VarOperand::Value(i)) => {
+            let right = value_at(env, i)?;
             Some(compare_i64(cmp, n.cast_signed(), right))
         }
-        Some(VarValue::Text(t)) if tag == 1 => Some(compare_text(cmp, t, operand)),
-        _ => Some(cmp == 1),
+        (Some(VarValue::Text(held)), VarOperand::Text(text)) => Some(compare_text(cmp, held, text)),
+        _ => Some(matches!(cmp, Some(Cmp::Ne))),
     }
 }

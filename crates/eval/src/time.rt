@@ -6,7 +6,7 @@ ghost use Rattle.eval.specs.Equals.{SunIsUp, Resolves, BoundAt};
 
 use image::layout::{Image, Table};
 use image::record::bound_of;
-use model::{SunTimes, TimeBound};
+use model::{SolarEvent, SunTimes, TimeBound};
 
 // From sunrise on, and before sunset.
 #[tactic(auto, unfolding(model::specs::Eval::sun_is_up))]
@@ -38,15 +38,14 @@ pub fn minute_in_range(t: u64, start: u64, end: u64) -> bool
     }
 }
 
-// The minute of sunrise 0 or sunset 1, with an offset in milliseconds.
+// The minute of sunrise or sunset, with an offset in milliseconds.
 #[tactic(auto, unfolding(model::specs::Eval::solar_of))]
-pub fn solar_minute(sun: SunTimes, event: u32, offset_ms: u32) -> u32
+pub fn solar_minute(sun: SunTimes, event: SolarEvent, offset_ms: u32) -> u32
     ensures { result ≡ solar_of sun event offset_ms }
 {
-    let base = if event == 0 {
-        sun.sunrise_min
-    } else {
-        sun.sunset_min
+    let base = match event {
+        SolarEvent::Sunrise => sun.sunrise_min,
+        SolarEvent::Sunset => sun.sunset_min,
     };
     words::solar_minute(base, offset_ms)
 }
@@ -61,7 +60,6 @@ pub fn resolve_time_bound(snapshot: &[u32], bound: TimeBound) -> Option<u64>
             let sun = world::sun(snapshot)?;
             Some(u64::from(solar_minute(sun, event, offset_ms)))
         }
-        TimeBound::NoBound => None,
     }
 }
 
@@ -69,6 +67,6 @@ pub fn resolve_time_bound(snapshot: &[u32], bound: TimeBound) -> Option<u64>
 pub fn bound_at(snapshot: &[u32], image: &Image, i: u32) -> Option<u64>
     ensures { BoundAt snapshot.now image.now i result }
 {
-    let bound = bound_of(image.record_at(Table::Bounds, i));
+    let bound = bound_of(image.record_at(Table::Bounds, i))?;
     resolve_time_bound(snapshot, bound)
 }

@@ -69,7 +69,6 @@ pub fn eval_value(snapshot: &[u32], v: &State, value: Value) -> Option<i64>
             let x = eval_reading(snapshot, v, reading)?;
             Some(x.saturating_add(i64::from(delta.cast_signed())))
         }
-        Value::NoValue => None,
     }
 }
 
@@ -77,6 +76,6 @@ pub fn eval_value(snapshot: &[u32], v: &State, value: Value) -> Option<i64>
 pub fn value_at(env: &Env, i: u32) -> Option<i64>
     ensures { ValueAt env.now i result }
 {
-    let value = value_of(env.image.record_at(Table::Values, i));
+    let value = value_of(env.image.record_at(Table::Values, i))?;
     eval_value(env.snapshot, env.state, value)
 }

@@ -7,7 +7,7 @@ use crate::Env;
 use crate::compare::compare_i64;
 use crate::time::{bound_at, has_day, minute_in_range, sun_is_up};
 use crate::values::{eval_reading, value_at};
-use model::Reading;
+use model::{Cmp, GroupAggregate, HclState, Reading};
 
 #[tactic(auto, unfolding(model::specs::Eval::eval_condition))]
 pub fn time_in_range(env: &Env, start: u32, end: u32) -> Option<bool>
@@ -28,23 +28,23 @@ pub fn day_in(snapshot: &[u32], days: u32) -> Option<bool>
 }
 
 #[tactic(auto, unfolding(model::specs::Eval::eval_condition))]
-pub fn sun_is(snapshot: &[u32], up: u32) -> Option<bool>
+pub fn sun_is(snapshot: &[u32], up: bool) -> Option<bool>
     ensures { Decides snapshot.now (condition.SunIs up) result }
 {
     let is_up = sun_is_up(snapshot)?;
-    Some(is_up == (up == 1))
+    Some(is_up == up)
 }
 
 #[tactic(auto, unfolding(model::specs::Eval::eval_condition))]
-pub fn lamp_is(snapshot: &[u32], adapter: u32, id: u32, on: u32) -> Option<bool>
+pub fn lamp_is(snapshot: &[u32], adapter: u32, id: u32, on: bool) -> Option<bool>
     ensures { Decides snapshot.now (condition.LampIs adapter id on) result }
 {
     let lamp = world::lamp(snapshot, adapter, id)?;
-    Some(lamp.is_on == (on == 1))
+    Some(lamp.is_on == on)
 }
 
 // A lamp without a level is at none, and the value is not read.
-fn level_is(env: &Env, cmp: u32, level: Option<u32>, value: u32) -> Option<bool>
+fn level_is(env: &Env, cmp: Option<Cmp>, level: Option<u32>, value: u32) -> Option<bool>
     ensures { LevelIs env.now cmp level value result }
 {
     match level {
@@ -57,7 +57,7 @@ fn level_is(env: &Env, cmp: u32, level: Option<u32>, value: u32) -> Option<bool>
 }
 
 #[tactic(auto, unfolding(model::specs::Eval::eval_condition))]
-pub fn lamp_level_is(env: &Env, adapter: u32, id: u32, cmp: u32, value: u32) -> Option<bool>
+pub fn lamp_level_is(env: &Env, adapter: u32, id: u32, cmp: Option<Cmp>, value: u32) -> Option<bool>
     ensures { Evaluates env.now (condition.LampLevel adapter id cmp value) result }
 {
     let lamp = world::lamp(env.snapshot, adapter, id)?;
@@ -65,7 +65,7 @@ pub fn lamp_level_is(env: &Env, adapter: u32, id: u32, cmp: u32, value: u32) -> 
 }
 
 #[tactic(auto, unfolding(model::specs::Eval::eval_condition))]
-pub fn lamp_cct_is(env: &Env, adapter: u32, id: u32, cmp: u32, value: u32) -> Option<bool>
+pub fn lamp_cct_is(env: &Env, adapter: u32, id: u32, cmp: Option<Cmp>, value: u32) -> Option<bool>
     ensures { Evaluates env.now (condition.LampCct adapter id cmp value) result }
 {
     let left = eval_reading(env.snapshot, env.state, Reading::LampCct(adapter, id))?;
@@ -74,14 +74,13 @@ pub fn lamp_cct_is(env: &Env, adapter: u32, id: u32, cmp: u32, value: u32) -> Op
 }
 
 #[tactic(auto, unfolding(model::specs::Eval::eval_condition))]
-pub fn group_state(snapshot: &[u32], adapter: u32, id: u32, state: u32) -> Option<bool>
+pub fn group_state(snapshot: &[u32], adapter: u32, id: u32, state: GroupAggregate) -> Option<bool>
     ensures { Decides snapshot.now (condition.GroupState adapter id state) result }
 {
     let group = world::group(snapshot, adapter, id)?;
-    Some(if state == 0 {
-        group.any_on
-    } else {
-        group.all_off
+    Some(match state {
+        GroupAggregate::AnyOn => group.any_on,
+        GroupAggregate::AllOff => group.all_off,
     })
 }
 
@@ -91,13 +90,13 @@ pub fn input_occupancy(
     adapter: u32,
     address: u32,
     instance: u32,
-    occupied: u32,
+    occupied: bool,
 ) -> Option<bool>
     ensures { Decides snapshot.now (condition.InputOccupancy adapter address instance occupied) result }
 {
     let input = world::input(snapshot, adapter, address, instance)?;
     let word = input.occupied?;
-    Some((word != 0) == (occupied == 1))
+    Some((word != 0) == occupied)
 }
 
 // Above is Gt, below Lt.
@@ -107,7 +106,7 @@ pub fn input_light_is(
     adapter: u32,
     address: u32,
     instance: u32,
-    above: u32,
+    above: bool,
     threshold: u32,
 ) -> Option<bool>
     ensures { Evaluates env.now (condition.InputLight adapter address instance above threshold) result }
@@ -118,24 +117,19 @@ pub fn input_light_is(
         Reading::InputLight(adapter, address, instance),
     )?;
     let bound = value_at(env, threshold)?;
-    Some(if above == 1 {
-        bound < left
-    } else {
-        left < bound
-    })
+    Some(if above { bound < left } else { left < bound })
 }
 
 #[tactic(auto, unfolding(model::specs::Eval::eval_condition))]
-pub fn hcl_state(snapshot: &[u32], target: u32, state: u32) -> Option<bool>
+pub fn hcl_state(snapshot: &[u32], target: u32, state: HclState) -> Option<bool>
     ensures { Decides snapshot.now (condition.HclState target state) result }
 {
     let Some(hcl) = world::hcl_target(snapshot, target) else {
         return Some(false);
     };
-    Some(if state == 0 {
-        hcl.enabled
-    } else {
-        hcl.overridden
+    Some(match state {
+        HclState::Enabled => hcl.enabled,
+        HclState::Overridden => hcl.overridden,
     })
 }
 

@@ -6,14 +6,14 @@ use mathlib.Core.List.{List}
 use Rattle.std.specs.Prelude.{Option, None, Some}
 use lib.Dec.{leb, ltb, eqb}
 use lib.IntN.{ℤ, pos, negsuc}
-use Rattle.words.specs.Pairs.{joined}
 use Rattle.model.specs.Image.{group_limit, text_limit}
 use Rattle.model.specs.Lists.{present}
-use Rattle.model.specs.World.{is_one}
 use Rattle.model.specs.Actions as actions
-use Rattle.model.specs.Actions.{Job, PrimResult, prim_light, prim_recall, prim_apply, prim_cycle, cycle_effect, level_at, selects, dims, arm_timer, var_set, prim_var_set, var_add, set_rule_bit, run_prim, fails}
+use Rattle.model.specs.Actions.{Job, PrimResult, prim_light, prim_recall, prim_apply, prim_cycle, cycle_effect, level_at, selects, dims, arm_timer, var_set, prim_var_set, var_add, set_rule_bit, run_prim, run_known, fails}
+use Rattle.model.specs.declared.LightAnswer.TheVariants.{Verb, Nothing, Unevaluable}
+use Rattle.model.specs.declared.VarConstant.TheVariants as constant
 use Rattle.model.specs.declared.Action.{Action}
-use Rattle.model.specs.declared.Action.TheVariants.{Light, Recall, Apply, Cycle, HclResume, HclHold, HclEnable, HclDisable, FeedbackOn, FeedbackOff, PanelSelect, CancelHold, CatchMovement, TimerStart, TimerRestart, TimerCancel, VarSet, VarAdd, RuleEnable, RuleDisable, MqttPublish, Log, StatCount, Percent, NoAction}
+use Rattle.model.specs.declared.Action.TheVariants.{Light, Recall, Apply, Cycle, HclResume, HclHold, HclEnable, HclDisable, FeedbackOn, FeedbackOff, PanelSelect, CancelHold, CatchMovement, TimerStart, TimerRestart, TimerCancel, VarSet, VarAdd, RuleEnable, RuleDisable, MqttPublish, Log, StatCount, Percent}
 use Rattle.model.specs.declared.VarValue.{VarValue}
 use Rattle.model.specs.declared.VarValue.TheVariants.{Int, Text}
 use Rattle.model.specs.Dry.{dry_step, dry_branch}
@@ -54,7 +54,7 @@ module _ (e : Env) (j : Job) (s : Rest) (dry : j.dry ≡ true) where
   select-none adapter group (Some (negsuc n)) = refl
   select-none adapter group (Some (pos n)) = either (leb n (group_limit e.set.image)) (actions.emits s 7 adapter group n 0) (fails s) refl refl
 
-  dims-none : (target hold : ℕ) (level : Option ℕ) → (dims e j s target hold level).disables ≡ None
+  dims-none : (target : ℕ) (hold level : Option ℕ) → (dims e j s target hold level).disables ≡ None
   unfolding fails
   dims-none target hold None = refl
   dims-none target hold (Some n) = refl
@@ -68,11 +68,13 @@ module _ (e : Env) (j : Job) (s : Rest) (dry : j.dry ≡ true) where
 
   pub dry-none : (x : Action) → (run_prim e j s x).disables ≡ None
   unfolding run_prim prim_light prim_recall prim_apply prim_cycle cycle_effect prim_var_set fails
-  dry-none (Light target hold answer verb) =
-      either (eqb answer 0) (actions.emits s 0 target verb (actions.hold_or hold j.hold) 0) (cond (eqb answer 1) (actions.no_effect s) (fails s)) refl
-      (either (eqb answer 1) (actions.no_effect s) (fails s) refl refl)
-  dry-none (Recall answer scene mark target) = either (eqb answer 0) (actions.emits s 1 scene mark target j.hold) (fails s) refl refl
-  dry-none (Apply answer scene) = either (eqb answer 0) (actions.emits s 2 scene j.hold 0 0) (fails s) refl refl
+  dry-none (Light target hold (Verb verb)) = refl
+  dry-none (Light target hold Nothing) = refl
+  dry-none (Light target hold Unevaluable) = refl
+  dry-none (Recall None mark target) = refl
+  dry-none (Recall (Some scene) mark target) = refl
+  dry-none (Apply None) = refl
+  dry-none (Apply (Some scene)) = refl
   dry-none (Cycle first count) = either (eqb count 0) (fails s) (cycle_effect e j s first count) refl refl
   dry-none (HclResume target) = refl
   dry-none (HclHold target) = refl
@@ -86,10 +88,9 @@ module _ (e : Env) (j : Job) (s : Rest) (dry : j.dry ≡ true) where
   dry-none (TimerStart name ms) = either (present (timer_named s name)) (actions.no_effect s) (arm_timer e j s name ms s) refl (arm-none name ms s)
   dry-none (TimerRestart name ms) = arm-none name ms _
   dry-none (TimerCancel name) = refl
-  dry-none (VarSet name tag low high) =
-      either (is_one tag) (cond (ltb (text_limit e.set.image) high) (fails s) (var_set e j s name (Text low))) (var_set e j s name (Int (joined low high)))
-      (either (ltb (text_limit e.set.image) high) (fails s) (var_set e j s name (Text low)) refl (set-none name (Text low)))
-      (set-none name (Int (joined low high)))
+  dry-none (VarSet name (constant.Text text bytes)) =
+      either (ltb (text_limit e.set.image) bytes) (fails s) (var_set e j s name (Text text)) refl (set-none name (Text text))
+  dry-none (VarSet name (constant.Int n)) = set-none name (Int n)
   dry-none (VarAdd name v) = add_none name (value_at e s v) (var_named s name)
   dry-none (RuleEnable rule) = bit-none rule true (rule_named e.set.image rule)
   dry-none (RuleDisable rule) = bit-none rule false (rule_named e.set.image rule)
@@ -97,14 +98,18 @@ module _ (e : Env) (j : Job) (s : Rest) (dry : j.dry ≡ true) where
   dry-none (Log t) = refl
   dry-none (StatCount name) = refl
   dry-none (Percent target hold v) = dims-none target hold (level_at (value_at e s v))
-  dry-none NoAction = refl
+
+  pub known-none : (o : Option Action) → (run_known e j s o).disables ≡ None
+  unfolding fails
+  known-none None = refl
+  known-none (Some x) = dry-none x
 
 -- ---- the steps
 module _ (e : Env) (j : Job) (b : ℕ) (sp : Point) (v : List ℕ) (r : StepDone) (qs : List Point) where
   pub primitive-dry : (i : ℕ) → j.dry ≡ true → Steps v r (exec e j b sp (Primitive i) (meaning v)) → DrySteps v r (dry_step e j (Primitive i) sp qs (meaning v).rest)
   unfolding exec dry_step after_prim
   primitive-dry i d s =
-      let t = rw (dry-none e j (meaning v).rest d (action_of (record_of e.set.image rows.actions i))) at s in
+      let t = rw (known-none e j (meaning v).rest d (action_of (record_of e.set.image rows.actions i))) at s in
       record { state = t.state; effect = t.effect; reason = t.reason; next = t.next }
 
   pub fail-dry : Steps v r (exec e j b sp Fail (meaning v)) → DrySteps v r (dry_step e j Fail sp qs (meaning v).rest)

@@ -20,15 +20,13 @@ pub fn run_prim(env: &Env, v: &mut State, action: Action) -> PrimResult
             target,
             hold,
             answer,
-            verb,
-        } => lights::prim_light(env, v, target, hold, answer, verb),
+        } => lights::prim_light(env, v, target, hold, answer),
         Action::Recall {
-            answer,
             scene,
             present,
             target,
-        } => lights::prim_recall(env, v, answer, scene, present, target),
-        Action::Apply { answer, scene } => lights::prim_apply(env, v, answer, scene),
+        } => lights::prim_recall(env, v, scene, present, target),
+        Action::Apply { scene } => lights::prim_apply(env, v, scene),
         Action::Cycle { first, count } => lights::prim_cycle(env, v, first, count),
         Action::Percent {
             target,
@@ -77,12 +75,7 @@ pub fn run_prim(env: &Env, v: &mut State, action: Action) -> PrimResult
             duration_ms,
         ),
         Action::TimerCancel { timer } => timers::timer_cancel(env, v, timer),
-        Action::VarSet {
-            name,
-            tag,
-            low,
-            high,
-        } => variables::var_set(env, v, name, tag, low, high),
+        Action::VarSet { name, value } => variables::var_set(env, v, name, value),
         Action::VarAdd { name, delta } => variables::var_add(env, v, name, delta),
         Action::RuleEnable { rule } => rules::set_rule_bit(env, v, rule, true),
         Action::RuleDisable { rule } => rules::set_rule_bit(env, v, rule, false),
@@ -93,7 +86,6 @@ pub fn run_prim(env: &Env, v: &mut State, action: Action) -> PrimResult
         } => emits(EffectKind::MqttPublish, topic, payload, retain, 0),
         Action::Log { text } => emits(EffectKind::Log, text, 0, 0, 0),
         Action::StatCount { name } => Ok(None),
-        Action::NoAction => fails(v),
     }
 }
 
@@ -101,6 +93,8 @@ pub fn run_prim(env: &Env, v: &mut State, action: Action) -> PrimResult
 pub fn prim_at(env: &Env, v: &mut State, i: u32) -> PrimResult
     ensures { PerformsAt env.now.snapshot.now env.now.image.now env.now.job v.old i (action_done v.new result) }
 {
-    let action = action_of(env.image.record_at(Table::Actions, i));
-    run_prim(env, v, action)
+    match action_of(env.image.record_at(Table::Actions, i)) {
+        Some(action) => run_prim(env, v, action),
+        None => fails(v),
+    }
 }

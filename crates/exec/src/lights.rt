@@ -1,6 +1,5 @@
 // Lights and scenes. The answers of `light_verb` and `scene_number` stand in the image.
 ghost use Rattle.std.specs.Prelude.{◌≡◌, List, ℕ, ◌<◌, ◌%◌};
-ghost use Rattle.model.specs.Actions.{hold_or};
 ghost use Rattle.model.specs.Lists.{or_else};
 ghost use Rattle.model.specs.State.{cycle_pos_at};
 ghost use Rattle.model.specs.declared.Action.TheVariants.{Light, Recall, Apply, Cycle, Percent};
@@ -11,67 +10,57 @@ ghost use Rattle.exec.specs.Results.{Performs, PerformsIn, LevelAt};
 use crate::answers::{emits, fails};
 use crate::{Env, PrimResult};
 use image::layout::Table;
-use model::EffectKind;
+use model::{EffectKind, LightAnswer};
 use state::State;
 
-// A light's own hold_hcl, or the rule's where 2 says that it has none.
-fn hold_or(hold: u32, rule: u32) -> u32
-    ensures { result ≡ hold_or hold rule }
-{
-    if hold == 2 { rule } else { hold }
-}
-
+// A light's own hold_hcl, or the rule's.
 #[tactic(auto, unfolding(model::specs::Actions::run_prim, model::specs::Actions::prim_light))]
 pub fn prim_light(
     env: &Env,
     v: &mut State,
     target: u32,
-    hold: u32,
-    answer: u32,
-    verb: u32,
+    hold: Option<u32>,
+    answer: LightAnswer,
 ) -> PrimResult
-    ensures { Performs env.now.job v.old (Light target hold answer verb) (action_done v.new result) }
+    ensures { Performs env.now.job v.old (Light target hold answer) (action_done v.new result) }
 {
-    if answer == 0 {
-        return emits(
+    match answer {
+        LightAnswer::Verb(verb) => emits(
             EffectKind::Light,
             target,
             verb,
-            hold_or(hold, env.job.hold),
+            hold.unwrap_or(env.job.hold),
             0,
-        );
+        ),
+        LightAnswer::Nothing => Ok(None),
+        LightAnswer::Unevaluable => fails(v),
     }
-    if answer == 1 {
-        return Ok(None);
-    }
-    fails(v)
 }
 
 #[tactic(auto, unfolding(model::specs::Actions::run_prim, model::specs::Actions::prim_recall))]
 pub fn prim_recall(
     env: &Env,
     v: &mut State,
-    answer: u32,
-    scene: u32,
+    scene: Option<u32>,
     mark: u32,
     target: u32,
 ) -> PrimResult
-    ensures { Performs env.now.job v.old (Recall answer scene mark target) (action_done v.new result) }
+    ensures { Performs env.now.job v.old (Recall scene mark target) (action_done v.new result) }
 {
-    if answer == 0 {
-        return emits(EffectKind::SceneRecall, scene, mark, target, env.job.hold);
+    match scene {
+        Some(scene) => emits(EffectKind::SceneRecall, scene, mark, target, env.job.hold),
+        None => fails(v),
     }
-    fails(v)
 }
 
 #[tactic(auto, unfolding(model::specs::Actions::run_prim, model::specs::Actions::prim_apply))]
-pub fn prim_apply(env: &Env, v: &mut State, answer: u32, scene: u32) -> PrimResult
-    ensures { Performs env.now.job v.old (Apply answer scene) (action_done v.new result) }
+pub fn prim_apply(env: &Env, v: &mut State, scene: Option<u32>) -> PrimResult
+    ensures { Performs env.now.job v.old (Apply scene) (action_done v.new result) }
 {
-    if answer == 0 {
-        return emits(EffectKind::SceneApply, scene, env.job.hold, 0, 0);
+    match scene {
+        Some(scene) => emits(EffectKind::SceneApply, scene, env.job.hold, 0, 0),
+        None => fails(v),
     }
-    fails(v)
 }
 
 // The rule's position, modulo the length of the list at hand.
@@ -107,7 +96,13 @@ fn level_at(env: &Env, v: &State, i: u32) -> Option<u32>
 
 // A value in parts per million of full light.
 #[tactic(auto, unfolding(model::specs::Actions::run_prim))]
-pub fn prim_percent(env: &Env, v: &mut State, target: u32, hold: u32, value: u32) -> PrimResult
+pub fn prim_percent(
+    env: &Env,
+    v: &mut State,
+    target: u32,
+    hold: Option<u32>,
+    value: u32,
+) -> PrimResult
     ensures { PerformsIn env.now.snapshot.now env.now.image.now env.now.job v.old (Percent target hold value) (action_done v.new result) }
 {
     match level_at(env, v, value) {
@@ -115,7 +110,7 @@ pub fn prim_percent(env: &Env, v: &mut State, target: u32, hold: u32, value: u32
             EffectKind::Level,
             target,
             level,
-            hold_or(hold, env.job.hold),
+            hold.unwrap_or(env.job.hold),
             0,
         ),
         None => fails(v),

@@ -7,7 +7,7 @@ ghost use Rattle.exec.specs.Results.{PerformsIn, Assigns, Adds};
 
 use crate::answers::{emits, fails};
 use crate::{Env, PrimResult};
-use model::{EffectKind, VarValue};
+use model::{EffectKind, VarConstant, VarValue};
 use state::State;
 
 #[tactic(auto, unfolding(model::specs::Actions::var_set, state::specs::Named::lacks_room))]
@@ -26,16 +26,18 @@ fn assign(env: &Env, v: &mut State, name: u32, value: VarValue) -> PrimResult
 
 // A text of more bytes than the limit is refused, in a dry run too.
 #[tactic(auto, unfolding(model::specs::Actions::run_prim, model::specs::Actions::prim_var_set))]
-pub fn var_set(env: &Env, v: &mut State, name: u32, tag: u32, low: u32, high: u32) -> PrimResult
-    ensures { (snapshot : List ℕ) → PerformsIn snapshot env.now.image.now env.now.job v.old (VarSet name tag low high) (action_done v.new result) }
+pub fn var_set(env: &Env, v: &mut State, name: u32, value: VarConstant) -> PrimResult
+    ensures { (snapshot : List ℕ) → PerformsIn snapshot env.now.image.now env.now.job v.old (VarSet name value) (action_done v.new result) }
 {
-    if tag == 1 {
-        if env.image.text_limit() < high {
-            return fails(v);
+    match value {
+        VarConstant::Text { text, bytes } => {
+            if env.image.text_limit() < bytes {
+                return fails(v);
+            }
+            assign(env, v, name, VarValue::Text(text))
         }
-        return assign(env, v, name, VarValue::Text(low));
+        VarConstant::Int(n) => assign(env, v, name, VarValue::Int(n)),
     }
-    assign(env, v, name, VarValue::Int(words::join_words(low, high)))
 }
 
 // A number is added to what a variable holds: to 0 where there is none, to no text.

@@ -11,10 +11,13 @@ use lib.ListN.{length}
 use Rattle.model.specs.Lists.{to_list, present}
 use Rattle.model.specs.Image.{group_limit, text_limit}
 use Rattle.model.specs.Rows.{actions}
+use Rattle.model.specs.declared.LightAnswer.{LightAnswer}
+use Rattle.model.specs.declared.LightAnswer.TheVariants.{Verb, Nothing, Unevaluable}
+use Rattle.model.specs.declared.VarConstant.{VarConstant}
+use Rattle.model.specs.declared.VarConstant.TheVariants as constant
 use Rattle.model.specs.declared.Action.{Action}
-use Rattle.model.specs.declared.Action.TheVariants.{Light, Recall, Apply, Cycle, HclResume, HclHold, HclEnable, HclDisable, FeedbackOn, FeedbackOff, PanelSelect, CancelHold, CatchMovement, TimerStart, TimerRestart, TimerCancel, VarSet, VarAdd, RuleEnable, RuleDisable, MqttPublish, Log, StatCount, Percent, NoAction}
+use Rattle.model.specs.declared.Action.TheVariants.{Light, Recall, Apply, Cycle, HclResume, HclHold, HclEnable, HclDisable, FeedbackOn, FeedbackOff, PanelSelect, CancelHold, CatchMovement, TimerStart, TimerRestart, TimerCancel, VarSet, VarAdd, RuleEnable, RuleDisable, MqttPublish, Log, StatCount, Percent}
 use Rattle.model.specs.Rules.{record_of, rule_named, action_of}
-use Rattle.model.specs.World.{is_one}
 use Rattle.model.specs.declared.Step.{Step}
 use Rattle.model.specs.declared.Point.{Point}
 use Rattle.model.specs.declared.Step.TheVariants.{Primitive, Wait, Branch, After, Fail}
@@ -24,9 +27,9 @@ use Rattle.model.specs.declared.VarValue.TheVariants.{Int, Text}
 use Rattle.model.specs.State.{Env, Rest, Volatile, RuleSet, is_full, cancel_timer, timer_named, var_named}
 use Rattle.model.specs.Flat.{step_at}
 use Rattle.model.specs.Eval.{condition_at, value_at}
-use Rattle.model.specs.Actions.{Job, PrimResult, no_effect, fails, run_prim, prim_at, prim_light, prim_recall, prim_apply, prim_cycle, cycle_effect, level_at, selects, dims, arm_timer, var_set, prim_var_set, var_add, set_rule_bit}
+use Rattle.model.specs.Actions.{Job, PrimResult, no_effect, fails, run_prim, run_known, prim_at, prim_light, prim_recall, prim_apply, prim_cycle, cycle_effect, level_at, selects, dims, arm_timer, var_set, prim_var_set, var_add, set_rule_bit}
 use Rattle.model.specs.Exec.{dropped, accepted, schedule, StepResult, after_prim, run_branch, exec, RunOutput, unpaid, continue_run, with_step, run_steps, advance, body_start}
-use Rattle.ledger.specs.Trace.{effects_in, report_of, MayFail, reason_if, RunOf, ended, exhausted, waits, continues}
+use Rattle.ledger.specs.Trace.{effects_in, report_of, known_report, MayFail, reason_if, RunOf, ended, exhausted, waits, continues}
 use Rattle.ledger.proofs.ListLaws.{by}
 
 -- A RUN'S EFFECTS ARE THOSE OF ITS PAID STEPS, AND THESE ARE NO MORE THAN ITS BUDGET ---------------------------------------------
@@ -91,17 +94,21 @@ module _ (e : Env) (j : Job) (s : Rest) where
   no-disable-add name (Some x) (Some (Int n)) = no-disable-set name _
   no-disable-add name (Some x) (Some (Text t)) = fails-no-disable s
 
-  no-disable-light : (t h a v : ℕ) → NoDisable (prim_light e j s t h a v)
+  no-disable-light : (t : ℕ) (h : Option ℕ) (a : LightAnswer) → NoDisable (prim_light e j s t h a)
   unfolding NoDisable prim_light
-  no-disable-light t h a v = either (eqb a 0) _ _ (refl, inl refl) (either (eqb a 1) _ _ (no-disable-same s) (fails-no-disable s))
+  no-disable-light t h (Verb v) = (refl, inl refl)
+  no-disable-light t h Nothing = no-disable-same s
+  no-disable-light t h Unevaluable = fails-no-disable s
 
-  no-disable-recall : (a x m t : ℕ) → NoDisable (prim_recall e j s a x m t)
+  no-disable-recall : (x : Option ℕ) (m t : ℕ) → NoDisable (prim_recall e j s x m t)
   unfolding NoDisable prim_recall
-  no-disable-recall a x m t = either (eqb a 0) _ _ (refl, inl refl) (fails-no-disable _)
+  no-disable-recall None m t = fails-no-disable _
+  no-disable-recall (Some x) m t = (refl, inl refl)
 
-  no-disable-apply : (a x : ℕ) → NoDisable (prim_apply e j s a x)
+  no-disable-apply : (x : Option ℕ) → NoDisable (prim_apply e j s x)
   unfolding NoDisable prim_apply
-  no-disable-apply a x = either (eqb a 0) _ _ (refl, inl refl) (fails-no-disable _)
+  no-disable-apply None = fails-no-disable _
+  no-disable-apply (Some x) = (refl, inl refl)
 
   no-disable-selects : (a g : ℕ) (o : Option ℤ) → NoDisable (selects e j s a g o)
   unfolding NoDisable
@@ -109,15 +116,15 @@ module _ (e : Env) (j : Job) (s : Rest) where
   no-disable-selects a g (Some (pos n)) = either (leb n (group_limit e.set.image)) _ _ (refl, inl refl) (fails-no-disable _)
   no-disable-selects a g (Some (negsuc n)) = fails-no-disable s
 
-  no-disable-dims : (t h : ℕ) (o : Option ℕ) → NoDisable (dims e j s t h o)
+  no-disable-dims : (t : ℕ) (h o : Option ℕ) → NoDisable (dims e j s t h o)
   unfolding NoDisable
   no-disable-dims t h None = fails-no-disable s
   no-disable-dims t h (Some level) = (refl, inl refl)
 
-  no-disable-varset : (n t l h : ℕ) → NoDisable (prim_var_set e j s n t l h)
+  no-disable-varset : (n : ℕ) (v : VarConstant) → NoDisable (prim_var_set e j s n v)
   unfolding prim_var_set
-  no-disable-varset n t l h =
-      either (is_one t) _ _ (either (ltb (text_limit e.set.image) h) _ _ (fails-no-disable _) (no-disable-set n _)) (no-disable-set n _)
+  no-disable-varset n (constant.Text t b) = either (ltb (text_limit e.set.image) b) _ _ (fails-no-disable _) (no-disable-set n _)
+  no-disable-varset n (constant.Int x) = no-disable-set n _
 
   no-disable-cycle : (f n : ℕ) → NoDisable (prim_cycle e j s f n)
   unfolding NoDisable prim_cycle cycle_effect
@@ -137,9 +144,9 @@ module _ (e : Env) (j : Job) (s : Rest) where
 
   action-reports : j.dry ≡ false → (a : Action) → (disable_report (run_prim e j s a).disables ≡ report_of e.set.image a) × MayFail (run_prim e j s a).reason
   unfolding NoDisable run_prim
-  action-reports wet (Light t h a v) = no-disable-light t h a v
-  action-reports wet (Recall a x m t) = no-disable-recall a x m t
-  action-reports wet (Apply a x) = no-disable-apply a x
+  action-reports wet (Light t h a) = no-disable-light t h a
+  action-reports wet (Recall x m t) = no-disable-recall x m t
+  action-reports wet (Apply x) = no-disable-apply x
   action-reports wet (Cycle f n) = no-disable-cycle f n
   action-reports wet (HclResume t) = (refl, inl refl)
   action-reports wet (HclHold t) = (refl, inl refl)
@@ -153,7 +160,7 @@ module _ (e : Env) (j : Job) (s : Rest) where
   action-reports wet (TimerStart t ms) = either (present (timer_named s t)) _ _ (refl, inl refl) (no-disable-arm t ms s)
   action-reports wet (TimerRestart t ms) = no-disable-arm t ms (cond j.dry s (cancel_timer t s))
   action-reports wet (TimerCancel t) = (refl, inl refl)
-  action-reports wet (VarSet n t l h) = no-disable-varset n t l h
+  action-reports wet (VarSet n v) = no-disable-varset n v
   action-reports wet (VarAdd n v) = no-disable-add n (value_at e s v) (var_named s n)
   action-reports wet (RuleEnable r) = enable-reports r (rule_named e.set.image r)
   action-reports wet (RuleDisable r) = disable-reports wet r (rule_named e.set.image r)
@@ -161,7 +168,11 @@ module _ (e : Env) (j : Job) (s : Rest) where
   action-reports wet (Log t) = (refl, inl refl)
   action-reports wet (StatCount n) = (refl, inl refl)
   action-reports wet (Percent t h v) = no-disable-dims t h (level_at (value_at e s v))
-  action-reports wet NoAction = fails-no-disable s
+
+  known-reports : j.dry ≡ false → (o : Option Action) → (disable_report (run_known e j s o).disables ≡ known_report e.set.image o) × MayFail (run_known e j s o).reason
+  unfolding NoDisable
+  known-reports wet None = fails-no-disable s
+  known-reports wet (Some a) = action-reports wet a
 
 -- A WAIT OR AN AFTER NOTES REASON 2 IF IT IS DROPPED ------------------------------------------------------------------------------------
 schedule-reason : (e : Env) (j : Job) (b ms : ℕ) (sp : Point) (v : Volatile) → (schedule e j b ms sp v).reason ≡ reason_if (schedule e j b ms sp v).is_dropped
@@ -179,7 +190,7 @@ Walks e j b sp x = RunOf e.set j.index b sp x.trace x.reason
 
 module _ (e : Env) (j : Job) (wet : j.dry ≡ false) (b : ℕ) (sp : Point) (v : Volatile) (K : Point → Volatile → RunOutput)
     (ih : (to : Point) (w : Volatile) → Walks e j b to (K to w)) where
-  acted-trace : (i : ℕ) (a : PrimResult) (q : Option ℕ) → (disable_report q ≡ report_of e.set.image (action_of (record_of e.set.image actions i))) × MayFail a.reason
+  acted-trace : (i : ℕ) (a : PrimResult) (q : Option ℕ) → (disable_report q ≡ known_report e.set.image (action_of (record_of e.set.image actions i))) × MayFail a.reason
       → step_at e.set j.index sp ≡ Some (Primitive i)
       → Walks e j (suc b) sp (continue_run (Primitive i) (after_prim q a (advance sp 0) v) (after_prim q a (advance sp 0) v).next K)
   unfolding after_prim continue_run
@@ -196,7 +207,7 @@ module _ (e : Env) (j : Job) (wet : j.dry ≡ false) (b : ℕ) (sp : Point) (v :
   exec-trace : (x : Step) → step_at e.set j.index sp ≡ Some x → Walks e j (suc b) sp (continue_run x (exec e j b sp x v) (exec e j b sp x v).next K)
   unfolding exec after_prim continue_run fails
   exec-trace (Primitive i) here =
-      acted-trace i (prim_at e j v.rest i) (prim_at e j v.rest i).disables (action-reports e j v.rest wet (action_of (record_of e.set.image actions i))) here
+      acted-trace i (prim_at e j v.rest i) (prim_at e j v.rest i).disables (known-reports e j v.rest wet (action_of (record_of e.set.image actions i))) here
   exec-trace (Wait ms) here =
       let x = schedule e j b ms (advance sp 0) v in
       waits-noting e.set j.index b ms sp x.is_dropped x.reason (schedule-reason e j b ms (advance sp 0) v) here

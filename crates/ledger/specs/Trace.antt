@@ -7,7 +7,7 @@ use Rattle.model.specs.Lists.{or_else, to_list, present}
 use Rattle.model.specs.Image.{budget}
 use Rattle.model.specs.Rows.{actions}
 use Rattle.model.specs.declared.Action.{Action}
-use Rattle.model.specs.declared.Action.TheVariants.{Light, Recall, Apply, Cycle, HclResume, HclHold, HclEnable, HclDisable, FeedbackOn, FeedbackOff, PanelSelect, CancelHold, CatchMovement, TimerStart, TimerRestart, TimerCancel, VarSet, VarAdd, RuleEnable, RuleDisable, MqttPublish, Log, StatCount, Percent, NoAction}
+use Rattle.model.specs.declared.Action.TheVariants.{Light, Recall, Apply, Cycle, HclResume, HclHold, HclEnable, HclDisable, FeedbackOn, FeedbackOff, PanelSelect, CancelHold, CatchMovement, TimerStart, TimerRestart, TimerCancel, VarSet, VarAdd, RuleEnable, RuleDisable, MqttPublish, Log, StatCount, Percent}
 use Rattle.model.specs.Rules.{record_of, name_of, rule_named, action_of}
 use Rattle.model.specs.declared.Step.{Step}
 use Rattle.model.specs.declared.Point.{Point}
@@ -33,9 +33,9 @@ effects_in (paid x s g ∷ ms) = to_list g ++ effects_in ms
 
 -- what a wet action reports: RuleDisable of a rule of the set disables it, "off already or not"
 abbrev pub report_of : List ℕ → Action → Report
-report_of img (Light t h a v) = plain
-report_of img (Recall a s m t) = plain
-report_of img (Apply a s) = plain
+report_of img (Light t h a) = plain
+report_of img (Recall s m t) = plain
+report_of img (Apply s) = plain
 report_of img (Cycle f n) = plain
 report_of img (HclResume t) = plain
 report_of img (HclHold t) = plain
@@ -49,7 +49,7 @@ report_of img (CatchMovement a i k) = plain
 report_of img (TimerStart t ms) = plain
 report_of img (TimerRestart t ms) = plain
 report_of img (TimerCancel t) = plain
-report_of img (VarSet n t l h) = plain
+report_of img (VarSet n v) = plain
 report_of img (VarAdd n v) = plain
 report_of img (RuleEnable rule) = plain
 report_of img (RuleDisable rule) = cond (present (rule_named img rule)) (disables rule) plain
@@ -57,7 +57,11 @@ report_of img (MqttPublish t p r) = plain
 report_of img (Log t) = plain
 report_of img (StatCount n) = plain
 report_of img (Percent t h v) = plain
-report_of img NoAction = plain
+
+-- a record of no kind of action reports nothing
+abbrev pub known_report : List ℕ → Option Action → Report
+known_report img None = plain
+known_report img (Some a) = report_of img a
 
 -- an action or a condition that cannot be evaluated notes reason 1
 abbrev pub MayFail : ℕ → Type 0
@@ -69,7 +73,7 @@ reason_if dropped = cond dropped effect_budget 0
 
 -- what a step reports at a point, the effect that it gives (only an action gives one) and the reason that it notes. A wait is told apart below.
 abbrev pub Reports : RuleSet → Step → Point → Report → Option Effect → ℕ → Type 0
-Reports set (Primitive i) sp s g q = (s ≡ report_of set.image (action_of (record_of set.image actions i))) × MayFail q
+Reports set (Primitive i) sp s g q = (s ≡ known_report set.image (action_of (record_of set.image actions i))) × MayFail q
 Reports set (Wait ms) sp s g q = ⊥
 Reports set (After ms) sp s g q = (d : Bool) × (s ≡ defers d ms (body_start sp)) × (g ≡ None) × (q ≡ reason_if d)
 Reports set (Branch c t n) sp s g q = (s ≡ plain) × (g ≡ None) × MayFail q

@@ -2,14 +2,14 @@
 use Rattle.std.specs.Prelude.{ℕ, suc, ◌+◌, ◌%◌, Bool, true, false, cond, not, ◌&&◌, leb, ltb, eqb, ℤ, pos, negsuc, length, set}
 use Rattle.std.specs.Prelude.{Option, None, Some}
 use Rattle.words.specs.Saturating.{saturating_add, max64}
-use Rattle.words.specs.Pairs.{joined}
 use Rattle.words.specs.Signed.{signed64, bits64, saturating_add_i64}
 use Rattle.curve.specs.Curve.{level_of}
 use Rattle.model.specs.Lists.{or_else, present}
 use Rattle.model.specs.Image.{word_at, text_limit, group_limit}
 use Rattle.model.specs.Rows.{actions, pool}
-use Rattle.model.specs.Rules.{record_of, rule_named, Action, Light, Recall, Apply, Cycle, HclResume, HclHold, HclEnable, HclDisable, FeedbackOn, FeedbackOff, PanelSelect, CancelHold, CatchMovement, TimerStart, TimerRestart, TimerCancel, VarSet, VarAdd, RuleEnable, RuleDisable, MqttPublish, Log, StatCount, Percent, NoAction, action_of}
-use Rattle.model.specs.World.{is_one}
+use Rattle.model.specs.Rules.{record_of, rule_named, Action, Light, Recall, Apply, Cycle, HclResume, HclHold, HclEnable, HclDisable, FeedbackOn, FeedbackOff, PanelSelect, CancelHold, CatchMovement, TimerStart, TimerRestart, TimerCancel, VarSet, VarAdd, RuleEnable, RuleDisable, MqttPublish, Log, StatCount, Percent, action_of}
+use Rattle.model.specs.Rules.{LightAnswer, Verb, Nothing, Unevaluable, VarConstant}
+use Rattle.model.specs.declared.VarConstant.TheVariants as constant
 use Rattle.model.specs.Outcome.{Effect}
 use Rattle.model.specs.State.{Env, Rest, VarValue, Int, Text, actions_failed, bump, cycle_pos_at, timer_named, cancel_timer, add_timer, var_named, put_var, with_cycle_pos, with_vars, with_enabled}
 use Rattle.model.specs.Eval.{value_at}
@@ -44,26 +44,25 @@ no_effect s = record { rest = s; effect = None; disables = None; reason = 0 }
 unfoldable pub fails : Rest → PrimResult
 fails s = record { rest = bump actions_failed s; effect = None; disables = None; reason = condition_unevaluable }
 
--- hold_hcl of a light: its own, or the rule's where 2 says that it has none
-abbrev pub hold_or : ℕ → ℕ → ℕ
-hold_or hold rule = cond (eqb hold 2) rule hold
-
 -- the level of a value in parts per million, where it can be evaluated and has one
 abbrev pub level_at : Option ℤ → Option ℕ
 level_at None = None
 level_at (Some x) = level_of x
 
 module _ (e : Env) (j : Job) (s : Rest) where
-  -- the stored answers of `light_verb` and `scene_number`
-  unfoldable pub prim_light : ℕ → ℕ → ℕ → ℕ → PrimResult
-  prim_light target hold answer verb =
-      cond (eqb answer 0) (emits s 0 target verb (hold_or hold j.hold) 0) (cond (eqb answer 1) (no_effect s) (fails s))
+  -- the stored answers of `light_verb` and `scene_number`; hold_hcl of a light is its own, or the rule's
+  unfoldable pub prim_light : ℕ → Option ℕ → LightAnswer → PrimResult
+  prim_light target hold (Verb verb) = emits s 0 target verb (or_else j.hold hold) 0
+  prim_light target hold Nothing = no_effect s
+  prim_light target hold Unevaluable = fails s
 
-  unfoldable pub prim_recall : ℕ → ℕ → ℕ → ℕ → PrimResult
-  prim_recall answer scene mark target = cond (eqb answer 0) (emits s 1 scene mark target j.hold) (fails s)
+  unfoldable pub prim_recall : Option ℕ → ℕ → ℕ → PrimResult
+  prim_recall None mark target = fails s
+  prim_recall (Some scene) mark target = emits s 1 scene mark target j.hold
 
-  unfoldable pub prim_apply : ℕ → ℕ → PrimResult
-  prim_apply answer scene = cond (eqb answer 0) (emits s 2 scene j.hold 0 0) (fails s)
+  unfoldable pub prim_apply : Option ℕ → PrimResult
+  prim_apply None = fails s
+  prim_apply (Some scene) = emits s 2 scene j.hold 0 0
 
   -- one position for each rule, taken modulo the length of the list at hand
   unfoldable pub cycle_effect : ℕ → ℕ → PrimResult
@@ -82,9 +81,9 @@ module _ (e : Env) (j : Job) (s : Rest) where
   selects adapter group (Some (pos n)) = cond (leb n (group_limit e.set.image)) (emits s 7 adapter group n 0) (fails s)
 
   -- a light at a level, or a value that has none
-  abbrev pub dims : ℕ → ℕ → Option ℕ → PrimResult
+  abbrev pub dims : ℕ → Option ℕ → Option ℕ → PrimResult
   dims target hold None = fails s
-  dims target hold (Some level) = emits s 12 target level (hold_or hold j.hold) 0
+  dims target hold (Some level) = emits s 12 target level (or_else j.hold hold) 0
 
   -- 16 timers, and 16 variables
   unfoldable pub arm_timer : ℕ → ℕ → Rest → PrimResult
@@ -98,11 +97,9 @@ module _ (e : Env) (j : Job) (s : Rest) where
       (cond (not (present (var_named s name)) && leb 16 (length s.vars)) (fails s) (no_effect (with_vars (put_var name value s.vars) s)))
 
   -- a text of more bytes than the limit is refused, in a dry run too
-  unfoldable pub prim_var_set : ℕ → ℕ → ℕ → ℕ → PrimResult
-  prim_var_set name tag low high =
-      cond (is_one tag)
-      (cond (ltb (text_limit e.set.image) high) (fails s) (var_set name (Text low)))
-      (var_set name (Int (joined low high)))
+  unfoldable pub prim_var_set : ℕ → VarConstant → PrimResult
+  prim_var_set name (constant.Text text bytes) = cond (ltb (text_limit e.set.image) bytes) (fails s) (var_set name (Text text))
+  prim_var_set name (constant.Int n) = var_set name (Int n)
 
   abbrev pub var_add : ℕ → Option ℤ → Option VarValue → PrimResult
   var_add name None held = fails s
@@ -118,9 +115,9 @@ module _ (e : Env) (j : Job) (s : Rest) where
       (record { rest = with_enabled (set s.enabled i on) s; effect = None; disables = cond on None (Some rule); reason = 0 })
 
   unfoldable pub run_prim : Action → PrimResult
-  run_prim (Light target hold answer verb) = prim_light target hold answer verb
-  run_prim (Recall answer scene mark target) = prim_recall answer scene mark target
-  run_prim (Apply answer scene) = prim_apply answer scene
+  run_prim (Light target hold answer) = prim_light target hold answer
+  run_prim (Recall scene mark target) = prim_recall scene mark target
+  run_prim (Apply scene) = prim_apply scene
   run_prim (Cycle first count) = prim_cycle first count
   run_prim (HclResume target) = emits s 3 target 0 0 0
   run_prim (HclHold target) = emits s 4 target 0 0 0
@@ -134,7 +131,7 @@ module _ (e : Env) (j : Job) (s : Rest) where
   run_prim (TimerStart name ms) = cond (present (timer_named s name)) (no_effect s) (arm_timer name ms s)
   run_prim (TimerRestart name ms) = arm_timer name ms (cond j.dry s (cancel_timer name s))
   run_prim (TimerCancel name) = no_effect (cond j.dry s (cancel_timer name s))
-  run_prim (VarSet name tag low high) = prim_var_set name tag low high
+  run_prim (VarSet name value) = prim_var_set name value
   run_prim (VarAdd name v) = var_add name (value_at e s v) (var_named s name)
   run_prim (RuleEnable rule) = set_rule_bit rule true (rule_named e.set.image rule)
   run_prim (RuleDisable rule) = set_rule_bit rule false (rule_named e.set.image rule)
@@ -142,8 +139,12 @@ module _ (e : Env) (j : Job) (s : Rest) where
   run_prim (Log t) = emits s 11 t 0 0 0
   run_prim (StatCount name) = no_effect s
   run_prim (Percent target hold v) = dims target hold (level_at (value_at e s v))
-  run_prim NoAction = fails s
+
+  -- a record of no kind of action fails
+  abbrev pub run_known : Option Action → PrimResult
+  run_known None = fails s
+  run_known (Some a) = run_prim a
 
   -- action i of the image
   abbrev pub prim_at : ℕ → PrimResult
-  prim_at i = run_prim (action_of (record_of e.set.image actions i))
+  prim_at i = run_known (action_of (record_of e.set.image actions i))

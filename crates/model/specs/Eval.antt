@@ -8,9 +8,12 @@ use Rattle.model.specs.Arith.{compare_i64, has_day}
 use Rattle.model.specs.Lists.{◌>>=◌, present}
 use Rattle.model.specs.Rows.{conditions, values, bounds}
 use Rattle.model.specs.Readings as reading
-use Rattle.model.specs.Rules.{record_of, rule_named, Value, Literal, Reading, Offset, NoValue, value_of, TimeBound, Clock, Solar, NoBound, bound_of}
-use Rattle.model.specs.Rules.{Condition, TimeInRange, DayIn, SunIs, LampIs, LampLevel, LampCct, GroupState, InputOccupancy, InputLight, HclState, DeviceOnline, RuleEnabled, LastFiredOlderThan, TimerRunning, ControllerActive, VarCompare, NoCondition, condition_of}
-use Rattle.model.specs.World.{is_one, SunTimes, DeviceState, HclTargetState, lamp, group, device, input, hcl_target}
+use Rattle.model.specs.Rules.{record_of, rule_named, Value, Literal, Reading, Offset, value_of, TimeBound, Clock, Solar, bound_of}
+use Rattle.model.specs.Rules.{Condition, TimeInRange, DayIn, SunIs, LampIs, LampLevel, LampCct, GroupState, InputOccupancy, InputLight, HclState, DeviceOnline, RuleEnabled, LastFiredOlderThan, TimerRunning, ControllerActive, VarCompare, condition_of}
+use Rattle.model.specs.Rules.{Cmp, Eq, Ne, SolarEvent, Sunrise, Sunset, GroupAggregate, AnyOn, AllOff, Enabled, Overridden, VarOperand}
+use Rattle.model.specs.declared.HclState as hcl
+use Rattle.model.specs.declared.VarOperand.TheVariants as operand
+use Rattle.model.specs.World.{SunTimes, GroupState as GroupRow, DeviceState, HclTargetState, lamp, group, device, input, hcl_target}
 use Rattle.model.specs.State.{Env, Rest, VarValue, Int, Text, is_enabled, last_activation_at, timer_named, var_named}
 
 abbrev pub equal_b : Bool → Bool → Bool
@@ -33,16 +36,28 @@ as_int None = None
 as_int (Some (Int n)) = Some (signed64 n)
 as_int (Some (Text t)) = None
 
--- `solar_minute` of sunrise 0 or sunset 1
-unfoldable pub solar_of : SunTimes → ℕ → ℕ → ℕ
-solar_of sun event offset = solar_minute (cond (eqb event 0) sun.sunrise_min sun.sunset_min) offset
+-- `solar_minute`, with the sun's minute of the event
+unfoldable pub solar_of : SunTimes → SolarEvent → ℕ → ℕ
+solar_of sun Sunrise offset = solar_minute sun.sunrise_min offset
+solar_of sun Sunset offset = solar_minute sun.sunset_min offset
 
 unfoldable pub minute_in_range : ℕ → ℕ → ℕ → Bool
 minute_in_range t start end = cond (leb start end) (leb start t && leb t end) (leb start t || leb t end)
 
 -- texts know only Eq and Ne
-unfoldable pub compare_text : ℕ → ℕ → ℕ → Bool
-compare_text cmp a b = cond (eqb cmp 0) (eqb a b) (cond (eqb cmp 1) (not (eqb a b)) false)
+unfoldable pub compare_text : Option Cmp → ℕ → ℕ → Bool
+compare_text (Some Eq) a b = eqb a b
+compare_text (Some Ne) a b = not (eqb a b)
+compare_text cmp a b = false
+
+-- what differs fulfils Ne alone
+abbrev pub is_ne : Option Cmp → Bool
+is_ne (Some Ne) = true
+is_ne cmp = false
+
+abbrev pub group_is : GroupAggregate → GroupRow → Bool
+group_is AnyOn g = g.any_on
+group_is AllOff g = g.all_off
 
 module _ (e : Env) (s : Rest) where
   unfoldable pub sun_is_up : Option Bool
@@ -83,36 +98,35 @@ module _ (e : Env) (s : Rest) where
   eval_value (Offset r delta) = do
     x ← eval_reading r
     Some (saturating_add_i64 x (signed32 delta))
-  eval_value NoValue = None
 
   -- value i of the image
   abbrev pub value_at : ℕ → Option ℤ
-  value_at i = eval_value (value_of (record_of e.set.image values i))
+  value_at i = do v ← value_of (record_of e.set.image values i); eval_value v
 
   unfoldable pub resolve_time_bound : TimeBound → Option ℕ
   resolve_time_bound (Clock hour minute) = Some (hour * 60 + minute)
   resolve_time_bound (Solar event offset) = do sun ← e.world.sun; Some (solar_of sun event offset)
-  resolve_time_bound NoBound = None
 
   abbrev pub bound_at : ℕ → Option ℕ
-  bound_at i = resolve_time_bound (bound_of (record_of e.set.image bounds i))
+  bound_at i = do b ← bound_of (record_of e.set.image bounds i); resolve_time_bound b
 
   -- a lamp without a level is at none, and the value is not read
-  abbrev pub level_is : ℕ → Option ℕ → ℕ → Option Bool
+  abbrev pub level_is : Option Cmp → Option ℕ → ℕ → Option Bool
   level_is cmp None v = Some false
   level_is cmp (Some level) v = do x ← value_at v; Some (compare_i64 cmp (pos level) x)
 
-  -- a variable against a value (tag 0) or a text (tag 1); any other pairing differs
-  abbrev pub compare_var : Option VarValue → ℕ → Bool → ℕ → Option Bool
-  compare_var None cmp isText x = Some (eqb cmp 1)
-  compare_var (Some (Text t)) cmp true x = Some (compare_text cmp t x)
-  compare_var (Some (Text t)) cmp false x = Some (eqb cmp 1)
-  compare_var (Some (Int n)) cmp true x = Some (eqb cmp 1)
-  compare_var (Some (Int n)) cmp false x = do b ← value_at x; Some (compare_i64 cmp (signed64 n) b)
+  -- an integer against a value, a text against a text; any other pairing differs
+  abbrev pub compare_var : Option VarValue → Option Cmp → VarOperand → Option Bool
+  compare_var None cmp x = Some (is_ne cmp)
+  compare_var (Some (Text t)) cmp (operand.Text x) = Some (compare_text cmp t x)
+  compare_var (Some (Text t)) cmp (operand.Value x) = Some (is_ne cmp)
+  compare_var (Some (Int n)) cmp (operand.Text x) = Some (is_ne cmp)
+  compare_var (Some (Int n)) cmp (operand.Value x) = do b ← value_at x; Some (compare_i64 cmp (signed64 n) b)
 
-  abbrev pub hcl_is : Option HclTargetState → ℕ → Bool
+  abbrev pub hcl_is : Option HclTargetState → hcl.HclState → Bool
   hcl_is None state = false
-  hcl_is (Some h) state = cond (eqb state 0) h.enabled h.overridden
+  hcl_is (Some h) Enabled = h.enabled
+  hcl_is (Some h) Overridden = h.overridden
 
   abbrev pub device_online : Option DeviceState → Bool
   device_online None = false
@@ -138,37 +152,37 @@ module _ (e : Env) (s : Rest) where
     to ← bound_at end
     Some (minute_in_range wall.minutes_of_day from to)
   eval_condition (DayIn days) = do wall ← e.world.wall; Some (has_day days wall.weekday)
-  eval_condition (SunIs up) = do is ← sun_is_up; Some (equal_b is (is_one up))
-  eval_condition (LampIs a i on) = do l ← lamp e.world a i; Some (equal_b l.is_on (is_one on))
+  eval_condition (SunIs up) = do is ← sun_is_up; Some (equal_b is up)
+  eval_condition (LampIs a i on) = do l ← lamp e.world a i; Some (equal_b l.is_on on)
   eval_condition (LampLevel a i cmp v) = do l ← lamp e.world a i; level_is cmp l.level v
   eval_condition (LampCct a i cmp v) = do
     left ← eval_reading (reading.LampCct a i)
     right ← value_at v
     Some (compare_i64 cmp left right)
-  eval_condition (GroupState a i state) = do g ← group e.world a i; Some (cond (eqb state 0) g.any_on g.all_off)
+  eval_condition (GroupState a i state) = do g ← group e.world a i; Some (group_is state g)
   eval_condition (InputOccupancy a i k occupied) = do
     left ← eval_reading (reading.InputOccupied a i k)
-    Some (equal_b (compare_i64 1 left (pos 0)) (is_one occupied))
+    Some (equal_b (compare_i64 (Some Ne) left (pos 0)) occupied)
   eval_condition (InputLight a i k above v) = do
     left ← eval_reading (reading.InputLight a i k)
     bound ← value_at v
-    Some (cond (is_one above) (lt_z bound left) (lt_z left bound))
+    Some (cond above (lt_z bound left) (lt_z left bound))
   eval_condition (HclState target state) = Some (hcl_is (hcl_target e.world target) state)
   eval_condition (DeviceOnline a i) = Some (device_online (device e.world a i))
   eval_condition (RuleEnabled rule) = Some (rule_enabled (rule_named e.set.image rule))
   eval_condition (LastFiredOlderThan rule ms) = Some (last_fired_older (rule_named e.set.image rule) ms)
   eval_condition (TimerRunning timer) = Some (present (timer_named s timer))
   eval_condition ControllerActive = Some e.world.active
-  eval_condition (VarCompare name cmp tag x) = compare_var (var_named s name) cmp (is_one tag) x
-  eval_condition NoCondition = None
+  eval_condition (VarCompare name cmp x) = compare_var (var_named s name) cmp x
 
   -- condition i of the image
   abbrev pub condition_at : ℕ → Option Bool
-  condition_at i = eval_condition (condition_of (record_of e.set.image conditions i))
+  condition_at i = do c ← condition_of (record_of e.set.image conditions i); eval_condition c
 
 -- `conditions_hold`: the first that does not hold decides
-unfoldable pub conditions_hold : Env → Rest → List Condition → Option Bool
+unfoldable pub conditions_hold : Env → Rest → List (Option Condition) → Option Bool
 conditions_hold e s [] = Some true
-conditions_hold e s (c ∷ cs) = do
+conditions_hold e s (known ∷ cs) = do
+  c ← known
   holds ← eval_condition e s c
   elim holds [ true ↦ conditions_hold e s cs | false ↦ Some false ]

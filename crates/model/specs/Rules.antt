@@ -1,17 +1,32 @@
 -- The records of an image, taken apart: the fields of each kind in the order of document 01, "Rule image".
 use Rattle.std.specs.Prelude.{Bool, cond, List, [], ◌∷◌, map, ℕ, ◌+◌, ◌-◌, ◌*◌, eqb, leb, ltb, get_or}
-use Rattle.std.specs.Prelude.{Option}
+use Rattle.std.specs.Prelude.{Option, None, Some, slice_get}
+use Rattle.words.specs.Pairs.{joined}
 pub use Rattle.model.specs.declared.Record.{Record}
+pub use Rattle.model.specs.declared.LightAnswer.{LightAnswer}
+pub use Rattle.model.specs.declared.LightAnswer.TheVariants.{Verb, Nothing, Unevaluable}
+pub use Rattle.model.specs.declared.VarConstant.{VarConstant}
+use Rattle.model.specs.declared.VarConstant.TheVariants as constant
 pub use Rattle.model.specs.declared.Action.{Action}
-pub use Rattle.model.specs.declared.Action.TheVariants.{Light, Recall, Apply, Cycle, HclResume, HclHold, HclEnable, HclDisable, FeedbackOn, FeedbackOff, PanelSelect, CancelHold, CatchMovement, TimerStart, TimerRestart, TimerCancel, VarSet, VarAdd, RuleEnable, RuleDisable, MqttPublish, Log, StatCount, Percent, NoAction}
+pub use Rattle.model.specs.declared.Action.TheVariants.{Light, Recall, Apply, Cycle, HclResume, HclHold, HclEnable, HclDisable, FeedbackOn, FeedbackOff, PanelSelect, CancelHold, CatchMovement, TimerStart, TimerRestart, TimerCancel, VarSet, VarAdd, RuleEnable, RuleDisable, MqttPublish, Log, StatCount, Percent}
 pub use Rattle.model.specs.declared.FlowAction.{FlowAction}
 pub use Rattle.model.specs.declared.FlowAction.TheVariants.{Wait, After, Call, Repeat, Conditional, Plain}
+pub use Rattle.model.specs.declared.Cmp.{Cmp}
+pub use Rattle.model.specs.declared.Cmp.TheVariants.{Eq, Ne, Ge, Le, Gt, Lt}
+pub use Rattle.model.specs.declared.SolarEvent.{SolarEvent}
+pub use Rattle.model.specs.declared.SolarEvent.TheVariants.{Sunrise, Sunset}
+pub use Rattle.model.specs.declared.GroupAggregate.{GroupAggregate}
+pub use Rattle.model.specs.declared.GroupAggregate.TheVariants.{AnyOn, AllOff}
+use Rattle.model.specs.declared.HclState as hcl
+pub use Rattle.model.specs.declared.HclState.TheVariants.{Enabled, Overridden}
+pub use Rattle.model.specs.declared.VarOperand.{VarOperand}
+use Rattle.model.specs.declared.VarOperand.TheVariants as operand
 pub use Rattle.model.specs.declared.Condition.{Condition}
-pub use Rattle.model.specs.declared.Condition.TheVariants.{TimeInRange, DayIn, SunIs, LampIs, LampLevel, LampCct, GroupState, InputOccupancy, InputLight, HclState, DeviceOnline, RuleEnabled, LastFiredOlderThan, TimerRunning, ControllerActive, VarCompare, NoCondition}
+pub use Rattle.model.specs.declared.Condition.TheVariants.{TimeInRange, DayIn, SunIs, LampIs, LampLevel, LampCct, GroupState, InputOccupancy, InputLight, HclState, DeviceOnline, RuleEnabled, LastFiredOlderThan, TimerRunning, ControllerActive, VarCompare}
 pub use Rattle.model.specs.declared.Value.{Value}
-pub use Rattle.model.specs.declared.Value.TheVariants.{Literal, Reading, Offset, NoValue}
+pub use Rattle.model.specs.declared.Value.TheVariants.{Literal, Reading, Offset}
 pub use Rattle.model.specs.declared.TimeBound.{TimeBound}
-pub use Rattle.model.specs.declared.TimeBound.TheVariants.{Clock, Solar, NoBound}
+pub use Rattle.model.specs.declared.TimeBound.TheVariants.{Clock, Solar}
 pub use Rattle.model.specs.declared.Trigger.{Trigger}
 pub use Rattle.model.specs.declared.Trigger.TheVariants.{TimerFires, Every, AtTime, AtSolar, Other}
 use Rattle.model.specs.Readings as reading
@@ -36,12 +51,26 @@ record_of img t i =
       e = word_at img t i 5;
     }
 
+-- the words of actions that say one of several
+abbrev pub hold_of : ℕ → Option ℕ
+hold_of w = cond (eqb w 2) None (Some w)
+
+abbrev pub light_answer_of : ℕ → ℕ → LightAnswer
+light_answer_of answer verb = cond (eqb answer 0) (Verb verb) (cond (eqb answer 1) Nothing Unevaluable)
+
+abbrev pub scene_of : ℕ → ℕ → Option ℕ
+scene_of answer scene = cond (eqb answer 0) (Some scene) None
+
+-- an integer, low and high word, or a text, its number and its byte length
+abbrev pub constant_of : ℕ → ℕ → ℕ → VarConstant
+constant_of tag low high = cond (eqb tag 1) (constant.Text low high) (constant.Int (joined low high))
+
 -- what a record says as an action of kind 0, 1, ..
 abbrev pub actions_of : Record → List Action
 actions_of r =
-    Light r.a r.b r.c r.d ∷
-    Recall r.a r.b r.c r.d ∷
-    Apply r.a r.b ∷
+    Light r.a (hold_of r.b) (light_answer_of r.c r.d) ∷
+    Recall (scene_of r.a r.b) r.c r.d ∷
+    Apply (scene_of r.a r.b) ∷
     Cycle r.a r.b ∷
     HclResume r.a ∷
     HclHold r.a ∷
@@ -55,51 +84,62 @@ actions_of r =
     TimerStart r.a r.b ∷
     TimerRestart r.a r.b ∷
     TimerCancel r.a ∷
-    VarSet r.a r.b r.c r.d ∷
+    VarSet r.a (constant_of r.b r.c r.d) ∷
     VarAdd r.a r.b ∷
     RuleEnable r.a ∷
     RuleDisable r.a ∷
     MqttPublish r.a r.b r.c ∷
     Log r.a ∷
     StatCount r.a ∷
-    NoAction ∷  -- 23 to 27: a flow action
-    NoAction ∷
-    NoAction ∷
-    NoAction ∷
-    NoAction ∷
-    Percent r.a r.b r.c ∷
     []
 
-unfoldable pub action_of : Record → Action
-action_of r = get_or (actions_of r) r.kind NoAction
+-- kind 28 stands behind the flow actions, 23 to 27
+unfoldable pub action_of : Record → Option Action
+action_of r = cond (eqb r.kind 28) (Some (Percent r.a (hold_of r.b) r.c)) (slice_get (actions_of r) r.kind)
 
 unfoldable pub flow_of : Record → FlowAction
 flow_of r =
     cond (ltb r.kind 23) Plain
     (get_or (Wait r.a ∷ After r.a r.b r.c ∷ Call r.a ∷ Repeat r.a r.b r.c ∷ Conditional r.a r.b r.c r.d r.e ∷ []) (r.kind - 23) Plain)
 
+-- the words of conditions, bounds and triggers that name one of several
+abbrev pub cmp_of : ℕ → Option Cmp
+cmp_of w = slice_get (Eq ∷ Ne ∷ Ge ∷ Le ∷ Gt ∷ Lt ∷ []) w
+
+abbrev pub event_of : ℕ → SolarEvent
+event_of w = cond (eqb w 0) Sunrise Sunset
+
+abbrev pub aggregate_of : ℕ → GroupAggregate
+aggregate_of w = cond (eqb w 0) AnyOn AllOff
+
+abbrev pub hcl_state_of : ℕ → hcl.HclState
+hcl_state_of w = cond (eqb w 0) Enabled Overridden
+
+abbrev pub operand_of : ℕ → ℕ → VarOperand
+operand_of tag w = cond (eqb tag 1) (operand.Text w) (operand.Value w)
+
 abbrev pub conditions_of : Record → List Condition
 conditions_of r =
     TimeInRange r.a r.b ∷
     DayIn r.a ∷
-    SunIs r.a ∷
-    LampIs r.a r.b r.c ∷
-    LampLevel r.a r.b r.c r.d ∷
-    LampCct r.a r.b r.c r.d ∷
-    GroupState r.a r.b r.c ∷
-    InputOccupancy r.a r.b r.c r.d ∷
-    InputLight r.a r.b r.c r.d r.e ∷
-    HclState r.a r.b ∷
+    SunIs (eqb r.a 1) ∷
+    LampIs r.a r.b (eqb r.c 1) ∷
+    LampLevel r.a r.b (cmp_of r.c) r.d ∷
+    LampCct r.a r.b (cmp_of r.c) r.d ∷
+    GroupState r.a r.b (aggregate_of r.c) ∷
+    InputOccupancy r.a r.b r.c (eqb r.d 1) ∷
+    InputLight r.a r.b r.c (eqb r.d 1) r.e ∷
+    HclState r.a (hcl_state_of r.b) ∷
     DeviceOnline r.a r.b ∷
     RuleEnabled r.a ∷
     LastFiredOlderThan r.a r.b ∷
     TimerRunning r.a ∷
     ControllerActive ∷
-    VarCompare r.a r.b r.c r.d ∷
+    VarCompare r.a (cmp_of r.b) (operand_of r.c r.d) ∷
     []
 
-unfoldable pub condition_of : Record → Condition
-condition_of r = get_or (conditions_of r) r.kind NoCondition
+unfoldable pub condition_of : Record → Option Condition
+condition_of r = slice_get (conditions_of r) r.kind
 
 -- a reading, from its code and its three reference words
 abbrev pub readings_of : ℕ → ℕ → ℕ → List reading.Reading
@@ -132,15 +172,14 @@ readings_of a b c =
 unfoldable pub reading_of : ℕ → ℕ → ℕ → ℕ → reading.Reading
 reading_of code a b c = get_or (readings_of a b c) code reading.EventOption
 
-unfoldable pub value_of : Record → Value
-value_of r =
-    get_or (Literal r.a r.b ∷ Reading (reading_of r.a r.b r.c r.d) ∷ Offset (reading_of r.a r.b r.c r.d) r.e ∷ []) r.kind NoValue
+unfoldable pub value_of : Record → Option Value
+value_of r = slice_get (Literal r.a r.b ∷ Reading (reading_of r.a r.b r.c r.d) ∷ Offset (reading_of r.a r.b r.c r.d) r.e ∷ []) r.kind
 
-unfoldable pub bound_of : Record → TimeBound
-bound_of r = get_or (Clock r.a r.b ∷ Solar r.a r.b ∷ []) r.kind NoBound
+unfoldable pub bound_of : Record → Option TimeBound
+bound_of r = slice_get (Clock r.a r.b ∷ Solar (event_of r.a) r.b ∷ []) r.kind
 
 unfoldable pub trigger_of : Record → Trigger
-trigger_of r = get_or (TimerFires r.a ∷ Every r.a ∷ AtTime r.a r.b r.c ∷ AtSolar r.a r.b ∷ []) r.kind Other
+trigger_of r = get_or (TimerFires r.a ∷ Every r.a ∷ AtTime r.a r.b r.c ∷ AtSolar (event_of r.a) r.b ∷ []) r.kind Other
 
 -- the parts of rule i
 module _ (img : List ℕ) where
@@ -159,7 +198,7 @@ module _ (img : List ℕ) where
   unfoldable pub triggers_of : ℕ → List Trigger
   triggers_of i = map (λ k. trigger_of (record_of img triggers k)) (up_from (word_at img rules i 4) (word_at img rules i 5))
 
-  unfoldable pub conditions_of_rule : ℕ → List Condition
+  unfoldable pub conditions_of_rule : ℕ → List (Option Condition)
   conditions_of_rule i = map (λ k. condition_of (record_of img conditions k)) (up_from (word_at img rules i 6) (word_at img rules i 7))
 
   -- the set's rules, by place in the image, and the place of the rule of a name

@@ -4,7 +4,7 @@ use Rattle.std.specs.Prelude.{Option, None, Some}
 use Rattle.words.specs.Saturating.{saturating_add, max64}
 use Rattle.model.specs.Arith.{has_day}
 use Rattle.model.specs.Lists.{◌>>=◌, any, flatten, keep, sort, to_list, up_from}
-use Rattle.model.specs.Rules.{triggers_of, name_order, rule_indices, rule_named, Trigger, TimerFires, Every, AtTime, AtSolar, Other}
+use Rattle.model.specs.Rules.{triggers_of, name_order, rule_indices, rule_named, SolarEvent, Trigger, TimerFires, Every, AtTime, AtSolar, Other}
 use Rattle.model.specs.World.{WallTime}
 use Rattle.model.specs.State.{Env, Rest, Volatile, Pending, NamedTimer, EverySlot, Store, RuleSet, with_rest, with_timers, with_every, with_prev_week_min, bump, is_enabled, ticks_time_unsynced}
 use Rattle.model.specs.Eval.{solar_of}
@@ -137,7 +137,7 @@ pub record WallKind : Type 0 where
 abbrev pub without_sun : WallKind → WallKind
 without_sun w = record { kind = w.kind; unsynced = true }
 
-unfoldable pub solar_due : Env → ℕ → ℕ → ℕ → ℕ → Option Bool
+unfoldable pub solar_due : Env → ℕ → ℕ → SolarEvent → ℕ → Option Bool
 solar_due e base window event offset = do
   sun ← e.world.sun
   Some (minute_due base window 127 (solar_of sun event offset))

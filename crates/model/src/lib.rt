@@ -38,24 +38,38 @@ pub struct Record {
     pub e: u32,
 }
 
-// Action kinds 0 to 22: the arms of `run_prim` and its callees; and kind 28, which stands with the lights.
+// What the image answers for a light: a verb, nothing, or that it cannot be told.
+#[derive(Clone, Copy)]
+pub enum LightAnswer {
+    Verb(u32),
+    Nothing,
+    Unevaluable,
+}
+
+// What a variable is set to: the 64 bits of an integer, or a text, by its number, with its length.
+#[derive(Clone, Copy)]
+pub enum VarConstant {
+    Int(u64),
+    Text { text: u32, bytes: u32 },
+}
+
+// Action kinds 0 to 22: the arms of `run_prim` and its callees; and kind 28, which stands with the lights. A `hold` is None where the rule's stands
+// for it, a scene where it cannot be told.
+// kept: `present` and `retain` are words and no bools, and so is what a `hold` holds: an effect carries them on as they are.
 #[derive(Clone, Copy)]
 pub enum Action {
     Light {
         target: u32,
-        hold: u32,
-        answer: u32,
-        verb: u32,
+        hold: Option<u32>,
+        answer: LightAnswer,
     },
     Recall {
-        answer: u32,
-        scene: u32,
+        scene: Option<u32>,
         present: u32,
         target: u32,
     },
     Apply {
-        answer: u32,
-        scene: u32,
+        scene: Option<u32>,
     },
     Cycle {
         first: u32,
@@ -64,7 +78,7 @@ pub enum Action {
     // Kind 28. The value is in parts per million of full light.
     Percent {
         target: u32,
-        hold: u32,
+        hold: Option<u32>,
         value: u32,
     },
     HclResume {
@@ -115,12 +129,9 @@ pub enum Action {
     TimerCancel {
         timer: u32,
     },
-    // Tag 0: an integer, low and high word. Tag 1: a text, its number and its byte length.
     VarSet {
         name: u32,
-        tag: u32,
-        low: u32,
-        high: u32,
+        value: VarConstant,
     },
     VarAdd {
         name: u32,
@@ -143,8 +154,6 @@ pub enum Action {
     StatCount {
         name: u32,
     },
-    // No kind of primitive action.
-    NoAction,
 }
 
 // Action kinds 23 to 27; every other action is plain.
@@ -176,7 +185,43 @@ pub enum FlowAction {
     Plain,
 }
 
-// The arms of `eval_condition`.
+// How two numbers or two texts are compared.
+#[derive(Clone, Copy, PartialEq, Eq)]
+pub enum Cmp {
+    Eq,
+    Ne,
+    Ge,
+    Le,
+    Gt,
+    Lt,
+}
+
+#[derive(Clone, Copy)]
+pub enum SolarEvent {
+    Sunrise,
+    Sunset,
+}
+
+#[derive(Clone, Copy)]
+pub enum GroupAggregate {
+    AnyOn,
+    AllOff,
+}
+
+#[derive(Clone, Copy)]
+pub enum HclState {
+    Enabled,
+    Overridden,
+}
+
+// What a variable is compared with: a value, by its record, or a text, by its number.
+#[derive(Clone, Copy)]
+pub enum VarOperand {
+    Value(u32),
+    Text(u32),
+}
+
+// The arms of `eval_condition`. A comparison is None where the word of the image is none of the six.
 #[derive(Clone, Copy)]
 pub enum Condition {
     TimeInRange {
@@ -187,48 +232,46 @@ pub enum Condition {
         days: u32,
     },
     SunIs {
-        up: u32,
+        up: bool,
     },
     LampIs {
         adapter: u32,
         id: u32,
-        on: u32,
+        on: bool,
     },
     LampLevel {
         adapter: u32,
         id: u32,
-        cmp: u32,
+        cmp: Option<Cmp>,
         value: u32,
     },
     LampCct {
         adapter: u32,
         id: u32,
-        cmp: u32,
+        cmp: Option<Cmp>,
         value: u32,
     },
-    // Any on 0, all off 1.
     GroupState {
         adapter: u32,
         id: u32,
-        state: u32,
+        state: GroupAggregate,
     },
     InputOccupancy {
         adapter: u32,
         address: u32,
         instance: u32,
-        occupied: u32,
+        occupied: bool,
     },
     InputLight {
         adapter: u32,
         address: u32,
         instance: u32,
-        above: u32,
+        above: bool,
         threshold: u32,
     },
-    // Enabled 0, overridden 1.
     HclState {
         target: u32,
-        state: u32,
+        state: HclState,
     },
     DeviceOnline {
         adapter: u32,
@@ -245,15 +288,11 @@ pub enum Condition {
         timer: u32,
     },
     ControllerActive,
-    // Tag 0: the operand is a value. Tag 1: it is the number of a text.
     VarCompare {
         name: u32,
-        cmp: u32,
-        tag: u32,
-        operand: u32,
+        cmp: Option<Cmp>,
+        operand: VarOperand,
     },
-    // No kind of condition.
-    NoCondition,
 }
 
 // The arms of `eval_reading`: of a lamp or a group by adapter and id, of an input by adapter, address and instance.
@@ -291,19 +330,13 @@ pub enum Value {
     Reading { reading: Reading },
     // Signed milliseconds, as bits.
     Offset { reading: Reading, delta: u32 },
-    // No kind of value.
-    NoValue,
 }
 
-// kept: no Option, as it would be no plainer: each enum that an image's records name has a variant for a number that names no kind (NoAction,
-// NoCondition, NoValue), and this is that of bounds.
 #[derive(Clone, Copy)]
 pub enum TimeBound {
     Clock { hour: u32, minute: u32 },
-    // Sunrise 0, sunset 1; signed milliseconds, as bits.
-    Solar { event: u32, offset_ms: u32 },
-    // No kind of time bound.
-    NoBound,
+    // Signed milliseconds, as bits.
+    Solar { event: SolarEvent, offset_ms: u32 },
 }
 
 #[derive(Clone, Copy)]
@@ -312,7 +345,7 @@ pub enum Trigger {
     Every { period_ms: u32 },
     // Bit d for weekday d.
     AtTime { hour: u32, minute: u32, days: u32 },
-    AtSolar { event: u32, offset_ms: u32 },
+    AtSolar { event: SolarEvent, offset_ms: u32 },
     // Any other: never due here.
     Other,
 }
@@ -490,7 +523,9 @@ impl From<TriggerKind> for u32 {
     }
 }
 
-// Kind 0 to 11 in `Effect` order, 12 a level, and four words of fields: document 01, "Outcomes and effects".
+// A kind, by its number, and four words of fields: document 01, "Outcomes and effects".
+// kept: the kind is a word and no `EffectKind`. An effect is also what `telegrams::effect_at` reads from lent words, and these may name no kind, which
+// `are_effects` refuses with 60.
 #[derive(Clone, Copy)]
 pub struct Effect {
     pub kind: u32,

@@ -13,6 +13,7 @@ use Rattle.model.specs.Lists.{any, present}
 use Rattle.model.specs.State.{Env}
 use Rattle.model.specs.Wheel.{WallKind, cyclic_dist, in_window, weekdays, minute_due, solar_due, due_wall_kind, by_time, by_solar, without_sun}
 use Rattle.model.specs.declared.SunTimes.{SunTimes}
+use Rattle.model.specs.declared.SolarEvent.{SolarEvent}
 use Rattle.model.specs.declared.Trigger.{Trigger}
 use Rattle.model.specs.declared.Trigger.TheVariants.{TimerFires, Every, AtTime, AtSolar, Other}
 use Rattle.next.specs.NextStart.{on_days, stands_at, due_in}
@@ -75,15 +76,15 @@ module _ (base : ℕ) (few : base < 20159) where
     abbrev gives : List Trigger → Bool
     gives ts = present (due_wall_kind e base 1 ts).kind
 
-    sun-due : {s : SunTimes} (event offset : ℕ) → sun ≡ Some s → solar_due e base 1 event offset ≡ Some (on_days here 127 (solar_of s event offset))
+    sun-due : {s : SunTimes} (event : SolarEvent) (offset : ℕ) → sun ≡ Some s → solar_due e base 1 event offset ≡ Some (on_days here 127 (solar_of s event offset))
     unfolding solar_due
     sun-due {s = s} event offset h = rw h (ap Some (days-due 127 (solar_of s event offset)))
 
-    sun-missing : (event offset : ℕ) → sun ≡ None → solar_due e base 1 event offset ≡ None
+    sun-missing : (event : SolarEvent) (offset : ℕ) → sun ≡ None → solar_due e base 1 event offset ≡ None
     unfolding solar_due
     sun-missing event offset h = rw h
 
-    sun-gives : (o : Option SunTimes) (event offset : ℕ) (ts : List Trigger) → sun ≡ o → gives (AtSolar event offset ∷ ts) ≡ stands_at o here (AtSolar event offset) || gives ts
+    sun-gives : (o : Option SunTimes) (event : SolarEvent) (offset : ℕ) (ts : List Trigger) → sun ≡ o → gives (AtSolar event offset ∷ ts) ≡ stands_at o here (AtSolar event offset) || gives ts
     unfolding due_wall_kind stands_at
     sun-gives None event offset ts h = ap (λ (o : Option Bool). present (solar_kind o (due_wall_kind e base 1 ts)).kind) (sun-missing event offset h)
     sun-gives (Some s) event offset ts h =

@@ -10,6 +10,7 @@ use Rattle.model.specs.Eval.{solar_of}
 use Rattle.model.specs.Image.{trailer, first_of, width_of, size_of, word_at}
 use Rattle.model.specs.Rules.{trigger_of, triggers_of}
 use Rattle.model.specs.declared.SunTimes.{SunTimes}
+use Rattle.model.specs.declared.SolarEvent.TheVariants.{Sunrise}
 use Rattle.model.specs.declared.Trigger.{Trigger}
 use Rattle.model.specs.declared.Trigger.TheVariants.{TimerFires, Every, AtTime, AtSolar, Other}
 use Rattle.next.specs.NextStart.{NextStart, NoStart, Start, first_from, on_days, stands_at, due_in, starts_in, lowest, minutes_ahead, name_ahead, next_from}
@@ -23,12 +24,12 @@ unfolding first_from due_in stands_at on_days has_day
 present-minute = (refl, refl, refl, refl)
 
 -- 10,081 is never: no day, no sun, periods and timers
-no-minute : (minutes None 360 (AtTime 6 0 0) ≡ 10081) × (minutes None 0 (AtSolar 0 0) ≡ 10081) × (minutes None 0 (Every 1000) ≡ 10081) × (minutes None 0 (TimerFires 1) ≡ 10081) × (minutes None 0 Other ≡ 10081)
+no-minute : (minutes None 360 (AtTime 6 0 0) ≡ 10081) × (minutes None 0 (AtSolar Sunrise 0) ≡ 10081) × (minutes None 0 (Every 1000) ≡ 10081) × (minutes None 0 (TimerFires 1) ≡ 10081) × (minutes None 0 Other ≡ 10081)
 unfolding first_from due_in stands_at on_days has_day
 no-minute = (refl, refl, refl, refl, refl)
 
 -- the sun's own minute, on every day
-of-sun : minutes (Some (record { sunrise_min = 300; sunset_min = 1200 })) 301 (AtSolar 0 0) ≡ 1439
+of-sun : minutes (Some (record { sunrise_min = 300; sunset_min = 1200 })) 301 (AtSolar Sunrise 0) ≡ 1439
 unfolding first_from due_in stands_at on_days has_day solar_of solar_minute
 of-sun = refl
 

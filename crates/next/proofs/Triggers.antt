@@ -14,6 +14,7 @@ use Rattle.model.specs.Lists.{any}
 use Rattle.model.specs.Rules.{triggers_of}
 use Rattle.model.specs.World.{is_one}
 use Rattle.model.specs.declared.SunTimes.{SunTimes}
+use Rattle.model.specs.declared.SolarEvent.{SolarEvent}
 use Rattle.model.specs.declared.Trigger.{Trigger}
 use Rattle.model.specs.declared.Trigger.TheVariants.{TimerFires, Every, AtTime, AtSolar, Other}
 use Rattle.next.specs.NextStart.{first_from, on_days, stands_at, due_in, starts_in}
@@ -52,11 +53,11 @@ module _ (sun : Option SunTimes) (t : ℕ) where
   unfolding due_in stands_at
   at-time h minute days e = e
 
-  pub at-sun : (event offset : ℕ) {s : SunTimes} {r : Option ℕ} → sun ≡ Some s → r ≡ within (first_from (λ m. on_days ((t + m) % 10080) 127 (solar_of s event offset)) 1 10080) → r ≡ minutes_to (AtSolar event offset)
+  pub at-sun : (event : SolarEvent) (offset : ℕ) {s : SunTimes} {r : Option ℕ} → sun ≡ Some s → r ≡ within (first_from (λ m. on_days ((t + m) % 10080) 127 (solar_of s event offset)) 1 10080) → r ≡ minutes_to (AtSolar event offset)
   unfolding due_in stands_at
   at-sun event offset h e = rw h e
 
-  pub no-sun : (event offset : ℕ) → sun ≡ None → None ≡ minutes_to (AtSolar event offset)
+  pub no-sun : (event : SolarEvent) (offset : ℕ) → sun ≡ None → None ≡ minutes_to (AtSolar event offset)
   unfolding due_in stands_at
   no-sun event offset h = at-no-time (AtSolar event offset) (λ k. rw h)
 

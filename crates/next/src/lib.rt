@@ -12,7 +12,7 @@ ghost use Rattle.next.specs.Distance.{within, day_ahead, start_of, best_of};
 
 use eval::time::{has_day, solar_minute};
 use image::layout::{Image, Table};
-use model::Trigger;
+use model::{SolarEvent, Trigger};
 
 // kept: no Option, as it would be no plainer: there are three answers, and an unknown clock is neither a start nor none.
 #[derive(Clone, Copy)]
@@ -78,7 +78,7 @@ impl Asked<'_> {
             .min()
     }
 
-    fn solar_minutes(&self, event: u32, offset_ms: u32) -> Option<u32>
+    fn solar_minutes(&self, event: SolarEvent, offset_ms: u32) -> Option<u32>
         ensures { result ≡ within (first_from (λ m. due_in self.now.sun self.now.t (trigger.AtSolar event offset_ms) m) 1 10080) }
     {
         let sun = self.sun?;

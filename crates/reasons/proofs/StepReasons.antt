@@ -9,11 +9,12 @@ use lib.IntN.{ℤ, pos, negsuc}
 use lib.ListN.{length}
 use Rattle.model.specs.Lists.{present}
 use Rattle.model.specs.Image.{text_limit, group_limit}
-use Rattle.model.specs.World.{is_one}
 use Rattle.model.specs.Rules.{rule_named}
 use Rattle.model.specs.Flat.{step_at}
+use Rattle.model.specs.declared.LightAnswer.TheVariants.{Verb, Nothing, Unevaluable}
+use Rattle.model.specs.declared.VarConstant.TheVariants as constant
 use Rattle.model.specs.declared.Action.{Action}
-use Rattle.model.specs.declared.Action.TheVariants.{Light, Recall, Apply, Cycle, HclResume, HclHold, HclEnable, HclDisable, FeedbackOn, FeedbackOff, PanelSelect, CancelHold, CatchMovement, TimerStart, TimerRestart, TimerCancel, VarSet, VarAdd, RuleEnable, RuleDisable, MqttPublish, Log, StatCount, Percent, NoAction}
+use Rattle.model.specs.declared.Action.TheVariants.{Light, Recall, Apply, Cycle, HclResume, HclHold, HclEnable, HclDisable, FeedbackOn, FeedbackOff, PanelSelect, CancelHold, CatchMovement, TimerStart, TimerRestart, TimerCancel, VarSet, VarAdd, RuleEnable, RuleDisable, MqttPublish, Log, StatCount, Percent}
 use Rattle.model.specs.declared.Point.{Point}
 use Rattle.model.specs.declared.Step.{Step}
 use Rattle.model.specs.declared.Step.TheVariants.{Primitive, Wait, Branch, After, Fail}
@@ -21,7 +22,7 @@ use Rattle.model.specs.declared.VarValue.{VarValue}
 use Rattle.model.specs.declared.VarValue.TheVariants.{Int, Text}
 use Rattle.model.specs.State.{Env, Rest, Volatile, timer_named, var_named, is_full}
 use Rattle.model.specs.Eval.{value_at, condition_at}
-use Rattle.model.specs.Actions.{Job, PrimResult, fails, run_prim, prim_light, prim_recall, prim_apply, prim_cycle, cycle_effect, level_at, selects, dims, arm_timer, var_set, prim_var_set, var_add, set_rule_bit}
+use Rattle.model.specs.Actions.{Job, PrimResult, fails, run_prim, run_known, prim_light, prim_recall, prim_apply, prim_cycle, cycle_effect, level_at, selects, dims, arm_timer, var_set, prim_var_set, var_add, set_rule_bit}
 use Rattle.model.specs.Exec.{RunOutput, StepResult, first_reason, schedule, dropped, accepted, after_prim, run_branch, exec, continue_run, with_step, run_steps, unpaid}
 use Rattle.model.specs.Dry.{DryOutput, NextStep, next_step, dry_branch, dry_step, dry_turn, run_steps_dry, unpaid_dry}
 use Rattle.ledger.proofs.ListLaws.{by}
@@ -49,7 +50,7 @@ module _ (e : Env) (j : Job) where
     choose (Some (negsuc n)) a g = failing s
     choose (Some (pos n)) a g = either (leb n (group_limit e.set.image)) _ _ refl (failing s)
 
-    dim : (o : Option ℕ) (t d : ℕ) → Known (dims e j s t d o).reason
+    dim : (o : Option ℕ) (t : ℕ) (d : Option ℕ) → Known (dims e j s t d o).reason
     dim None t d = failing s
     dim (Some level) t d = refl
 
@@ -73,9 +74,13 @@ module _ (e : Env) (j : Job) where
 
     action : (x : Action) → Known (run_prim e j s x).reason
     unfolding run_prim prim_light prim_recall prim_apply prim_cycle cycle_effect prim_var_set
-    action (Light t d a v) = either (eqb a 0) _ _ refl (either (eqb a 1) _ _ refl (failing s))
-    action (Recall a c m t) = either (eqb a 0) _ _ refl (failing s)
-    action (Apply a c) = either (eqb a 0) _ _ refl (failing s)
+    action (Light t d (Verb v)) = refl
+    action (Light t d Nothing) = refl
+    action (Light t d Unevaluable) = failing s
+    action (Recall None m t) = failing s
+    action (Recall (Some c) m t) = refl
+    action (Apply None) = failing s
+    action (Apply (Some c)) = refl
     action (Cycle f k) = either (eqb k 0) _ _ (failing s) refl
     action (HclResume t) = refl
     action (HclHold t) = refl
@@ -89,7 +94,8 @@ module _ (e : Env) (j : Job) where
     action (TimerStart n ms) = either (present (timer_named s n)) _ _ refl (arm n ms s)
     action (TimerRestart n ms) = arm n ms _
     action (TimerCancel n) = refl
-    action (VarSet n t l x) = either (is_one t) _ _ (either (ltb (text_limit e.set.image) x) _ _ (failing s) (assign n _)) (assign n _)
+    action (VarSet n (constant.Text t b)) = either (ltb (text_limit e.set.image) b) _ _ (failing s) (assign n _)
+    action (VarSet n (constant.Int x)) = assign n _
     action (VarAdd n v) = add (value_at e s v) (var_named s n) n
     action (RuleEnable r) = bit (rule_named e.set.image r) r true
     action (RuleDisable r) = bit (rule_named e.set.image r) r false
@@ -97,7 +103,10 @@ module _ (e : Env) (j : Job) where
     action (Log t) = refl
     action (StatCount n) = refl
     action (Percent t d v) = dim (level_at (value_at e s v)) t d
-    action NoAction = failing s
+
+    known : (o : Option Action) → Known (run_known e j s o).reason
+    known None = failing s
+    known (Some x) = action x
 
   -- STEPS -----------------------------------------------------------------------------------------------------------------------------
   after : (o : Option ℕ) (a : PrimResult) (to : Point) (v : Volatile) → Known a.reason → Known (after_prim o a to v).reason
@@ -117,7 +126,7 @@ module _ (e : Env) (j : Job) where
 
   step : (b : ℕ) (sp : Point) (x : Step) (v : Volatile) → Known (exec e j b sp x v).reason
   unfolding exec
-  step b sp (Primitive i) v = after _ _ _ v (action v.rest _)
+  step b sp (Primitive i) v = after _ _ _ v (known v.rest _)
   step b sp (Wait ms) v = later b ms _ v
   step b sp (After ms) v = later b ms _ v
   step b sp (Branch c t n) v = branched (condition_at e v.rest c) t n sp v
@@ -153,7 +162,7 @@ module _ (e : Env) (j : Job) where
 
   dry-step : (x : Step) (sp : Point) (qs : List Point) (s : Rest) → Known (dry_step e j x sp qs s).reason
   unfolding dry_step
-  dry-step (Primitive i) sp qs s = action s _
+  dry-step (Primitive i) sp qs s = known s _
   dry-step (Wait ms) sp qs s = refl
   dry-step (After ms) sp qs s = refl
   dry-step (Branch c t n) sp qs s = dry-branched (condition_at e s c) t n sp qs s

@@ -10,10 +10,13 @@ use lib.IntN.{ℤ, pos, negsuc}
 use Rattle.model.specs.Lists.{present}
 use Rattle.model.specs.Image.{budget, group_limit, text_limit}
 use Rattle.model.specs.Rows.{actions}
+use Rattle.model.specs.declared.LightAnswer.{LightAnswer}
+use Rattle.model.specs.declared.LightAnswer.TheVariants.{Verb, Nothing, Unevaluable}
+use Rattle.model.specs.declared.VarConstant.{VarConstant}
+use Rattle.model.specs.declared.VarConstant.TheVariants as constant
 use Rattle.model.specs.declared.Action.{Action}
-use Rattle.model.specs.declared.Action.TheVariants.{Light, Recall, Apply, Cycle, Percent, HclResume, HclHold, HclEnable, HclDisable, FeedbackOn, FeedbackOff, PanelSelect, CancelHold, CatchMovement, TimerStart, TimerRestart, TimerCancel, VarSet, VarAdd, RuleEnable, RuleDisable, MqttPublish, Log, StatCount, NoAction}
+use Rattle.model.specs.declared.Action.TheVariants.{Light, Recall, Apply, Cycle, Percent, HclResume, HclHold, HclEnable, HclDisable, FeedbackOn, FeedbackOff, PanelSelect, CancelHold, CatchMovement, TimerStart, TimerRestart, TimerCancel, VarSet, VarAdd, RuleEnable, RuleDisable, MqttPublish, Log, StatCount}
 use Rattle.model.specs.Rules.{record_of, rule_named, conditions_of_rule, action_of}
-use Rattle.model.specs.World.{is_one}
 use Rattle.model.specs.declared.Step.{Step}
 use Rattle.model.specs.declared.Point.{Point}
 use Rattle.model.specs.declared.Step.TheVariants.{Primitive, Wait, Branch, After, Fail}
@@ -23,7 +26,7 @@ use Rattle.model.specs.declared.VarValue.TheVariants.{Int, Text}
 use Rattle.model.specs.declared.Effect.{Effect}
 use Rattle.model.specs.State.{next_number, Env, Rest, Volatile, with_rest, bump_by, bump, cancel_timer, timer_named, var_named, strike, is_full, is_enabled, partial_outcomes, effects_emitted, suppressed_cooldown, actions_failed, activations_total, conditions_rejected, continuations_dropped, continuations_fired, continuations_scheduled}
 use Rattle.model.specs.Eval.{condition_at, conditions_hold, value_at}
-use Rattle.model.specs.Actions.{Job, PrimResult, fails, run_prim, prim_light, prim_recall, prim_apply, prim_cycle, cycle_effect, level_at, selects, dims, arm_timer, var_set, prim_var_set, var_add, set_rule_bit, prim_at}
+use Rattle.model.specs.Actions.{Job, PrimResult, fails, run_prim, run_known, prim_light, prim_recall, prim_apply, prim_cycle, cycle_effect, level_at, selects, dims, arm_timer, var_set, prim_var_set, var_add, set_rule_bit, prim_at}
 use Rattle.model.specs.Exec.{Scheduled, dropped, accepted, schedule, StepResult, after_prim, run_branch, exec, RunOutput, continue_run, with_step, run_steps}
 use Rattle.model.specs.Flat.{step_at}
 use Rattle.model.specs.Activate.{Auto, Handled, job_of, numbered, Decision, begins, suppressed, unevaluable, verdict, in_cooldown, decide, finish_wet, execute_wet, execute, decided, activate, resume}
@@ -75,17 +78,21 @@ module _ (e : Env) (j : Job) (s : Rest) where
   added name (Some x) (Some (Int n)) = assigned name _
   added name (Some x) (Some (Text t)) = failed s refl
 
-  lit : (t h a v : ℕ) → Kept s (prim_light e j s t h a v)
+  lit : (t : ℕ) (h : Option ℕ) (a : LightAnswer) → Kept s (prim_light e j s t h a)
   unfolding Kept prim_light
-  lit t h a v = either s (eqb a 0) _ _ refl (either s (eqb a 1) _ _ refl (failed s refl))
+  lit t h (Verb v) = refl
+  lit t h Nothing = refl
+  lit t h Unevaluable = failed s refl
 
-  recalled : (a x m t : ℕ) → Kept s (prim_recall e j s a x m t)
+  recalled : (x : Option ℕ) (m t : ℕ) → Kept s (prim_recall e j s x m t)
   unfolding Kept prim_recall
-  recalled a x m t = either s (eqb a 0) _ _ refl (failed s refl)
+  recalled None m t = failed s refl
+  recalled (Some x) m t = refl
 
-  applied : (a x : ℕ) → Kept s (prim_apply e j s a x)
+  applied : (x : Option ℕ) → Kept s (prim_apply e j s x)
   unfolding Kept prim_apply
-  applied a x = either s (eqb a 0) _ _ refl (failed s refl)
+  applied None = failed s refl
+  applied (Some x) = refl
 
   cycled : (f n : ℕ) → Kept s (prim_cycle e j s f n)
   unfolding Kept prim_cycle cycle_effect
@@ -97,14 +104,15 @@ module _ (e : Env) (j : Job) (s : Rest) where
   selected a g (Some (pos n)) = either s (leb n (group_limit e.set.image)) _ _ refl (failed s refl)
   selected a g (Some (negsuc n)) = failed s refl
 
-  dimmed : (t h : ℕ) (o : Option ℕ) → Kept s (dims e j s t h o)
+  dimmed : (t : ℕ) (h o : Option ℕ) → Kept s (dims e j s t h o)
   unfolding Kept
   dimmed t h None = failed s refl
   dimmed t h (Some level) = refl
 
-  text-or-number : (n t l h : ℕ) → Kept s (prim_var_set e j s n t l h)
+  text-or-number : (n : ℕ) (v : VarConstant) → Kept s (prim_var_set e j s n v)
   unfolding prim_var_set
-  text-or-number n t l h = either s (is_one t) _ _ (either s (ltb (text_limit e.set.image) h) _ _ (failed s refl) (assigned n _)) (assigned n _)
+  text-or-number n (constant.Text t b) = either s (ltb (text_limit e.set.image) b) _ _ (failed s refl) (assigned n _)
+  text-or-number n (constant.Int x) = assigned n _
 
   bit-set : (r : ℕ) (on : Bool) (o : Option ℕ) → Kept s (set_rule_bit e j s r on o)
   unfolding Kept
@@ -113,9 +121,9 @@ module _ (e : Env) (j : Job) (s : Rest) where
 
   action : (a : Action) → Kept s (run_prim e j s a)
   unfolding Kept run_prim
-  action (Light t h a v) = lit t h a v
-  action (Recall a x m t) = recalled a x m t
-  action (Apply a x) = applied a x
+  action (Light t h a) = lit t h a
+  action (Recall x m t) = recalled x m t
+  action (Apply x) = applied x
   action (Cycle f n) = cycled f n
   action (Percent t h v) = dimmed t h (level_at (value_at e s v))
   action (HclResume t) = refl
@@ -130,14 +138,17 @@ module _ (e : Env) (j : Job) (s : Rest) where
   action (TimerStart t ms) = either s (present (timer_named s t)) _ _ refl (armed t ms s refl)
   action (TimerRestart t ms) = armed t ms (cond j.dry s (cancel_timer t s)) (canceled t)
   action (TimerCancel t) = canceled t
-  action (VarSet n t l h) = text-or-number n t l h
+  action (VarSet n v) = text-or-number n v
   action (VarAdd n v) = added n (value_at e s v) (var_named s n)
   action (RuleEnable r) = bit-set r true (rule_named e.set.image r)
   action (RuleDisable r) = bit-set r false (rule_named e.set.image r)
   action (MqttPublish t p r) = refl
   action (Log t) = refl
   action (StatCount n) = refl
-  action NoAction = failed s refl
+
+  known : (o : Option Action) → Kept s (run_known e j s o)
+  known None = failed s refl
+  known (Some a) = action a
 
 -- A RUN -------------------------------------------------------------------------------------------------------------------------
 struck : (r : ℕ) (v : Volatile) → SameIn v (strike r v)
@@ -166,7 +177,7 @@ module _ (e : Env) (j : Job) where
 
   step : (b : ℕ) (sp : Point) (x : Step) (v : Volatile) → SameIn v (exec e j b sp x v).vol
   unfolding exec
-  step b sp (Primitive i) v = let a = prim_at e j v.rest i in after-action a.disables a _ v (action e j v.rest (action_of (record_of e.set.image actions i)))
+  step b sp (Primitive i) v = let a = prim_at e j v.rest i in after-action a.disables a _ v (known e j v.rest (action_of (record_of e.set.image actions i)))
   step b sp (Wait ms) v = scheduled b ms _ v
   step b sp (After ms) v = scheduled b ms _ v
   step b sp (Branch c t n) v = branched (condition_at e v.rest c) t n sp v

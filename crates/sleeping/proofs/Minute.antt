@@ -10,27 +10,36 @@ use lib.Dec.{leb, ltb, eqb}
 use lib.IntN.{ℤ, pos, negsuc}
 use Rattle.model.specs.Lists.{◌>>=◌, present}
 use Rattle.model.specs.Image.{group_limit, text_limit}
-use Rattle.model.specs.Rows.{bounds}
+use Rattle.model.specs.Rows.{values, bounds}
 use Rattle.model.specs.declared.Reading as sort
 use Rattle.model.specs.declared.Reading.TheVariants as reading
-use Rattle.model.specs.Rules.{record_of, rule_named, bound_of}
+use Rattle.model.specs.Rules.{record_of, rule_named, value_of, bound_of}
 use Rattle.model.specs.declared.Value.{Value}
-use Rattle.model.specs.declared.Value.TheVariants.{Literal, Reading, Offset, NoValue}
+use Rattle.model.specs.declared.Value.TheVariants.{Literal, Reading, Offset}
+use Rattle.model.specs.declared.Cmp.{Cmp}
+use Rattle.model.specs.declared.HclState as hcl
+use Rattle.model.specs.declared.HclState.TheVariants.{Enabled, Overridden}
+use Rattle.model.specs.declared.VarOperand.{VarOperand}
+use Rattle.model.specs.declared.VarOperand.TheVariants as operand
 use Rattle.model.specs.declared.TimeBound.{TimeBound}
-use Rattle.model.specs.declared.TimeBound.TheVariants.{Clock, Solar, NoBound}
+use Rattle.model.specs.declared.TimeBound.TheVariants.{Clock, Solar}
 use Rattle.model.specs.declared.Condition.{Condition}
-use Rattle.model.specs.declared.Condition.TheVariants.{TimeInRange, DayIn, SunIs, LampIs, LampLevel, LampCct, GroupState, InputOccupancy, InputLight, HclState, DeviceOnline, RuleEnabled, LastFiredOlderThan, TimerRunning, ControllerActive, VarCompare, NoCondition}
+use Rattle.model.specs.declared.Condition.TheVariants.{TimeInRange, DayIn, SunIs, LampIs, LampLevel, LampCct, GroupState, InputOccupancy, InputLight, HclState, DeviceOnline, RuleEnabled, LastFiredOlderThan, TimerRunning, ControllerActive, VarCompare}
+use Rattle.model.specs.declared.LightAnswer.{LightAnswer}
+use Rattle.model.specs.declared.LightAnswer.TheVariants.{Verb, Nothing, Unevaluable}
+use Rattle.model.specs.declared.VarConstant.{VarConstant}
+use Rattle.model.specs.declared.VarConstant.TheVariants as constant
 use Rattle.model.specs.declared.Action.{Action}
-use Rattle.model.specs.declared.Action.TheVariants.{Light, Recall, Apply, Cycle, HclResume, HclHold, HclEnable, HclDisable, FeedbackOn, FeedbackOff, PanelSelect, CancelHold, CatchMovement, TimerStart, TimerRestart, TimerCancel, VarSet, VarAdd, RuleEnable, RuleDisable, MqttPublish, Log, StatCount, Percent, NoAction}
-use Rattle.model.specs.World.{is_one, lamp, device, hcl_target}
+use Rattle.model.specs.declared.Action.TheVariants.{Light, Recall, Apply, Cycle, HclResume, HclHold, HclEnable, HclDisable, FeedbackOn, FeedbackOff, PanelSelect, CancelHold, CatchMovement, TimerStart, TimerRestart, TimerCancel, VarSet, VarAdd, RuleEnable, RuleDisable, MqttPublish, Log, StatCount, Percent}
+use Rattle.model.specs.World.{lamp, device, hcl_target}
 use Rattle.model.specs.declared.LampState.{LampState}
 use Rattle.model.specs.declared.DeviceState.{DeviceState}
 use Rattle.model.specs.declared.HclTargetState.{HclTargetState}
 use Rattle.model.specs.declared.VarValue.{VarValue}
 use Rattle.model.specs.declared.VarValue.TheVariants.{Int, Text}
 use Rattle.model.specs.State.{Env, Rest, with_prev_week_min, bump_by, is_enabled, last_activation_at, cycle_pos_at, timer_named, cancel_timer, add_timer, var_named, put_var, with_vars}
-use Rattle.model.specs.Eval.{sun_is_up, eval_reading, eval_value, value_at, resolve_time_bound, level_is, compare_var, hcl_is, older_than, device_online, rule_enabled, last_fired_older, eval_condition, conditions_hold}
-use Rattle.model.specs.Actions.{Job, PrimResult, emits, no_effect, fails, run_prim, prim_light, prim_recall, prim_apply, prim_cycle, cycle_effect, selects, arm_timer, var_set, prim_var_set, var_add, set_rule_bit, level_at, dims}
+use Rattle.model.specs.Eval.{sun_is_up, eval_reading, eval_value, value_at, resolve_time_bound, bound_at, level_is, compare_var, hcl_is, older_than, device_online, rule_enabled, last_fired_older, eval_condition, conditions_hold}
+use Rattle.model.specs.Actions.{Job, PrimResult, emits, no_effect, fails, run_prim, run_known, prim_light, prim_recall, prim_apply, prim_cycle, cycle_effect, selects, arm_timer, var_set, prim_var_set, var_add, set_rule_bit, level_at, dims}
 
 -- CONDITIONS AND VALUES ---------------------------------------------------------------------------------------------------------
 module _ (m : Option ℕ) (e : Env) (s : Rest) where
@@ -65,36 +74,46 @@ module _ (m : Option ℕ) (e : Env) (s : Rest) where
   value_same (Literal low high) = refl
   value_same (Reading r) = reading-same r
   value_same (Offset r delta) = rw (reading-same r)
-  value_same NoValue = refl
 
   value_at-same : (i : ℕ) → value_at e (with_prev_week_min m s) i ≡ value_at e s i
-  value_at-same i = value_same _
+  value_at-same i = known (value_of (record_of e.set.image values i))
+    where
+      known : (o : Option Value) → (o >>= eval_value e (with_prev_week_min m s)) ≡ (o >>= eval_value e s)
+      known None = refl
+      known (Some v) = value_same v
 
   bound-same : (b : TimeBound) → resolve_time_bound e (with_prev_week_min m s) b ≡ resolve_time_bound e s b
   unfolding resolve_time_bound
   bound-same (Clock hour minute) = refl
   bound-same (Solar event offset) = refl
-  bound-same NoBound = refl
 
-  level-same : (cmp : ℕ) (o : Option ℕ) (v : ℕ) → level_is e (with_prev_week_min m s) cmp o v ≡ level_is e s cmp o v
+  bound_at-same : (i : ℕ) → bound_at e (with_prev_week_min m s) i ≡ bound_at e s i
+  bound_at-same i = known (bound_of (record_of e.set.image bounds i))
+    where
+      known : (o : Option TimeBound) → (o >>= resolve_time_bound e (with_prev_week_min m s)) ≡ (o >>= resolve_time_bound e s)
+      known None = refl
+      known (Some b) = bound-same b
+
+  level-same : (cmp : Option Cmp) (o : Option ℕ) (v : ℕ) → level_is e (with_prev_week_min m s) cmp o v ≡ level_is e s cmp o v
   level-same cmp None v = refl
   level-same cmp (Some level) v = rw (value_at-same v)
 
-  lamp-level-same : (cmp v : ℕ) (o : Option LampState)
+  lamp-level-same : (cmp : Option Cmp) (v : ℕ) (o : Option LampState)
       → (o >>= (λ l. level_is e (with_prev_week_min m s) cmp l.level v)) ≡ (o >>= (λ l. level_is e s cmp l.level v))
   lamp-level-same cmp v None = refl
   lamp-level-same cmp v (Some l) = level-same cmp l.level v
 
-  compare_same : (o : Option VarValue) (cmp : ℕ) (isText : Bool) (x : ℕ) → compare_var e (with_prev_week_min m s) o cmp isText x ≡ compare_var e s o cmp isText x
-  compare_same None cmp isText x = refl
-  compare_same (Some (Text t)) cmp true x = refl
-  compare_same (Some (Text t)) cmp false x = refl
-  compare_same (Some (Int n)) cmp true x = refl
-  compare_same (Some (Int n)) cmp false x = rw (value_at-same x)
+  compare_same : (o : Option VarValue) (cmp : Option Cmp) (x : VarOperand) → compare_var e (with_prev_week_min m s) o cmp x ≡ compare_var e s o cmp x
+  compare_same None cmp x = refl
+  compare_same (Some (Text t)) cmp (operand.Text x) = refl
+  compare_same (Some (Text t)) cmp (operand.Value x) = refl
+  compare_same (Some (Int n)) cmp (operand.Text x) = refl
+  compare_same (Some (Int n)) cmp (operand.Value x) = rw (value_at-same x)
 
-  hcl-same : (o : Option HclTargetState) (state : ℕ) → hcl_is e (with_prev_week_min m s) o state ≡ hcl_is e s o state
+  hcl-same : (o : Option HclTargetState) (state : hcl.HclState) → hcl_is e (with_prev_week_min m s) o state ≡ hcl_is e s o state
   hcl-same None state = refl
-  hcl-same (Some h) state = refl
+  hcl-same (Some h) Enabled = refl
+  hcl-same (Some h) Overridden = refl
 
   online-same : (o : Option DeviceState) → device_online e (with_prev_week_min m s) o ≡ device_online e s o
   online-same None = refl
@@ -114,10 +133,9 @@ module _ (m : Option ℕ) (e : Env) (s : Rest) where
       at None = refl
       at (Some x) = refl
 
-  pub condition-same : (c : Condition) → eval_condition e (with_prev_week_min m s) c ≡ eval_condition e s c
+  condition-same : (c : Condition) → eval_condition e (with_prev_week_min m s) c ≡ eval_condition e s c
   unfolding eval_condition eval_reading sun_is_up timer_named var_named
-  condition-same (TimeInRange start end) =
-      rw (bound-same (bound_of (record_of e.set.image bounds start)), bound-same (bound_of (record_of e.set.image bounds end)))
+  condition-same (TimeInRange start end) = rw (bound_at-same start, bound_at-same end)
   condition-same (DayIn days) = refl
   condition-same (SunIs up) = refl
   condition-same (LampIs a i on) = refl
@@ -132,13 +150,17 @@ module _ (m : Option ℕ) (e : Env) (s : Rest) where
   condition-same (LastFiredOlderThan rule ms) = ap Some (older-same (rule_named e.set.image rule) ms)
   condition-same (TimerRunning timer) = refl
   condition-same ControllerActive = refl
-  condition-same (VarCompare name cmp tag x) = compare_same (var_named s name) cmp (is_one tag) x
-  condition-same NoCondition = refl
+  condition-same (VarCompare name cmp x) = compare_same (var_named s name) cmp x
 
-  pub conditions-same : (cs : List Condition) → conditions_hold e (with_prev_week_min m s) cs ≡ conditions_hold e s cs
+  pub known_condition : (o : Option Condition) → (o >>= eval_condition e (with_prev_week_min m s)) ≡ (o >>= eval_condition e s)
+  known_condition None = refl
+  known_condition (Some c) = condition-same c
+
+  pub conditions-same : (cs : List (Option Condition)) → conditions_hold e (with_prev_week_min m s) cs ≡ conditions_hold e s cs
   unfolding conditions_hold
   conditions-same [] = refl
-  conditions-same (c ∷ cs) = rw (condition-same c) (rest_of (eval_condition e s c) (conditions-same cs))
+  conditions-same (None ∷ cs) = refl
+  conditions-same (Some c ∷ cs) = rw (condition-same c) (rest_of (eval_condition e s c) (conditions-same cs))
     where
       rest_of : (o : Option Bool) → conditions_hold e (with_prev_week_min m s) cs ≡ conditions_hold e s cs
           → (◌>>=◌ {B = Bool} o (λ holds. elim holds [ true ↦ conditions_hold e (with_prev_week_min m s) cs | false ↦ Some false ]))
@@ -188,9 +210,10 @@ module _ (m : Option ℕ) where
       unfolding var_set var_named
       set_same name x = either j.dry (none-same s) (either (not (present (var_named s name)) && leb 16 (length s.vars)) (fails-same s) (none-same (with_vars (put_var name x s.vars) s)))
 
-      varset-same : (n t l h : ℕ) → SamePrim (prim_var_set e j s n t l h) (prim_var_set e j (with_prev_week_min m s) n t l h)
+      varset-same : (n : ℕ) (v : VarConstant) → SamePrim (prim_var_set e j s n v) (prim_var_set e j (with_prev_week_min m s) n v)
       unfolding prim_var_set
-      varset-same n t l h = either (is_one t) (either (ltb (text_limit e.set.image) h) (fails-same s) (set_same n _)) (set_same n _)
+      varset-same n (constant.Text t b) = either (ltb (text_limit e.set.image) b) (fails-same s) (set_same n _)
+      varset-same n (constant.Int x) = set_same n _
 
       add_same : (name : ℕ) (o : Option ℤ) (h : Option VarValue) → SamePrim (var_add e j s name o h) (var_add e j (with_prev_week_min m s) name o h)
       add_same name None h = fails-same s
@@ -198,17 +221,21 @@ module _ (m : Option ℕ) where
       add_same name (Some x) (Some (Int n)) = set_same name _
       add_same name (Some x) (Some (Text t)) = fails-same s
 
-      light-same : (t h a v : ℕ) → SamePrim (prim_light e j s t h a v) (prim_light e j (with_prev_week_min m s) t h a v)
+      light-same : (t : ℕ) (h : Option ℕ) (a : LightAnswer) → SamePrim (prim_light e j s t h a) (prim_light e j (with_prev_week_min m s) t h a)
       unfolding prim_light
-      light-same t h a v = either (eqb a 0) (record { rest = refl; effect = refl; disables = refl; reason = refl }) (either (eqb a 1) (record { rest = refl; effect = refl; disables = refl; reason = refl }) (fails-same s))
+      light-same t h (Verb v) = record { rest = refl; effect = refl; disables = refl; reason = refl }
+      light-same t h Nothing = record { rest = refl; effect = refl; disables = refl; reason = refl }
+      light-same t h Unevaluable = fails-same s
 
-      recall-same : (a x k t : ℕ) → SamePrim (prim_recall e j s a x k t) (prim_recall e j (with_prev_week_min m s) a x k t)
+      recall-same : (x : Option ℕ) (k t : ℕ) → SamePrim (prim_recall e j s x k t) (prim_recall e j (with_prev_week_min m s) x k t)
       unfolding prim_recall
-      recall-same a x k t = either (eqb a 0) (record { rest = refl; effect = refl; disables = refl; reason = refl }) (fails-same s)
+      recall-same None k t = fails-same s
+      recall-same (Some x) k t = record { rest = refl; effect = refl; disables = refl; reason = refl }
 
-      apply-same : (a x : ℕ) → SamePrim (prim_apply e j s a x) (prim_apply e j (with_prev_week_min m s) a x)
+      apply-same : (x : Option ℕ) → SamePrim (prim_apply e j s x) (prim_apply e j (with_prev_week_min m s) x)
       unfolding prim_apply
-      apply-same a x = either (eqb a 0) (record { rest = refl; effect = refl; disables = refl; reason = refl }) (fails-same s)
+      apply-same None = fails-same s
+      apply-same (Some x) = record { rest = refl; effect = refl; disables = refl; reason = refl }
 
       effect-same : (f n : ℕ) → SamePrim (cycle_effect e j s f n) (cycle_effect e j (with_prev_week_min m s) f n)
       unfolding cycle_effect cycle_pos_at
@@ -223,7 +250,7 @@ module _ (m : Option ℕ) where
       selects-same a g (Some (pos n)) = either (leb n (group_limit e.set.image)) (record { rest = refl; effect = refl; disables = refl; reason = refl }) (fails-same s)
       selects-same a g (Some (negsuc n)) = fails-same s
 
-      dims-same : (t h : ℕ) (o : Option ℕ) → SamePrim (dims e j s t h o) (dims e j (with_prev_week_min m s) t h o)
+      dims-same : (t : ℕ) (h o : Option ℕ) → SamePrim (dims e j s t h o) (dims e j (with_prev_week_min m s) t h o)
       dims-same t h None = fails-same s
       dims-same t h (Some level) = record { rest = refl; effect = refl; disables = refl; reason = refl }
 
@@ -231,11 +258,11 @@ module _ (m : Option ℕ) where
       bit-same r on None = fails-same s
       bit-same r on (Some i) = either j.dry (record { rest = refl; effect = refl; disables = refl; reason = refl }) (record { rest = refl; effect = refl; disables = refl; reason = refl })
 
-      pub prim-same : (a : Action) → SamePrim (run_prim e j s a) (run_prim e j (with_prev_week_min m s) a)
+      prim-same : (a : Action) → SamePrim (run_prim e j s a) (run_prim e j (with_prev_week_min m s) a)
       unfolding run_prim timer_named var_named
-      prim-same (Light t h a v) = light-same t h a v
-      prim-same (Recall a x k t) = recall-same a x k t
-      prim-same (Apply a x) = apply-same a x
+      prim-same (Light t h a) = light-same t h a
+      prim-same (Recall x k t) = recall-same x k t
+      prim-same (Apply x) = apply-same x
       prim-same (Cycle f n) = cycle-same f n
       prim-same (HclResume t) = (record { rest = refl; effect = refl; disables = refl; reason = refl })
       prim-same (HclHold t) = (record { rest = refl; effect = refl; disables = refl; reason = refl })
@@ -249,7 +276,7 @@ module _ (m : Option ℕ) where
       prim-same (TimerStart t ms) = either (present (timer_named s t)) (record { rest = refl; effect = refl; disables = refl; reason = refl }) (arm_same s s t ms)
       prim-same (TimerRestart t ms) = subst (λ r. SamePrim (arm_timer e j s t ms (cond j.dry s (cancel_timer t s))) (arm_timer e j (with_prev_week_min m s) t ms r)) (sym (cancel-same s t)) (arm_same s (cond j.dry s (cancel_timer t s)) t ms)
       prim-same (TimerCancel t) = record { rest = cancel-same s t; effect = refl; disables = refl; reason = refl }
-      prim-same (VarSet n t l h) = varset-same n t l h
+      prim-same (VarSet n v) = varset-same n v
       prim-same (VarAdd n v) = rw (value_at-same m e s v) (add_same n (value_at e s v) (var_named s n))
       prim-same (RuleEnable r) = bit-same r true (rule_named e.set.image r)
       prim-same (RuleDisable r) = bit-same r false (rule_named e.set.image r)
@@ -257,4 +284,7 @@ module _ (m : Option ℕ) where
       prim-same (Log t) = (record { rest = refl; effect = refl; disables = refl; reason = refl })
       prim-same (StatCount n) = (record { rest = refl; effect = refl; disables = refl; reason = refl })
       prim-same (Percent t h v) = rw (value_at-same m e s v) (dims-same t h (level_at (value_at e s v)))
-      prim-same NoAction = fails-same s
+
+      pub known-same : (o : Option Action) → SamePrim (run_known e j s o) (run_known e j (with_prev_week_min m s) o)
+      known-same None = fails-same s
+      known-same (Some a) = prim-same a

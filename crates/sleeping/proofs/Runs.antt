@@ -25,7 +25,7 @@ use Rattle.model.specs.Exec.{advance, body_start, first_reason, Scheduled, dropp
 use Rattle.model.specs.Dry.{NextStep, next_step, DryStepResult, dry_branch, dry_step, DryOutput, dry_turn, run_steps_dry}
 use Rattle.model.specs.Activate.{Mode, is_auto, is_dry, Handled, no_outcome, and_then, outcome, job_of, numbered, with_number, in_cooldown, Decision, begins, suppressed, unevaluable, verdict, decide, finish_wet, finished, execute_wet, execute_dry, execute, decided, activate, resume}
 use Rattle.sleeping.specs.Sleeping.{with_minute}
-use Rattle.sleeping.proofs.Minute.{condition-same, conditions-same, rest-cond, SamePrim, fails-same, prim-same}
+use Rattle.sleeping.proofs.Minute.{known_condition, conditions-same, rest-cond, SamePrim, fails-same, known-same}
 
 module _ (m : Option ℕ) where
   -- A STEP ----------------------------------------------------------------------------------------------------------------------
@@ -68,7 +68,7 @@ module _ (m : Option ℕ) where
   exec-same : (e : Env) (j : Job) (b : ℕ) (sp : Point) (x : Step) (v : Volatile) → SameStep (exec e j b sp x v) (exec e j b sp x (with_minute m v))
   unfolding exec
   exec-same e j b sp (Primitive i) v =
-      let h = prim-same m e j v.rest (action_of (record_of e.set.image actions i)) in
+      let h = known-same m e j v.rest (action_of (record_of e.set.image actions i)) in
       subst (λ o. SameStep (after_prim (prim_at e j v.rest i).disables (prim_at e j v.rest i) (advance sp 0) v) (after_prim o (prim_at e j (with_prev_week_min m v.rest) i) (advance sp 0) (with_minute m v)))
       (sym h.disables)
       (after_same (prim_at e j v.rest i).disables _ _ (advance sp 0) v h)
@@ -78,7 +78,7 @@ module _ (m : Option ℕ) where
       let h = schedule-same e j b ms (body_start sp) v in record { vol = h.vol; report = ap (λ d. defers d ms (body_start sp)) h.is_dropped; effect = refl; reason = h.reason; next = refl }
   exec-same e j b sp (Branch c t n) v =
       subst (λ o. SameStep (run_branch (condition_at e v.rest c) t n sp v) (run_branch o t n sp (with_minute m v)))
-      (sym (condition-same m e v.rest (condition_of (record_of e.set.image conditions c))))
+      (sym (known_condition m e v.rest (condition_of (record_of e.set.image conditions c))))
       (branch_same (condition_at e v.rest c) t n sp v)
   exec-same e j b sp Fail v = after_same None _ _ (advance sp 0) v (fails-same m v.rest)
 
@@ -138,13 +138,13 @@ module _ (m : Option ℕ) where
   dry-step-same : (e : Env) (j : Job) (x : Step) (sp : Point) (qs : List Point) (s : Rest) → SameDryStep (dry_step e j x sp qs s) (dry_step e j x sp qs (with_prev_week_min m s))
   unfolding dry_step
   dry-step-same e j (Primitive i) sp qs s =
-      let h = prim-same m e j s (action_of (record_of e.set.image actions i)) in
+      let h = known-same m e j s (action_of (record_of e.set.image actions i)) in
       record { rest = h.rest; report = refl; effect = h.effect; reason = h.reason; next = refl; bodies = refl }
   dry-step-same e j (Wait ms) sp qs s = record { rest = refl; report = refl; effect = refl; reason = refl; next = refl; bodies = refl }
   dry-step-same e j (After ms) sp qs s = record { rest = refl; report = refl; effect = refl; reason = refl; next = refl; bodies = refl }
   dry-step-same e j (Branch c t n) sp qs s =
       subst (λ o. SameDryStep (dry_branch (condition_at e s c) t n sp qs s) (dry_branch o t n sp qs (with_prev_week_min m s)))
-      (sym (condition-same m e s (condition_of (record_of e.set.image conditions c))))
+      (sym (known_condition m e s (condition_of (record_of e.set.image conditions c))))
       (dry-branch-same (condition_at e s c) t n sp qs s)
   dry-step-same e j Fail sp qs s =
       let h = fails-same m s in record { rest = h.rest; report = refl; effect = h.effect; reason = h.reason; next = refl; bodies = refl }

@@ -15,6 +15,7 @@ use Rattle.model.specs.Wheel.{by_time, by_solar, minute_due, solar_due, without_
 use Rattle.model.specs.Kinds.{trigger_number}
 use Rattle.model.specs.declared.TriggerKind.{TriggerKind}
 use Rattle.model.specs.declared.TriggerKind.TheVariants as by
+use Rattle.model.specs.declared.SolarEvent.{SolarEvent}
 use Rattle.model.specs.declared.Trigger.{Trigger}
 use Rattle.model.specs.declared.Trigger.TheVariants.{TimerFires, Every, AtTime, AtSolar, Other}
 use Rattle.model.proofs.Bools.{or-true, or-false}
@@ -51,19 +52,19 @@ module _ (e : Env) (base window : ℕ) (missed : Bool) where
   unfolding due_wall_kind
   at-time h m days is = ap (λ (b : Bool). wall_kind (kind_if b by.AtTime missed)) is ∙ due-or-not (minute_due base window days (h * 60 + m)) missed by.AtTime
 
-  sun-due : (event offset : ℕ) {sun : SunTimes} {b : Bool} → e.world.sun ≡ Some sun → b ≡ minute_due base window 127 (solar_of sun event offset) → solar_due e base window event offset ≡ Some b
+  sun-due : (event : SolarEvent) (offset : ℕ) {sun : SunTimes} {b : Bool} → e.world.sun ≡ Some sun → b ≡ minute_due base window 127 (solar_of sun event offset) → solar_due e base window event offset ≡ Some b
   unfolding solar_due
   sun-due event offset h is = rw h (ap Some (sym is))
 
-  pub at-sun : (event offset : ℕ) {sun : SunTimes} {b : Bool} → e.world.sun ≡ Some sun → b ≡ minute_due base window 127 (solar_of sun event offset) → wall_kind (kind_if b by.AtSolar missed) ≡ missed_too missed (due_wall_kind e base window (AtSolar event offset ∷ []))
+  pub at-sun : (event : SolarEvent) (offset : ℕ) {sun : SunTimes} {b : Bool} → e.world.sun ≡ Some sun → b ≡ minute_due base window 127 (solar_of sun event offset) → wall_kind (kind_if b by.AtSolar missed) ≡ missed_too missed (due_wall_kind e base window (AtSolar event offset ∷ []))
   unfolding due_wall_kind
   at-sun event offset {b = b} h is = due-or-not b missed by.AtSolar ∙ ap (λ (o : Option Bool). missed_too missed (solar_kind o nothing)) (sym (sun-due event offset h is))
 
-  without : (event offset : ℕ) → e.world.sun ≡ None → solar_due e base window event offset ≡ None
+  without : (event : SolarEvent) (offset : ℕ) → e.world.sun ≡ None → solar_due e base window event offset ≡ None
   unfolding solar_due
   without event offset h = rw h
 
-  pub no-sun : (event offset : ℕ) → e.world.sun ≡ None → wall_kind (no_kind true) ≡ missed_too missed (due_wall_kind e base window (AtSolar event offset ∷ []))
+  pub no-sun : (event : SolarEvent) (offset : ℕ) → e.world.sun ≡ None → wall_kind (no_kind true) ≡ missed_too missed (due_wall_kind e base window (AtSolar event offset ∷ []))
   unfolding due_wall_kind
   no-sun event offset h = (let z : wall_kind (no_kind true) ≡ missed_too missed (without_sun nothing) = rw (or-true missed) in z) ∙ ap (λ (o : Option Bool). missed_too missed (solar_kind o nothing)) (sym (without event offset h))
 

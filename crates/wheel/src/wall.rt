@@ -8,7 +8,7 @@ ghost use Rattle.wheel.specs.Wall.{kind_if, no_kind, Kind, KindAnywhere, enabled
 
 use crate::minutes::Window;
 use image::layout::{Image, Table};
-use model::{Trigger, TriggerKind};
+use model::{SolarEvent, Trigger, TriggerKind};
 use state::State;
 use state::rules::is_enabled;
 
@@ -43,7 +43,7 @@ fn no_kind(unsynced: bool) -> WallKind
 fn solar_kind(
     snapshot: &[u32],
     window: Window,
-    event: u32,
+    event: SolarEvent,
     offset_ms: u32,
     missed: bool,
 ) -> WallKind

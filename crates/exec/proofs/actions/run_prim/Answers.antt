@@ -54,7 +54,3 @@ returns-in-VarSet c flat = rw c.in-VarSet.is (c.var_set.ensures c.args.env.now.s
 pub returns-in-VarAdd : goal.returns-in-VarAdd
 unfolding run_prim
 returns-in-VarAdd c flat = rw c.in-VarAdd.is (c.var_add.ensures flat)
-
-pub returns-in-NoAction : goal.returns-in-NoAction
-unfolding run_prim
-returns-in-NoAction c flat = rw c.in-NoAction.is c.fails.ensures
