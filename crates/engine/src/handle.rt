@@ -1,29 +1,25 @@
 // Tick and run: `handle`.
 ghost use Rattle.std.specs.Prelude.{◌≡◌, true, ◌||◌, length};
-ghost use Rattle.std.specs.Prelude.{Some};
 ghost use Rattle.model.specs.Lists.{present};
 ghost use Rattle.model.specs.Refusals.{refusal_number};
 ghost use Rattle.model.specs.State.{is_enabled};
 ghost use Rattle.model.specs.Store.{read};
 ghost use Rattle.model.specs.Snapshot.{snapshot_refusal};
-ghost use Rattle.model.specs.Calls.{rule_in};
 ghost use Rattle.state.specs.Meaning.{AllNumbered, meaning};
 ghost use Rattle.activate.specs.Carried.{carried_by, SameLent, Over};
 ghost use Rattle.activate.specs.Handled.{Room};
 ghost use Rattle.model.specs.OnWords.{call_on};
 ghost use Rattle.engine.specs.Seen.{seen};
 ghost use Rattle.engine.specs.Answers.{shown, handled_values};
-ghost use Rattle.engine.specs.Handling.{ran_in, ticked_in, over_of, Comes, RunsIn, Commits};
+ghost use Rattle.engine.specs.Handling.{ran_in, ticked_in, over_of, Comes, Commits};
 ghost use Rattle.engine.specs.Inputs.{dispatched_in, call_of};
 
 use crate::asked::opened_with;
 use activate::{Handled, Lent, Mode};
 use counters::Counter;
-use image::layout::Image;
 use model::{Refusal, TriggerKind};
 use state::State;
 use store::checked::Checked;
-use store::set::image_in;
 use store::table;
 
 // What comes in beside the snapshot: a tick, or a rule that runs, by its name.
@@ -87,31 +83,23 @@ fn starts(v: &State, i: u32, dry: bool) -> bool
     dry || state::rules::is_enabled(v, i as usize)
 }
 
-// Rule i of the loaded set runs.
-fn run_at(store: &Checked, snapshot: &[u32], lent: &mut Lent, rule: u32, i: u32, dry: bool)
-    requires loaded { rule_in store.now.loaded rule ≡ Some i }
-    requires room { Room 1 (carried_by lent.old) }
-    ensures { Over (RunsIn store.now.loaded i dry snapshot.now) lent.old lent.new }
+// `run_rule`: a rule that is not loaded does nothing.
+fn run_rule(store: &Checked, snapshot: &[u32], lent: &mut Lent, name: u32, dry: bool)
+    requires { Room 1 (carried_by lent.old) }
+    ensures { Over (Comes (ran_in store.now.loaded name dry snapshot.now)) lent.old lent.new }
 {
+    let words = store.words();
+    let Some(image) = store.image() else { return };
+    let Some(i) = image.rule_named(name) else {
+        return
+    };
     if !starts(lent.state, i, dry) {
         return state::bump(lent.state, Counter::SuppressedDisabled, 1);
     }
     let mode = if dry { Mode::Dry } else { Mode::Manual };
-    let words = store.words();
-    let image = Image::new(image_in(words));
     let steps = store::flat_part::rule_flat(words, i);
     let kind = TriggerKind::HttpTrigger;
     activate::activate(snapshot, &image, &steps, lent, i, kind, mode);
-}
-
-// `run_rule`: a rule that is not loaded does nothing.
-fn run_rule(store: &Checked, snapshot: &[u32], lent: &mut Lent, rule: u32, dry: bool)
-    requires { Room 1 (carried_by lent.old) }
-    ensures { Over (Comes (ran_in store.now.loaded rule dry snapshot.now)) lent.old lent.new }
-{
-    if let Some(i) = store.rule_in(rule) {
-        run_at(store, snapshot, lent, rule, i, dry);
-    }
 }
 
 // `service_tick`: without a set nothing is due.
