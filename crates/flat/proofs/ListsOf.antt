@@ -1,17 +1,16 @@
 -- The words of a rule's lists, as `list_of` finds them.
 use mathlib.Core.Path.{◌≡◌, sym}
-use mathlib.Core.List.{List}
-use Prim.Native.Nat.{ℕ, zero, suc, ◌+◌, ◌*◌, ◌-◌, ◌/◌, ◌≤◌, ◌<◌}
+use mathlib.Core.List.{List, []}
+use Prim.Native.Nat.{ℕ, zero, suc, ◌+◌, ◌*◌, ◌/◌, ◌≤◌, ◌<◌}
 use native.Mathlib.Omega.{arith}
-use lib.ListN.{length, take, drop, drop_of_length-le}
+use lib.ListN.{length, drop_of_length-le}
 use Rattle.flat.specs.Words.{list_words}
 use Rattle.flat.proofs.Parts.{no_row}
 
 module _ (w : List ℕ) (own : ℕ) where
   -- the own list would begin behind the end: no list has words
-  pub none-there : (n : ℕ) → length w / 4 < own → take (length w - length w) (drop (length w) w) ≡ list_words w own n
+  pub none-there : (n : ℕ) → length w / 4 < own → [] ≡ list_words w own n
   none-there zero h =
       let b : length w ≤ own * 4 = omega arith in
-      let e : length w - length w ≡ 0 = omega arith in
-      rw e (sym (drop_of_length-le w b))
+      sym (drop_of_length-le w b)
   none-there (suc p) h = no_row w (own + p) (omega arith)

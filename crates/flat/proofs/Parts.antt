@@ -43,18 +43,15 @@ not-both true b l h = rw h
 not-both false b l h = refl
 
 module _ (w : List ℕ) (i : ℕ) where
-  no_words : length w - length w ≡ 0
-  no_words = omega arith
-
-  pub no_row : length w / 4 ≤ i → take (length w - length w) (drop (length w) w) ≡ body_words w i
+  pub no_row : length w / 4 ≤ i → [] ≡ body_words w i
   unfolding body_words
   no_row h =
       let l : length w < suc i * 4 = omega arith in
-      rw (no_words, lt-leb (suc i * 4) (length w) l)
+      rw (lt-leb (suc i * 4) (length w) l)
 
-  pub other_row : (get_or w (i * 4) 0 ≡ 3 → ⊥) → take (length w - length w) (drop (length w) w) ≡ body_words w i
+  pub other_row : (get_or w (i * 4) 0 ≡ 3 → ⊥) → [] ≡ body_words w i
   unfolding body_words
-  other_row h = rw no_words (not-both (leb (suc i * 4) (length w)) (eqb (get_or w (i * 4) 0) 3) _ (ne_eqb _ _ h))
+  other_row h = not-both (leb (suc i * 4) (length w)) (eqb (get_or w (i * 4) 0) 3) _ (ne_eqb _ _ h)
 
   -- an after, whose row says where its body begins and how many steps it has
   pub body-row :

@@ -14,7 +14,7 @@ pub fn after_body(part: &[u32], i: usize) -> &[u32]
 {
     let len = part.len();
     if len / 4 <= i || part[i * 4] != StepKind::After as u32 {
-        return &part[len..];
+        return &[];
     }
     let from = place(part[i * 4 + 2] as usize, len);
     let size = place(part[i * 4 + 3] as usize, len - from);
@@ -51,7 +51,7 @@ impl<'a> FlatRule<'a> {
     {
         let len = self.part.len();
         if len / 4 < self.own {
-            return &self.part[len..];
+            return &[];
         }
         if list == 0 {
             return &self.part[self.own * 4..];

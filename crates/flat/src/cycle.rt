@@ -3,8 +3,10 @@
 // `list`, an after's body into `body`, and from there into the lent tail of the flat steps, that of `bodies`, which are compared too.
 // More actions than the caller allowed are refused. The six functions call each other: they are read, and proved, together.
 // kept: `list` and `body` are lent each for itself, beside `Bodies`, which is the same all through a rule: a repeat lends its list from its first copy on, and
-// an after lends `body` as the list inside and a word that nothing is written into as the body. A struct of the two would be made anew at both and handed on at
+// an after lends `body` as the list inside and no words as the body. A struct of the two would be made anew at both and handed on at
 // the others. `at` changes from list to list and `p` from action to action, so that a struct of the two would be made anew for each action.
+// kept: `first` and `count` stand beside them: words of the record of an action or of a block, of which a struct would be made at each of the six calls, for the
+// one loop that reads it.
 // kept: `Start`, that record i is one of the table, and that there are fewer than 256 steps stand in each `requires`: they are of the numbers of one call
 // and of the length of the body that is lent to it, which no value goes with.
 ghost use Rattle.std.specs.Prelude.{◌≡◌, ◌+◌, ◌/◌, ◌<◌, ◌≤◌, length};
@@ -152,11 +154,10 @@ fn flatten_after(
         return Ok(one_step(list, p, Step::Fail));
     }
     let inner = at.within_after();
-    let mut none = [0u32; 1];
     let q = flatten_list(
         t,
         body,
-        &mut none,
+        &mut [],
         bodies,
         first,
         count,

@@ -1,5 +1,6 @@
 // Records of the action table and of the block table.
-ghost use Rattle.std.specs.Prelude.{◌≡◌, [], ◌+◌, ◌*◌, ◌/◌, ◌≤◌, ◌<◌, length, get_or};
+ghost use Rattle.std.specs.Prelude.{◌≡◌, [], ℕ, Some, ◌+◌, ◌*◌, ◌/◌, ◌≤◌, ◌<◌, length, get_or};
+ghost use Rattle.std.specs.Option.{option_map};
 ghost use Rattle.model.specs.Rules.{record_in, flow_of};
 ghost use Rattle.model.specs.Flat.{block_named};
 ghost use Rattle.flat.specs.Outcome.{action_in, block_at, called_in, Resolved};
@@ -57,40 +58,38 @@ pub fn read_action(acts: &[u32], i: usize) -> FlowAction
     flow_action(read_record(acts, i))
 }
 
-// Which block has this name: 0 for none, k + 1 for block k. "Of two blocks of one name the first counts."
-// kept: a number, and no Option, as 512 of them stand on the stack: an Option<u16> takes twice the room, so 1,024 bytes more in each call that flattens, of
-// which `run` takes 24,024 where the limit is 24,576. That there are few blocks is asked here and by its two callers, before there is a `Source`: it is
-// made of what they find.
-fn find_block(blocks: &[u32], name: u32) -> u16
-    requires { length blocks.now ≤ 4096 }
-    ensures result_value { block_at blocks.now result ≡ block_named [] blocks.now name }
-    ensures upper_bound { result ≤ length blocks.now / 8 }
+// Which block has this name. "Of two blocks of one name the first counts."
+fn find_block(blocks: &[u32], name: u32) -> Option<usize>
+    ensures result_value { option_map (record_in blocks.now) result ≡ block_named [] blocks.now name }
+    ensures upper_bound { (k : ℕ) → result ≡ Some k → k < length blocks.now / 8 }
 {
-    match (0..blocks.len() / 8).position(|i| read_record(blocks, i).kind == name) {
-        Some(i) => i as u16 + 1,
-        None => 0,
-    }
+    (0..blocks.len() / 8).position(|i| read_record(blocks, i).kind == name)
 }
 
 // Which block the action in record i calls.
-fn find_called(acts: &[u32], blocks: &[u32], i: usize) -> u16
-    requires { (i < length acts.now / 8) × (length blocks.now ≤ 4096) }
-    ensures result_value { block_at blocks.now result ≡ called_in blocks.now (action_in acts.now i) }
-    ensures upper_bound { result ≤ length blocks.now / 8 }
+fn find_called(acts: &[u32], blocks: &[u32], i: usize) -> Option<usize>
+    requires { i < length acts.now / 8 }
+    ensures result_value { option_map (record_in blocks.now) result ≡ called_in blocks.now (action_in acts.now i) }
+    ensures upper_bound { (k : ℕ) → result ≡ Some k → k < length blocks.now / 8 }
 {
     match read_action(acts, i) {
         FlowAction::Call { block } => find_block(blocks, block),
-        _ => 0,
+        _ => None,
     }
 }
 
-// Which block each action calls, looked up once for an image. Tables of 4,096 words have no number above 512.
+// Which block each action calls, looked up once for an image: 0 for none, k + 1 for block k. Tables of 4,096 words have no number above 512.
+// kept: a number, and no Option, as 512 of them stand on the stack: an Option<u16> takes twice the room, so 1,024 bytes more in each call that flattens, of
+// which `run` takes 24,024 where the limit is 24,576.
 pub fn find_calls(acts: &[u32], blocks: &[u32], calls: &mut [u16])
     requires { (length acts.now / 8 ≤ length calls.old) × (length blocks.now ≤ 4096) }
     ensures { Resolved acts.now blocks.now calls.new (length acts.now / 8) }
 {
     for i in 0..acts.len() / 8 {
-        calls[i] = find_called(acts, blocks, i);
+        calls[i] = match find_called(acts, blocks, i) {
+            Some(k) => k as u16 + 1,
+            None => 0,
+        };
     }
 }
 

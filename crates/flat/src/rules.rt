@@ -7,7 +7,7 @@ ghost use Rattle.flat.specs.Load.{RuleOut, EachOut, rule_at, Checked, Loading, S
 
 use crate::cycle::flatten_list;
 use crate::records::find_calls;
-use crate::steps::{append_steps, clear, place};
+use crate::steps::{append_steps, clear, place, put_words};
 use crate::{Around, Bodies, Done, Made, Progress, Source};
 use image::layout::{Image, Table};
 use model::{FlattenCtx, Refusal};
@@ -18,17 +18,7 @@ fn put_list(lists: &mut [u32], k: usize, first: u32, size: u32)
     ensures { (k + 1) * 2 ≤ length lists.old →
         take ((k + 1) * 2) lists.new ≡ take (k * 2) lists.old ++ first ∷ size ∷ [] }
 {
-    if (k + 1) * 2 <= lists.len() {
-        lists[k * 2] = first;
-        lists[k * 2 + 1] = size;
-    }
-}
-
-// Where the rows of n lists end: at the end of the words, if they have no room.
-fn rows_end(n: usize, len: usize) -> usize
-    ensures { (result ≤ len) × ((n * 2 ≤ len → result ≡ n * 2)) }
-{
-    if n <= len / 2 { n * 2 } else { len }
+    put_words(lists, k * 2, &[first, size]);
 }
 
 // The part of rule k, whose list is said by words 8 and 9 of its 16: the bodies of its afters go to the front of the words, its own list
@@ -75,9 +65,10 @@ fn flatten_rule(
 }
 
 // The parts of all rules, one behind the other in `words`, and their rows in `lists`.
-// kept: words, lists and seen go through three functions, each for itself: one caller lends words and lists, the other rows and what is compared, and here
-// each rule takes its part of two of them, so that a struct would be made in two places and taken apart in one. That words and seen are at most 8,192 is asked
-// by the three. That the image is checked is asked on the way down to `Source`, which knows it from then on.
+// kept: words, lists and seen go through three functions, each for itself: a struct of them would be made in two places, and hold the bound of words and of
+// seen, 8,192, which three functions ask for. But here each rule takes its part of words and of seen as a `Bodies`, and lists go elsewhere, so that the struct is
+// taken apart again; and what it holds is a bound on what it lends, to be shown again of each part.
+// kept: a loop over the numbers of the rules: k is also the row in `lists`, and the rule that `flatten_rule` says it flattens.
 fn flatten_each(
     t: &Source,
     own: &mut [u32],
@@ -110,6 +101,7 @@ fn flatten_each(
         left = p.left;
         same = p.same;
     }
+    // kept: a number compared with 2,048, and no library call: it is the limit of refusal 16, known only when all rules are flattened.
     if 2048 < size {
         return Err(Refusal::FlatSteps);
     }
@@ -131,7 +123,7 @@ fn flatten_tables(
     let made = flatten_each(t, &mut own, &mut body, words, lists, seen)?;
     let end = place(made.size, words.len());
     clear(words, end);
-    let last = rows_end(t.rules.len() / 16, lists.len());
+    let last = (t.rules.len() / 16 * 2).min(lists.len());
     clear(lists, last);
     Ok(made)
 }
@@ -172,8 +164,7 @@ pub fn flatten_rules(image: &[u32], words: &mut [u32], lists: &mut [u32]) -> Res
     ensures value { result ≡ loaded (flatten_rules image.now) }
     ensures stored { Stored (flatten_rules image.now) words.new lists.new result }
 {
-    let end = image.len();
-    let made = flatten_image(image, words, lists, &image[end..])?;
+    let made = flatten_image(image, words, lists, &[])?;
     Ok(made.size)
 }
 
@@ -185,9 +176,8 @@ pub fn same_flat(image: &[u32], lists: &[u32], steps: &[u32]) -> bool
     requires steps_len_bound { length steps.now ≤ 8192 }
     ensures { result ≡ same_flat (flatten_rules image.now) lists.now steps.now }
 {
-    let mut none = [0u32; 1];
     let mut rows = [0u32; 128];
-    let Ok(Made { size, same }) = flatten_image(image, &mut none, &mut rows, steps) else {
+    let Ok(Made { size, same }) = flatten_image(image, &mut [], &mut rows, steps) else {
         return false;
     };
     same && size * 4 == steps.len() && lists == rows.as_slice()

@@ -1,5 +1,6 @@
 // The records of a store as rows.
-// kept: `at` and `put` of each record name its own fields in their order. A row of pairs would read them in one, but turn them into the struct and back, field by field.
+// kept: `at` and `put` of each record name its own fields in their order. A row of pairs would read them in one, but turn them into the struct and back, field by field;
+// and a macro of the repository's own may write no impl.
 ghost use Rattle.std.specs.Prelude.{◌≡◌};
 ghost use Rattle.model.specs.Codec.{maybe};
 ghost use Rattle.model.specs.Parts.{timer_row, slot_row, pending_row};

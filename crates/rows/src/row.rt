@@ -29,7 +29,8 @@ pub trait Row: Copy {
     ghost takes: { Takes codec WORDS };
 }
 
-// kept: `at` and `put` of these three are the rows that all others are made of, each by what its words say.
+// kept: `at` and `put` of these three are written one by one: one word, two words, and one word compared with 1 have nothing in common in which a generic
+// function could vary.
 impl Row for u32 {
     const WORDS: usize = 1;
 
@@ -86,7 +87,9 @@ impl Row for bool {
     }
 }
 
-// A mark, and a row behind it that counts where the mark is not 0. It is no `Row` itself: a mark before a mark before .. has no bound on its words.
+// A mark, and a row behind it that counts where the mark is not 0.
+// kept: no `impl<T: Row> Row for Option<T>`: the law that fails is `most` of `takes`, at most 15 words, which says nothing of 1 + T.WORDS. One impl for each T
+// that there is, u32, u64 and Jump, would say these two functions three times.
 pub fn option_at<T: Row>(s: &[u32], k: usize) -> Option<T>
     requires { k + 1 + T.WORDS ≤ 2 ^ 64 }
     ensures { result ≡ row_at (maybe T.codec) s.now k }

@@ -78,6 +78,7 @@ impl<'a, T: Row> Iterator for Rows<'a, T> {
 }
 
 // The n rows that stand from k on.
+// kept: a loop that pushes: the library's `collect` into an `ArrayVec` takes an allocator, and answers a Result, as more rows could come than it holds.
 pub fn table_at<T: Row + Default, const N: usize>(s: &[u32], k: usize, n: usize) -> ArrayVec<T, N>
     requires { (n ≤ N) × (k + n * T.WORDS ≤ 2 ^ 64) }
     ensures { result.items ≡ table_at T.codec n s.now k }

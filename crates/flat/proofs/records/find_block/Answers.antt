@@ -2,15 +2,16 @@
 use mathlib.Core.Path.{◌≡◌, refl, sym, ◌∙◌}
 use mathlib.Core.Bool.{Bool, true, false, cond}
 use mathlib.Core.List.{List, [], map}
-use Prim.Native.Nat.{ℕ, zero, suc, ◌+◌, ◌/◌}
+use Prim.Native.Nat.{ℕ, zero, suc, ◌+◌, ◌/◌, ◌<◌}
 use native.Mathlib.Numerals.{add-one}
 use native.Mathlib.Omega.{arith}
 use native.Mathlib.Decide.{dec_le}
-use borrow.Author.Tests.{lt-ltb, le-ltb}
+use borrow.Author.Tests.{lt-ltb, le-ltb, ltb-true}
 use borrow.Author.Rules.{rules}
 use lib.Dec.{eqb, ltb}
 use lib.ListN.{length}
 use Rattle.std.specs.Prelude.{Option, None, Some}
+use Rattle.std.specs.Option.{option_map}
 use Rattle.std.specs.List.{range_with_len, position, position_or_len}
 use Rattle.std.proofs.lemmas.Iterator.{YieldsList-from_range}
 use Rattle.std.proofs.lemmas.Iterator.Search.{position_from_yields_List}
@@ -20,7 +21,6 @@ use Rattle.model.specs.declared.Record.{Record}
 use Rattle.model.specs.Lists.{find, up_from}
 use Rattle.model.specs.Rules.{record_in}
 use Rattle.model.specs.Flat.{block_named}
-use Rattle.flat.specs.Outcome.{block_at}
 use Rattle.flat.proofs.records.find_block.Goals as goal
 
 module _ (t : List ℕ) (name : ℕ) where
@@ -61,13 +61,13 @@ module _ (t : List ℕ) (name : ℕ) where
           let f : first i (suc n) ≡ suc (first (suc i) n) = rw (e, add-one i) (omega arith) in
           s ∙ h ∙ one-on i n (first i (suc n)) (first (suc i) n) f
 
-  at-place : (b : Bool) (f k : ℕ) → Some k ≡ cond b (Some f) None → cond b (Some (record_in t (0 + f))) None ≡ Some (record_in t k)
-  at-place true f k e = let q : k ≡ f = same_Some _ _ e in let z : 0 + f ≡ k = omega arith in rw z refl
-  at-place false f k e = absurd (none-some _ (sym e))
+  at_cond : (b : Bool) (f : ℕ) → option_map (record_in t) (cond b (Some f) None) ≡ cond b (Some (record_in t (0 + f))) None
+  at_cond true f = let z : 0 + f ≡ f = omega arith in rw z refl
+  at_cond false f = refl
 
-  nowhere : (b : Bool) (f : ℕ) → None ≡ cond b (Some f) None → cond b (Some (record_in t (0 + f))) None ≡ None
-  nowhere true f e = absurd (none-some _ e)
-  nowhere false f e = refl
+  below : (n f k : ℕ) (b : Bool) → ltb f n ≡ b → Some k ≡ cond b (Some f) None → k < n
+  below n f k true h e = let q : k ≡ f = same_Some _ _ e in omega (arith, ltb-true f n h)
+  below n f k false h e = absurd (none-some _ (sym e))
 
   module _ (r : Option ℕ) (p : r ≡ position named (range_with_len 0 (length t / 8))) where
     abbrev n : ℕ
@@ -76,24 +76,17 @@ module _ (t : List ℕ) (name : ℕ) where
     place-is : r ≡ cond (ltb (first 0 n) n) (Some (first 0 n)) None
     place-is = rw (length-range_with_len 0 n) at p
 
-    there : (k : ℕ) → r ≡ Some k → block_at t (k + 1) ≡ block_named [] t name
-    unfolding block_at block_named
-    there k e =
-        let s : k + 1 ≡ suc k = omega arith in
-        rw s (sym (found 0 n ∙ at-place _ _ k (sym e ∙ place-is)))
+    is : option_map (record_in t) r ≡ block_named [] t name
+    unfolding block_named
+    is = rw place-is (at_cond _ _ ∙ sym (found 0 n))
 
-    none : r ≡ None → block_at t 0 ≡ block_named [] t name
-    unfolding block_at block_named
-    none e = sym (found 0 n ∙ nowhere _ _ (sym e ∙ place-is))
+    inside : (k : ℕ) → r ≡ Some k → k < n
+    inside k e = below n (first 0 n) k _ refl (sym e ∙ place-is)
 
-pub returns-in-Some-clause-result_value : goal.returns-in-Some-clause-result_value
-returns-in-Some-clause-result_value c =
+pub returns : goal.returns
+returns c =
     let t = c.args.blocks.now in
+    let name = c.args.name in
     let n = length t / 8 in
-    there t c.args.name _ (position_from_yields_List (named t c.args.name) _ _ _ c.position.ensures.ran (YieldsList-from_range 0 n n refl (omega arith)) (λ x b q k. search rules)) _ c.in-Some.is
-
-pub returns-in-None-clause-result_value : goal.returns-in-None-clause-result_value
-returns-in-None-clause-result_value c =
-    let t = c.args.blocks.now in
-    let n = length t / 8 in
-    none t c.args.name _ (position_from_yields_List (named t c.args.name) _ _ _ c.position.ensures.ran (YieldsList-from_range 0 n n refl (omega arith)) (λ x b q k. search rules)) c.in-None.is
+    let p = position_from_yields_List (named t name) _ _ _ c.position.ensures.ran (YieldsList-from_range 0 n n refl (omega arith)) (λ x b q k. search rules) in
+    record { result_value = is t name _ p; upper_bound = inside t name _ p }

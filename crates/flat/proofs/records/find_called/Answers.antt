@@ -2,15 +2,15 @@
 use mathlib.Core.Path.{◌≡◌, refl, ap, ◌∙◌}
 use mathlib.Core.List.{List}
 use Prim.Native.Nat.{ℕ}
-use native.Mathlib.Omega.{arith}
 use Rattle.model.specs.declared.FlowAction.{FlowAction}
 use Rattle.model.specs.declared.FlowAction.TheVariants.{Wait, After, Call, Repeat, Conditional, Plain}
-use Rattle.flat.specs.Outcome.{block_at, called_in}
+use Rattle.std.specs.Prelude.{None}
+use Rattle.std.proofs.lemmas.Option.{none-some}
+use Rattle.flat.specs.Outcome.{called_in}
 use Rattle.flat.proofs.records.find_called.Goals as goal
 
 -- no call
-no_call : (blocks : List ℕ) (x : FlowAction) → ((b : ℕ) → x ≡ Call b → ⊥) → block_at blocks 0 ≡ called_in blocks x
-unfolding block_at
+no_call : (blocks : List ℕ) (x : FlowAction) → ((b : ℕ) → x ≡ Call b → ⊥) → None ≡ called_in blocks x
 no_call blocks (Wait ms) o = refl
 no_call blocks (After ms f k) o = refl
 no_call blocks (Call b) o = absurd (o b refl)
@@ -23,5 +23,5 @@ returns-in_default c =
     let a = c.args in
     record {
       result_value = no_call a.blocks.now c.read_action.result c.in_default.not-Call ∙ ap (called_in a.blocks.now) c.read_action.ensures;
-      upper_bound = omega arith;
+      upper_bound = λ k e. absurd (none-some k e);
     }
