@@ -52,15 +52,22 @@ impl Table {
         fields::word(s, 9 + self as usize)
     }
 
+    // The words of its rows.
+    fn length(self, s: &[u32]) -> usize
+        ensures { (result ≡ row_width (number self) * count_of s.now (number self)) × (result < 2 ^ 36) }
+    {
+        self.width() as usize * self.count(s) as usize
+    }
+
     // Its first word.
     #[tactic(auto, unfolding(model::specs::Snapshot::start_of))]
     pub fn start(self, s: &[u32]) -> usize
         ensures { (result ≡ start_of s.now (number self)) × (result < 2 ^ 37) }
     {
-        let groups = 14 + 9 * Table::Lamps.count(s) as usize;
-        let devices = groups + 5 * Table::Groups.count(s) as usize;
-        let inputs = devices + 3 * Table::Devices.count(s) as usize;
-        let hcl = inputs + 11 * Table::Inputs.count(s) as usize;
+        let groups = 14 + Table::Lamps.length(s);
+        let devices = groups + Table::Groups.length(s);
+        let inputs = devices + Table::Devices.length(s);
+        let hcl = inputs + Table::Inputs.length(s);
         match self {
             Table::Lamps => 14,
             Table::Groups => groups,
@@ -85,5 +92,5 @@ impl Table {
 pub fn counted_length(s: &[u32]) -> usize
     ensures { result ≡ start_of s.now 5 }
 {
-    Table::HclTargets.start(s) + 3 * Table::HclTargets.count(s) as usize
+    Table::HclTargets.start(s) + Table::HclTargets.length(s)
 }
