@@ -46,6 +46,7 @@ pub fn number(s: &[u8]) -> Option<u32>
     if s.is_empty() {
         return None;
     }
+    // kept: a match, and no `.ok().map(..)`: that 32 bits hold the number is known of what was read, and a closure would have to cast any number.
     match decimal::read(s, u32::MAX as u64) {
         Ok(n) => Some(n as u32),
         Err(_) => None,

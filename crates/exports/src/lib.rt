@@ -37,9 +37,7 @@ pub extern "C" fn cerambiu_flat_steps(img: &[u32]) -> usize
     if load::refusal(img).is_err() {
         return 0;
     }
-    let mut words = [0u32; 1];
-    let mut lists = [0u32; 1];
-    flat::rules::flatten_rules(img, &mut words[1..], &mut lists[1..]).unwrap_or(0)
+    flat::rules::flatten_rules(img, &mut [], &mut []).unwrap_or(0)
 }
 
 // 20 to 22, 0 for none.

@@ -11,6 +11,7 @@ use model::Effect;
 pub const EFFECT_WORDS: usize = 5;
 
 // Zeros in lent words.
+// kept: the one place that says what four crates ask of all words that are lent, so that one must-fail edit stands for all of them.
 pub fn clear(words: &mut [u32])
     ensures { words.new ≡ replicate (length words.old) 0 }
 {
@@ -18,6 +19,8 @@ pub fn clear(words: &mut [u32])
 }
 
 // Effect n, where there is room for it.
+// kept: no `rows::row::Row`, as it would be no plainer: its codec would be one more definition of the five words, beside those of the specification, with a law that
+// nothing else needs.
 pub fn write_effect(words: &mut [u32], n: usize, x: Effect)
     ensures { words.new ≡ put_effect words.old n x }
 {

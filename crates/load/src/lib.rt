@@ -1,28 +1,32 @@
 // What load says of an image: document 01, "Who can cause a refusal", 10 to 17, the lowest first.
 #![tactic(auto)]
 
-ghost use Rattle.std.specs.Prelude.{◌≡◌, not};
+ghost use Rattle.std.specs.Prelude.{◌≡◌, ◌*◌, ◌-◌, ◌≤◌, ◌++◌, IfOk, length, not, replicate};
 ghost use Rattle.model.specs.Field.{unless};
 ghost use Rattle.model.specs.Image.{few_enough};
 ghost use Rattle.model.specs.Flat.{flatten_rules, too_many_steps};
 ghost use Rattle.model.specs.Load.{image_refusal};
 ghost use Rattle.model.specs.Refusals.{refusal_number};
 ghost use Rattle.image.specs.Accepted.{Accepted};
+ghost use Rattle.flat.specs.Load.{list_part};
 
 use image::layout::Image;
 use model::Refusal;
 use std::marker::Model;
 
-// 16 and 17 of an image that passes 10 to 15: 16 is decided first. Flattening is lent no words, so that it only counts.
-fn flat_refusal(img: &[u32]) -> Result<(), Refusal>
+// 16 and 17 of an image that passes 10 to 15: 16 is decided first. Flattening is lent no words for the steps, so that it only counts. The rows of the lists are
+// written if there is room for all.
+pub fn accepted<'a>(img: &'a [u32], lists: &mut [u32]) -> Result<Image<'a>, Refusal>
     requires { Accepted img.now }
-    ensures { refusal_number result ≡ unless (not (too_many_steps (flatten_rules img.now))) 16 (unless (few_enough img.now) 17 0) }
+    ensures number { refusal_number result ≡ unless (not (too_many_steps (flatten_rules img.now))) 16 (unless (few_enough img.now) 17 0) }
+    ensures image { IfOk result (λ image. image ≡ img.now) }
+    ensures rows { IfOk result (λ _. length (flatten_rules img.now) * 2 ≤ length lists.new →
+        lists.new ≡ list_part (flatten_rules img.now) ++ replicate (length lists.new - length (flatten_rules img.now) * 2) 0) }
 {
-    let mut words = [0u32; 1];
-    let mut lists = [0u32; 1];
-    flat::rules::flatten_rules(img, &mut words[1..], &mut lists[1..])?;
-    if Image::new(img).few_enough() {
-        return Ok(());
+    flat::rules::flatten_rules(img, &mut [], lists)?;
+    let image = Image::new(img);
+    if image.few_enough() {
+        return Ok(image);
     }
     Err(Refusal::TooMany)
 }
@@ -34,7 +38,10 @@ pub fn refusal(img: &[u32]) -> Result<(), Refusal>
     ensures { refusal_number result ≡ image_refusal img.now }
 {
     match image::refusal(img) {
-        Ok(()) => flat_refusal(img),
+        Ok(()) => {
+            accepted(img, &mut [])?;
+            Ok(())
+        }
         Err(refusal) => Err(refusal),
     }
 }

@@ -2,32 +2,32 @@
 use mathlib.Core.Path.{◌≡◌, sym, ◌∙◌, ap, subst}
 use Prim.Native.Nat.{ℕ, zero, suc, ◌+◌, ◌-◌, ◌*◌, min, max, ◌≤◌, ◌<◌}
 use native.Mathlib.Omega.{arith}
-use mathlib.Core.Bool.{Bool, true, false, not}
+use mathlib.Core.Bool.{true, false, not}
 use mathlib.Core.List.{List, [], ◌++◌, map}
-use lib.ListN.{length, get_or}
+use lib.ListN.{length, get_or, replicate}
 use lib.Dec.{eqb}
 use borrow.Author.Tests.{not-true, eq-eqb, ne_eqb}
 use Rattle.model.proofs.Bools.{not-refused}
+use Rattle.model.specs.Field.{unless}
 use Rattle.model.specs.Lists.{total, up_from}
 use Rattle.model.specs.Image.{budget, size_of, few_enough}
 use Rattle.model.specs.Rows.{rules}
 use Rattle.model.specs.Codec.{words_of}
 use Rattle.model.specs.Parts.{list_row}
 use Rattle.model.specs.Store.{list_rows}
-use Rattle.model.specs.Flat.{Flattened, flatten_rule, flatten_rules, too_many_steps}
+use Rattle.model.specs.Flat.{flatten_rule, flatten_rules, too_many_steps}
 use Rattle.model.specs.Load.{image_refusal}
 use Rattle.std.specs.Prelude.{Ok, Err}
 use Rattle.model.specs.declared.Refusal.{Refusal}
-use Rattle.model.specs.declared.Refusal.TheVariants.{TooMany}
 use Rattle.model.specs.Refusals.{refusal_code}
 use Rattle.model.proofs.RefusalLaws.{refusal-some}
 use Rattle.model.specs.Asked.{declined, shown_result}
 use Rattle.image.specs.Accepted.{Accepted}
 use Rattle.image.proofs.Accepted.{budget-fits, rules-few}
-use Rattle.flat.specs.Load.{Parts, loaded, list_part}
+use Rattle.flat.specs.Load.{list_part}
 use Rattle.flat.proofs.FlatPart.{rules-length}
 use Rattle.flat.proofs.Counts.{few-steps}
-use Rattle.load.proofs.Laws.{over, steps, few, many, tables-pass}
+use Rattle.load.proofs.Laws.{tables-pass}
 use Rattle.room.specs.declared.Needed.{Needed}
 use Rattle.room.specs.declared.Sums.{Sums}
 use Rattle.room.specs.Room.{starts_of, own_steps, body_steps, effects_of_start, longest, outcomes_needed, effects_needed}
@@ -98,15 +98,21 @@ begins-stored img lists rest e i h =
     zero-sum : (k : ℕ) → 0 + k ≡ k
     zero-sum k = omega arith
 
-not-over : (fs : List Flattened) (n : ℕ) → Ok n ≡ loaded fs → too_many_steps fs ≡ false
-not-over fs n e = not-true (too_many_steps fs) (not-refused (not (too_many_steps fs)) 15 0 (sym (steps fs 0 n e))).0
+-- 16 and 17 passed
+passed : (img : List ℕ) → 0 ≡ unless (not (too_many_steps (flatten_rules img))) 16 (unless (few_enough img) 17 0)
+    → (too_many_steps (flatten_rules img) ≡ false) × (few_enough img ≡ true)
+passed img e =
+    let (a, r) = not-refused (not (too_many_steps (flatten_rules img))) 15 _ (sym e) in
+    let (b, _) = not-refused (few_enough img) 16 _ r in
+    (not-true (too_many_steps (flatten_rules img)) a, b)
 
-pub listed : (img words lists : List ℕ) (n : ℕ) → Accepted img → few_enough img ≡ true → length lists ≡ 128 → Ok n ≡ loaded (flatten_rules img)
-    → Parts (flatten_rules img) n words lists → Listed img lists
-listed img words lists n ok f len e p =
+pub listed : (img lists : List ℕ) → Accepted img → 0 ≡ unless (not (too_many_steps (flatten_rules img))) 16 (unless (few_enough img) 17 0) → length lists ≡ 128
+    → (length (flatten_rules img) * 2 ≤ length lists → lists ≡ list_part (flatten_rules img) ++ replicate (length lists - length (flatten_rules img) * 2) 0) → Listed img lists
+listed img lists ok e len p =
+    let (over, f) = passed img e in
     let c = rules-length img in
     let d = rules-few img f in
-    record { image = ok; few = f; steps = few-steps (flatten_rules img) (not-over (flatten_rules img) n e); begins = begins-stored img lists _ (p.rows (omega arith)); sizes = sizes-stored img lists _ (p.rows (omega arith)) }
+    record { image = ok; few = f; steps = few-steps (flatten_rules img) over; begins = begins-stored img lists _ (p (omega arith)); sizes = sizes-stored img lists _ (p (omega arith)) }
 
 -- THE NUMBERS -----------------------------------------------------------------------------------------------------------------------
 pub record Known (img : List ℕ) (b : ℕ) (s : Sums) : Type 0 where
@@ -161,11 +167,10 @@ room-is img r h e =
     rw (b, h.outcomes, h.effects)
 
 module _ (img : List ℕ) (ok : Accepted img) where
-  pub over-is : (refusal : Refusal) → Err refusal ≡ loaded (flatten_rules img) → shown_result numbers (Err refusal) [] ≡ room_for img
-  over-is refusal h = refused-is img refusal (tables-pass img (refusal_code refusal) ok.passes (over (flatten_rules img) _ refusal h))
+  pub late-refused : (refusal : Refusal) → refusal_code refusal ≡ unless (not (too_many_steps (flatten_rules img))) 16 (unless (few_enough img) 17 0)
+      → shown_result numbers (Err refusal) [] ≡ room_for img
+  late-refused refusal e = refused-is img refusal (tables-pass img (refusal_code refusal) ok.passes e)
 
-  pub many_is : (n : ℕ) (b : Bool) → Ok n ≡ loaded (flatten_rules img) → b ≡ few_enough img → b ≡ false → shown_result numbers (Err TooMany) [] ≡ room_for img
-  many_is n b h e f = refused-is img TooMany (tables-pass img 17 ok.passes (many b (few_enough img) e f ∙ steps (flatten_rules img) _ n h))
-
-  pub few-is : (n : ℕ) (b : Bool) (r : Needed) → Ok n ≡ loaded (flatten_rules img) → b ≡ few_enough img → b ≡ true → Needs img r → shown_result numbers (Ok r) [] ≡ room_for img
-  few-is n b r h e f k = room-is img r k (tables-pass img 0 ok.passes (few b (few_enough img) e f ∙ steps (flatten_rules img) _ n h))
+  pub needed-is : (r : Needed) → 0 ≡ unless (not (too_many_steps (flatten_rules img))) 16 (unless (few_enough img) 17 0) → Needs img r
+      → shown_result numbers (Ok r) [] ≡ room_for img
+  needed-is r e k = room-is img r k (tables-pass img 0 ok.passes e)

@@ -8,7 +8,6 @@ ghost use Rattle.model.specs.Image.{size_of};
 ghost use Rattle.model.specs.Rows.{rules};
 ghost use Rattle.model.specs.Wheel.{is_wall_trigger};
 ghost use Rattle.model.specs.Asked.{shown_result};
-ghost use Rattle.image.specs.Accepted.{Accepted};
 ghost use Rattle.room.specs.Room.{is_timer_trigger, is_every_trigger, starts_of};
 ghost use Rattle.room.specs.Needed.{room_for, numbers, Needs, begin_in, size_in, Summed, Listed};
 
@@ -134,25 +133,13 @@ fn room(image: &Image, lists: &[u32]) -> Needed
     }
 }
 
-// Of an image that passes 10 to 15: 16 is decided first. Flattening is lent no words for the steps, and the rows of 64 lists.
-fn flat_needed(words: &[u32]) -> Result<Needed, Refusal>
-    requires { Accepted words.now }
-    ensures { shown_result numbers result [] ≡ room_for words.now }
-{
-    let mut steps = [0u32; 1];
-    let mut lists = [0u32; 128];
-    flat::rules::flatten_rules(words, &mut steps[1..], &mut lists)?;
-    let image = Image::new(words);
-    if image.few_enough() {
-        return Ok(room(&image, &lists));
-    }
-    Err(Refusal::TooMany)
-}
-
 // What an image needs, or why load refuses it: for every slice.
 pub fn room_for(words: &[u32]) -> Result<Needed, Refusal>
     ensures { shown_result numbers result [] ≡ room_for words.now }
 {
     image::refusal(words)?;
-    flat_needed(words)
+    // The rows of 64 lists.
+    let mut lists = [0u32; 128];
+    let image = load::accepted(words, &mut lists)?;
+    Ok(room(&image, &lists))
 }

@@ -73,7 +73,7 @@ impl fmt::Display for WrongLine {
 
     fn fmt<W: fmt::Write>(&self, f: &mut fmt::Formatter<W>) -> fmt::Result {
         let WrongLine { line, wrong } = *self;
-        write!(f, "line {line}: {wrong}\n")
+        writeln!(f, "line {line}: {wrong}")
     }
 }
 

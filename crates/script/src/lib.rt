@@ -16,6 +16,8 @@ pub use complain::{Signed, Wrong, WrongLine};
 
 // A call of the table with its numbers, 0 past those that it has; `words` words of a list stand at the start of the lent list, and a text is
 // the last `bytes` bytes of the line.
+// kept: numbers by place, and no enum of calls with their fields, as it would be no plainer: parser, complaints and their proofs are about any row of the table,
+// where such an enum takes a parser and a complaint for each call.
 #[derive(Clone, Copy, PartialEq, Eq)]
 pub struct Command {
     pub call: Call,
