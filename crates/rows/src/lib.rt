@@ -9,10 +9,10 @@ pub mod tables;
 use model::{EverySlot, NamedTimer, Pending, Variable};
 use row::Row;
 
-// The words of a rule's last activation, and of its cycle position.
-pub const ACTIVATION_WORDS: usize = 3;
+// The words of a rule's last activation, and of its cycle position: a mark, and a row behind it.
+pub const ACTIVATION_WORDS: usize = 1 + u64::WORDS;
 
-pub const POSITION_WORDS: usize = 2;
+pub const POSITION_WORDS: usize = 1 + u32::WORDS;
 
 // The words of a record.
 pub const VARIABLE_WORDS: usize = Variable::WORDS;
