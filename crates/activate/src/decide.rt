@@ -20,7 +20,7 @@ pub enum Decision {
 fn in_cooldown(env: &eval::Env, i: u32) -> bool
     ensures { InCooldownIs env.now.snapshot.now env.now.image.now i (meaning env.now.state.now).rest result }
 {
-    let Some(last) = state::rules::last_activation(env.state, i as usize) else {
+    let Some(last) = env.state.last_activation(i as usize) else {
         return false;
     };
     let age = world::now_ms(env.snapshot).saturating_sub(last);

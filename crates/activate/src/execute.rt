@@ -29,7 +29,7 @@ pub fn note_wet_partial(v: &mut State, dry: bool)
     ensures { NotesPartial dry v.old v.new }
 {
     if !dry {
-        state::bump(v, Counter::PartialOutcomes, 1);
+        v.bump(Counter::PartialOutcomes, 1);
     }
 }
 
@@ -39,9 +39,9 @@ fn start(snapshot: &[u32], v: &mut State, job: Job) -> Job
     ensures { Starts snapshot.now job v.old v.new result }
 {
     let time = world::now_ms(snapshot);
-    state::bump(v, Counter::ActivationsTotal, 1);
-    state::rules::set_last_activation(v, job.index as usize, time);
-    let number = state::last_number::take_number(v);
+    v.bump(Counter::ActivationsTotal, 1);
+    v.set_last_activation(job.index as usize, time);
+    let number = v.take_number();
     Job { number, ..job }
 }
 
@@ -49,9 +49,9 @@ fn start(snapshot: &[u32], v: &mut State, job: Job) -> Job
 fn finish_wet(v: &mut State, effects: u32, reason: Option<Reason>)
     ensures { FinishesWet v.old effects (reason_number reason) v.new }
 {
-    state::bump(v, Counter::EffectsEmitted, effects);
+    v.bump(Counter::EffectsEmitted, effects);
     if reason.is_some() {
-        state::bump(v, Counter::PartialOutcomes, 1);
+        v.bump(Counter::PartialOutcomes, 1);
     }
 }
 
@@ -84,7 +84,7 @@ pub fn execute(env: &Env, rule: &FlatRule, lent: &mut Lent)
     ensures { Over (Executes env.now.snapshot.now env.now.image.now rule.now.part.now rule.now.own env.now.job) lent.old lent.new }
 {
     if env.job.dry {
-        state::bump(lent.state, Counter::ActivationsDry, 1);
+        lent.state.bump(Counter::ActivationsDry, 1);
         return run_dry(env, rule, lent);
     }
     let job = start(env.snapshot, lent.state, env.job);

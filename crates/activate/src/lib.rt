@@ -103,8 +103,8 @@ pub fn activate(
     };
     match decide::decide(&env, lent.state, mode) {
         Decision::Begins => execute::execute(&env, rule, lent),
-        Decision::InCooldown => state::bump(lent.state, Counter::SuppressedCooldown, 1),
-        Decision::Rejected => state::bump(lent.state, Counter::ConditionsRejected, 1),
+        Decision::InCooldown => lent.state.bump(Counter::SuppressedCooldown, 1),
+        Decision::Rejected => lent.state.bump(Counter::ConditionsRejected, 1),
         Decision::Unevaluable => {
             execute::note_wet_partial(lent.state, dry);
             let x = lent.handled;
@@ -126,6 +126,6 @@ pub fn resume(snapshot: &[u32], image: &Image, rule: &FlatRule, lent: &mut Lent,
         image,
         job,
     };
-    state::bump(lent.state, Counter::ContinuationsFired, 1);
+    lent.state.bump(Counter::ContinuationsFired, 1);
     execute::run_wet(&env, rule, lent, c.point, c.budget);
 }

@@ -46,10 +46,10 @@ fn fits(lent: &Lent) -> Result<(), Refusal>
     if lent.effects.len() / lent_words::EFFECT_WORDS < lent.handled.effects as usize {
         return Err(Refusal::LentStores);
     }
-    if !state::sequence::next_fits(lent.state) {
+    if !lent.state.next_fits() {
         return Err(Refusal::SequenceNumber);
     }
-    if !state::last_number::last_fits(lent.state) {
+    if !lent.state.last_fits() {
         return Err(Refusal::ActivationNumber);
     }
     Ok(())
@@ -68,7 +68,7 @@ fn commit(store: &mut [u32; table::WORDS], lent: &mut Lent, time: u64) -> Result
             Err(refusal)
         }
         Ok(()) => {
-            state::sequence::assign_numbers(lent.state);
+            lent.state.assign_numbers();
             store::volatile::put_state(store, lent.state);
             store::set::put_last(store, time);
             Ok(lent.handled)
@@ -80,7 +80,7 @@ fn commit(store: &mut [u32; table::WORDS], lent: &mut Lent, time: u64) -> Result
 fn starts(v: &State, i: u32, dry: bool) -> bool
     ensures { result ≡ (dry || is_enabled (meaning v.now).rest i) }
 {
-    dry || state::rules::is_enabled(v, i as usize)
+    dry || v.is_enabled(i as usize)
 }
 
 // `run_rule`: a rule that is not loaded does nothing.
@@ -94,7 +94,7 @@ fn run_rule(store: &Checked, snapshot: &[u32], lent: &mut Lent, name: u32, dry: 
         return
     };
     if !starts(lent.state, i, dry) {
-        return state::bump(lent.state, Counter::SuppressedDisabled, 1);
+        return lent.state.bump(Counter::SuppressedDisabled, 1);
     }
     let mode = if dry { Mode::Dry } else { Mode::Manual };
     let steps = store::flat_part::rule_flat(words, i);

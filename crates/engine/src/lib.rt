@@ -77,7 +77,7 @@ pub fn enable(store: &mut [u32], rule: u32, on: bool) -> Result<bool, Refusal>
     };
     let mut v = State::new();
     checked.begin(&mut v);
-    state::rules::set_enabled(&mut v, rule, i as usize, on);
+    v.set_enabled(rule, i as usize, on);
     // This opens the value, so that what is known of it can be cited; no code comes of it.
     let _ = &v.words;
     store::volatile::put_state(words, &v);

@@ -20,9 +20,9 @@ pub fn without_set(store: &Checked, v: &mut State)
     ensures { AllNumbered v.new (cleared (rest_without store.now) store.now.vol) }
 {
     store.begin(v);
-    state::pending::drop_all(v);
-    state::slots::drop_every(v);
-    state::rules::unset_rules(v, 0);
+    v.drop_all();
+    v.drop_every();
+    v.unset_rules(0);
     // This opens the value, so that what is known of it can be cited; no code comes of it.
     let _ = &v.words;
 }
@@ -44,9 +44,9 @@ fn put_rule(store: &Checked, image: &Image, i: u32, v: &mut State)
 {
     let (activation, position) = kept_of(store, image.name_of(i));
     let on = image.enabled_of(i);
-    state::rules::put_bit(v, i as usize, on);
-    state::rules::put_last_activation(v, i as usize, activation);
-    state::rules::put_cycle_pos(v, i as usize, position);
+    v.put_bit(i as usize, on);
+    v.put_last_activation(i as usize, activation);
+    v.put_cycle_pos(i as usize, position);
 }
 
 // The rules of a set.
@@ -55,7 +55,7 @@ fn put_rules(store: &Checked, image: &Image, v: &mut State)
     ensures { Means v.new (base v.old) (with_rest (rules_of image.now store.now (meaning v.old).rest) (meaning v.old)) }
 {
     let n = image.size_of(Table::Rules);
-    state::rules::unset_rules(v, n as usize);
+    v.unset_rules(n as usize);
     for i in 0..n {
         put_rule(store, image, i, v);
     }
@@ -71,7 +71,7 @@ pub fn with_set(store: &Checked, image: &Loadable, time: u64, v: &mut State)
     let old = Slots::new(words, table::SLOTS + 1, n);
     let tables = Image::new(image.words());
     every::rebuild_every(&tables, &old, time, v);
-    state::pending::drop_all(v);
+    v.drop_all();
     put_rules(store, &tables, v);
     // This opens the value, so that what is known of it can be cited; no code comes of it.
     let _ = &v.words;

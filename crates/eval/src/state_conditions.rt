@@ -14,7 +14,7 @@ pub fn rule_enabled(env: &Env, rule: u32) -> Option<bool>
     ensures { Evaluates env.now (condition.RuleEnabled rule) result }
 {
     let place = env.image.rule_named(rule);
-    Some(place.is_some_and(|i| state::rules::is_enabled(env.state, i as usize)))
+    Some(place.is_some_and(|i| env.state.is_enabled(i as usize)))
 }
 
 // True for a rule that is not loaded, and for one that never fired.
@@ -25,7 +25,7 @@ pub fn last_fired_older_than(env: &Env, rule: u32, ms: u32) -> Option<bool>
     let Some(i) = env.image.rule_named(rule) else {
         return Some(true);
     };
-    let last = state::rules::last_activation(env.state, i as usize);
+    let last = env.state.last_activation(i as usize);
     let now = world::now_ms(env.snapshot);
     Some(last.is_none_or(|at| u64::from(ms) < now.saturating_sub(at)))
 }
@@ -34,7 +34,7 @@ pub fn last_fired_older_than(env: &Env, rule: u32, ms: u32) -> Option<bool>
 pub fn timer_running(env: &Env, timer: u32) -> Option<bool>
     ensures { Evaluates env.now (condition.TimerRunning timer) result }
 {
-    Some(state::timers::has_timer(env.state, timer))
+    Some(env.state.has_timer(timer))
 }
 
 // An integer is compared with a value, a text with a text. Any other pairing differs, and so does a variable that is not there.
@@ -42,7 +42,7 @@ pub fn timer_running(env: &Env, timer: u32) -> Option<bool>
 pub fn compare_var(env: &Env, name: u32, cmp: Option<Cmp>, operand: VarOperand) -> Option<bool>
     ensures { Evaluates env.now (condition.VarCompare name cmp operand) result }
 {
-    match (state::variables::variable(env.state, name), operand) {
+    match (env.state.variable(name), operand) {
         (Some(VarValue::Int(n)), VarOperand::Value(i)) => {
             let right = value_at(env, i)?;
             Some(compare_i64(cmp, n.cast_signed(), right))

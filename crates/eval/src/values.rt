@@ -47,7 +47,7 @@ pub fn eval_reading(snapshot: &[u32], v: &State, reading: Reading) -> Option<i64
         Reading::SunRise => Some(i64::from(world::sun(snapshot)?.sunrise_min)),
         Reading::SunSet => Some(i64::from(world::sun(snapshot)?.sunset_min)),
         Reading::SunIsUp => Some(i64::from(sun_is_up(snapshot)?)),
-        Reading::Var(name) => match state::variables::variable(v, name)? {
+        Reading::Var(name) => match v.variable(name)? {
             VarValue::Int(n) => Some(n.cast_signed()),
             VarValue::Text(_) => None,
         },

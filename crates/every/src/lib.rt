@@ -91,7 +91,7 @@ pub fn rebuild_every(image: &Image, old: &Slots, time: u64, v: &mut State)
     requires { few_enough image.now ≡ true }
     ensures { Means v.new (base v.old) (with_rest (with_every (rebuild_every image.now old.now time) (meaning v.old).rest) (meaning v.old)) }
 {
-    state::slots::drop_every(v);
+    v.drop_every();
     Loadable { image }.join_all(old, time, &mut v.words[SLOTS..PENDING]);
 }
 

@@ -22,6 +22,6 @@ pub fn emits(kind: EffectKind, a: u32, b: u32, c: u32, d: u32) -> PrimResult
 pub fn fails(v: &mut State) -> PrimResult
     ensures { Does v.old (action_done v.new result) (model_actions.fails (meaning v.old).rest) }
 {
-    state::bump(v, Counter::ActionsFailed, 1);
+    v.bump(Counter::ActionsFailed, 1);
     Err(Unevaluable)
 }

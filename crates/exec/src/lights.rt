@@ -68,7 +68,7 @@ fn cycle_place(v: &State, index: u32, count: u32) -> u32
     requires { 0 < count }
     ensures { (result ≡ or_else 0 (cycle_pos_at (meaning v.now).rest index) % count) × (result < count) }
 {
-    state::rules::cycle_pos(v, index as usize).unwrap_or(0) % count
+    v.cycle_pos(index as usize).unwrap_or(0) % count
 }
 
 #[tactic(auto, unfolding(model::specs::Actions::run_prim, model::specs::Actions::prim_cycle))]
@@ -83,7 +83,7 @@ pub fn prim_cycle(env: &Env, v: &mut State, first: u32, count: u32) -> PrimResul
     if env.job.dry {
         return emits(EffectKind::SceneRecall, scene, 0, 0, env.job.hold);
     }
-    state::rules::set_cycle_pos(v, env.job.index as usize, (at + 1) % count);
+    v.set_cycle_pos(env.job.index as usize, (at + 1) % count);
     emits(EffectKind::SceneRecall, scene, 0, 0, env.job.hold)
 }
 

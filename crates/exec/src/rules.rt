@@ -15,6 +15,6 @@ pub fn set_rule_bit(env: &Env, v: &mut State, rule: u32, on: bool) -> PrimResult
     if env.job.dry {
         return Ok(None);
     }
-    state::rules::set_enabled(v, rule, i as usize, on);
+    v.set_enabled(rule, i as usize, on);
     Ok(None)
 }

@@ -60,7 +60,7 @@ fn schedule(env: &Env, v: &mut State, left: u32, ms: u32, to: Point) -> Option<R
 {
     let time = world::now_ms(env.snapshot);
     let job = env.job;
-    state::pending::schedule_continuation(v, time, job.rule, job.trigger, job.number, left, ms, to)
+    v.schedule_continuation(time, job.rule, job.trigger, job.number, left, ms, to)
 }
 
 // What follows a wait is scheduled, and the run ends: also where the continuation is dropped.

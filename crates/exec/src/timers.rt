@@ -15,11 +15,11 @@ fn arm_timer(env: &Env, v: &mut State, name: u32, ms: u32) -> PrimResult
     if env.job.dry {
         return Ok(None);
     }
-    if state::timers::timers_full(v) {
+    if v.timers_full() {
         return fails(v);
     }
     let due = world::now_ms(env.snapshot).saturating_add(ms as u64);
-    state::timers::arm_timer(v, name, due);
+    v.arm_timer(name, due);
     Ok(None)
 }
 
@@ -27,7 +27,7 @@ fn arm_timer(env: &Env, v: &mut State, name: u32, ms: u32) -> PrimResult
 pub fn timer_start(env: &Env, v: &mut State, timer: u32, ms: u32) -> PrimResult
     ensures { (image : List ℕ) → PerformsIn env.now.snapshot.now image env.now.job v.old (TimerStart timer ms) (action_done v.new result) }
 {
-    if state::timers::has_timer(v, timer) {
+    if v.has_timer(timer) {
         return Ok(None);
     }
     arm_timer(env, v, timer, ms)
@@ -40,7 +40,7 @@ pub fn timer_restart(env: &Env, v: &mut State, timer: u32, ms: u32) -> PrimResul
     if env.job.dry {
         return Ok(None);
     }
-    state::timers::cancel_timer(v, timer);
+    v.cancel_timer(timer);
     arm_timer(env, v, timer, ms)
 }
 
@@ -51,6 +51,6 @@ pub fn timer_cancel(env: &Env, v: &mut State, timer: u32) -> PrimResult
     if env.job.dry {
         return Ok(None);
     }
-    state::timers::cancel_timer(v, timer);
+    v.cancel_timer(timer);
     Ok(None)
 }

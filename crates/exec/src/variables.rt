@@ -17,10 +17,10 @@ fn assign(env: &Env, v: &mut State, name: u32, value: VarValue) -> PrimResult
     if env.job.dry {
         return Ok(None);
     }
-    if state::variables::lacks_room(v, name) {
+    if v.lacks_room(name) {
         return fails(v);
     }
-    state::variables::set_variable(v, name, value);
+    v.set_variable(name, value);
     Ok(None)
 }
 
@@ -60,7 +60,7 @@ pub fn var_add(env: &Env, v: &mut State, name: u32, delta: u32) -> PrimResult
 {
     match env.value_at(v, delta) {
         Some(step) => {
-            let held = state::variables::variable(v, name);
+            let held = v.variable(name);
             add_to(env, v, name, step, held)
         }
         None => fails(v),

@@ -8,24 +8,26 @@ ghost use Rattle.state.specs.Meaning.{Sound, Means, meaning, base};
 use crate::{State, place};
 use rows::row::Row;
 
-// The number of an activation that begins. Each one has an outcome, so that a call never comes near 2^64 of them.
-pub fn take_number(v: &mut State) -> u64
-    requires { (meaning v.old).last_number < max64 + max64 }
-    ensures { Means v.new (base v.old) (with_number (suc (meaning v.old).last_number) (meaning v.old)) × (result ≡ next_number (meaning v.old).last_number) }
-{
-    let last = u64::at(&v.words, place::LAST);
-    if last < u64::MAX {
-        (last + 1).put(&mut v.words, place::LAST);
-        return last + 1;
+impl State {
+    // The number of an activation that begins. Each one has an outcome, so that a call never comes near 2^64 of them.
+    pub fn take_number(&mut self) -> u64
+        requires { (meaning self.old).last_number < max64 + max64 }
+        ensures { Means self.new (base self.old) (with_number (suc (meaning self.old).last_number) (meaning self.old)) × (result ≡ next_number (meaning self.old).last_number) }
+    {
+        let last = u64::at(&self.words, place::LAST);
+        if last < u64::MAX {
+            (last + 1).put(&mut self.words, place::LAST);
+            return last + 1;
+        }
+        let beyond = u64::at(&self.words, place::BEYOND);
+        (beyond + 1).put(&mut self.words, place::BEYOND);
+        u64::MAX
     }
-    let beyond = u64::at(&v.words, place::BEYOND);
-    (beyond + 1).put(&mut v.words, place::BEYOND);
-    u64::MAX
-}
 
-// Whether the last number is at most 2^64 - 1: where it is not, the call is refused with 32.
-pub fn last_fits(v: &State) -> bool
-    ensures { result ≡ leb (meaning v.now).last_number max64 }
-{
-    u64::at(&v.words, place::BEYOND) == 0
+    // Whether the last number is at most 2^64 - 1: where it is not, the call is refused with 32.
+    pub fn last_fits(&self) -> bool
+        ensures { result ≡ leb (meaning self.now).last_number max64 }
+    {
+        u64::at(&self.words, place::BEYOND) == 0
+    }
 }

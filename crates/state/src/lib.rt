@@ -54,21 +54,6 @@ impl Model for State {
     ghost invariant = { λ s. Sound s.words };
 }
 
-impl State {
-    ghost use Rattle.std.specs.Prelude.{◌≡◌, replicate};
-    ghost use Rattle.state.specs.Meaning.{state_words};
-
-    // Of no rules, in which nothing is kept. Inlined, so that the array is made where it stays.
-    #[inline(always)]
-    pub fn new() -> State
-        ensures { result ≡ replicate state_words 0 }
-    {
-        State {
-            words: [0; place::WORDS],
-        }
-    }
-}
-
 // kept: document 01 wants the counters as one record, lent to a thin `bump`: so this reads each field by its name, and `put_counters` writes it.
 fn counters_at(s: &[u32], k: usize) -> Counters
     requires { k ≤ 16384 }
@@ -112,22 +97,6 @@ fn put_counters(s: &mut [u32], k: usize, c: Counters)
     put_words(s, k, &values);
 }
 
-// A counter goes up by `by`: the 12 words are read into the record, which is lent, and written back.
-pub fn bump(v: &mut State, which: Counter, by: u32)
-    ensures { Means v.new (base v.old) (with_rest (bump_by (place_of_counter which) by (meaning v.old).rest) (meaning v.old)) }
-{
-    let mut c = counters_at(&v.words, place::COUNTERS);
-    c.bump(which, by);
-    put_counters(&mut v.words, place::COUNTERS, c);
-}
-
-// The minute of the week at the tick before.
-pub fn prev_week_min(v: &State) -> Option<u32>
-    ensures { result ≡ (meaning v.now).rest.prev_week_min }
-{
-    option_at(&v.words, place::WEEK)
-}
-
 // kept: beside `set_prev_week_min`, since the proof needs that each word is below 2^32, which is known of a slice that is an argument and not of a field.
 fn put_minute(w: &mut [u32], minute: Option<u32>)
     requires { Sound w.old }
@@ -136,8 +105,39 @@ fn put_minute(w: &mut [u32], minute: Option<u32>)
     put_option(w, place::WEEK, minute);
 }
 
-pub fn set_prev_week_min(v: &mut State, minute: Option<u32>)
-    ensures { Means v.new (base v.old) (with_rest (with_prev_week_min minute (meaning v.old).rest) (meaning v.old)) }
-{
-    put_minute(&mut v.words, minute);
+impl State {
+    ghost use Rattle.std.specs.Prelude.{◌≡◌, replicate};
+    ghost use Rattle.state.specs.Meaning.{state_words};
+
+    // Of no rules, in which nothing is kept. Inlined, so that the array is made where it stays.
+    #[inline(always)]
+    pub fn new() -> State
+        ensures { result ≡ replicate state_words 0 }
+    {
+        State {
+            words: [0; place::WORDS],
+        }
+    }
+
+    // A counter goes up by `by`: the 12 words are read into the record, which is lent, and written back.
+    pub fn bump(&mut self, which: Counter, by: u32)
+        ensures { Means self.new (base self.old) (with_rest (bump_by (place_of_counter which) by (meaning self.old).rest) (meaning self.old)) }
+    {
+        let mut c = counters_at(&self.words, place::COUNTERS);
+        c.bump(which, by);
+        put_counters(&mut self.words, place::COUNTERS, c);
+    }
+
+    // The minute of the week at the tick before.
+    pub fn prev_week_min(&self) -> Option<u32>
+        ensures { result ≡ (meaning self.now).rest.prev_week_min }
+    {
+        option_at(&self.words, place::WEEK)
+    }
+
+    pub fn set_prev_week_min(&mut self, minute: Option<u32>)
+        ensures { Means self.new (base self.old) (with_rest (with_prev_week_min minute (meaning self.old).rest) (meaning self.old)) }
+    {
+        put_minute(&mut self.words, minute);
+    }
 }

@@ -7,7 +7,7 @@ ghost use Rattle.model.specs.State.{is_enabled, last_activation_at, cycle_pos_at
 ghost use Rattle.state.specs.Meaning.{Sound, Means, meaning, base, rules_of};
 ghost use Rattle.state.specs.Named.{kept_for, kept_laid, unset_rules};
 
-use crate::{State, pending, place};
+use crate::{State, place};
 use rows::put::clear;
 use rows::row::{Row, option_at, put_option};
 
@@ -19,34 +19,6 @@ fn rule_count(v: &[u32]) -> usize
     ensures { (result ≡ rules_of v.now) × (result ≤ 64) }
 {
     u32::at(v, place::RULES) as usize
-}
-
-pub fn is_enabled(v: &State, i: usize) -> bool
-    ensures { result ≡ is_enabled (meaning v.now).rest i }
-{
-    if i < rule_count(&v.words) {
-        return bool::at(&v.words, place::BITS + i);
-    }
-    false
-}
-
-// The bit alone: `set_enabled` strikes the continuations too.
-pub fn put_bit(v: &mut State, i: usize, on: bool)
-    ensures { Means v.new (base v.old) (with_rest (with_enabled (set (meaning v.old).rest.enabled i on) (meaning v.old).rest) (meaning v.old)) }
-{
-    if i < rule_count(&v.words) {
-        on.put(&mut v.words, place::BITS + i);
-    }
-}
-
-// The bit of rule `rule` at place i is set; who disables also strikes the rule's continuations.
-pub fn set_enabled(v: &mut State, rule: u32, i: usize, on: bool)
-    ensures { Means v.new (base v.old) (flipped rule i on (meaning v.old)) }
-{
-    put_bit(v, i, on);
-    if !on {
-        pending::strike(v, rule);
-    }
 }
 
 // What the part at `part`, which has an option for each rule, says of rule i.
@@ -70,49 +42,79 @@ fn put_kept<T: Row>(v: &mut [u32], part: usize, i: usize, x: Option<T>)
     }
 }
 
-pub fn last_activation(v: &State, i: usize) -> Option<u64>
-    ensures { result ≡ last_activation_at (meaning v.now).rest i }
-{
-    kept(v, place::ACTIVATIONS, i)
-}
+impl State {
+    pub fn is_enabled(&self, i: usize) -> bool
+        ensures { result ≡ is_enabled (meaning self.now).rest i }
+    {
+        if i < rule_count(&self.words) {
+            return bool::at(&self.words, place::BITS + i);
+        }
+        false
+    }
 
-// What is kept of rule i's last activation.
-pub fn put_last_activation(v: &mut State, i: usize, x: Option<u64>)
-    ensures { Means v.new (base v.old) (with_rest (with_last_activation (set (meaning v.old).rest.last_activation i x) (meaning v.old).rest) (meaning v.old)) }
-{
-    put_kept(&mut v.words, place::ACTIVATIONS, i, x);
-}
+    // The bit alone: `set_enabled` strikes the continuations too.
+    pub fn put_bit(&mut self, i: usize, on: bool)
+        ensures { Means self.new (base self.old) (with_rest (with_enabled (set (meaning self.old).rest.enabled i on) (meaning self.old).rest) (meaning self.old)) }
+    {
+        if i < rule_count(&self.words) {
+            on.put(&mut self.words, place::BITS + i);
+        }
+    }
 
-pub fn set_last_activation(v: &mut State, i: usize, time: u64)
-    ensures { Means v.new (base v.old) (with_rest (with_last_activation (set (meaning v.old).rest.last_activation i (Some time)) (meaning v.old).rest) (meaning v.old)) }
-{
-    put_last_activation(v, i, Some(time));
-}
+    // The bit of rule `rule` at place i is set; who disables also strikes the rule's continuations.
+    pub fn set_enabled(&mut self, rule: u32, i: usize, on: bool)
+        ensures { Means self.new (base self.old) (flipped rule i on (meaning self.old)) }
+    {
+        self.put_bit(i, on);
+        if !on {
+            self.strike(rule);
+        }
+    }
 
-pub fn cycle_pos(v: &State, i: usize) -> Option<u32>
-    ensures { result ≡ cycle_pos_at (meaning v.now).rest i }
-{
-    kept(v, place::POSITIONS, i)
-}
+    pub fn last_activation(&self, i: usize) -> Option<u64>
+        ensures { result ≡ last_activation_at (meaning self.now).rest i }
+    {
+        kept(self, place::ACTIVATIONS, i)
+    }
 
-// What is kept of rule i's cycle position.
-pub fn put_cycle_pos(v: &mut State, i: usize, x: Option<u32>)
-    ensures { Means v.new (base v.old) (with_rest (with_cycle_pos (set (meaning v.old).rest.cycle_pos i x) (meaning v.old).rest) (meaning v.old)) }
-{
-    put_kept(&mut v.words, place::POSITIONS, i, x);
-}
+    // What is kept of rule i's last activation.
+    pub fn put_last_activation(&mut self, i: usize, x: Option<u64>)
+        ensures { Means self.new (base self.old) (with_rest (with_last_activation (set (meaning self.old).rest.last_activation i x) (meaning self.old).rest) (meaning self.old)) }
+    {
+        put_kept(&mut self.words, place::ACTIVATIONS, i, x);
+    }
 
-pub fn set_cycle_pos(v: &mut State, i: usize, at: u32)
-    ensures { Means v.new (base v.old) (with_rest (with_cycle_pos (set (meaning v.old).rest.cycle_pos i (Some at)) (meaning v.old).rest) (meaning v.old)) }
-{
-    put_cycle_pos(v, i, Some(at));
-}
+    pub fn set_last_activation(&mut self, i: usize, time: u64)
+        ensures { Means self.new (base self.old) (with_rest (with_last_activation (set (meaning self.old).rest.last_activation i (Some time)) (meaning self.old).rest) (meaning self.old)) }
+    {
+        self.put_last_activation(i, Some(time));
+    }
 
-// There are n rules, and nothing is kept of any.
-pub fn unset_rules(v: &mut State, n: usize)
-    requires { n ≤ 64 }
-    ensures { Means v.new (base v.old) (with_rest (unset_rules n (meaning v.old).rest) (meaning v.old)) }
-{
-    clear(&mut v.words, place::BITS, place::VARIABLES - place::BITS);
-    (n as u32).put(&mut v.words, place::RULES);
+    pub fn cycle_pos(&self, i: usize) -> Option<u32>
+        ensures { result ≡ cycle_pos_at (meaning self.now).rest i }
+    {
+        kept(self, place::POSITIONS, i)
+    }
+
+    // What is kept of rule i's cycle position.
+    pub fn put_cycle_pos(&mut self, i: usize, x: Option<u32>)
+        ensures { Means self.new (base self.old) (with_rest (with_cycle_pos (set (meaning self.old).rest.cycle_pos i x) (meaning self.old).rest) (meaning self.old)) }
+    {
+        put_kept(&mut self.words, place::POSITIONS, i, x);
+    }
+
+    pub fn set_cycle_pos(&mut self, i: usize, at: u32)
+        ensures { Means self.new (base self.old) (with_rest (with_cycle_pos (set (meaning self.old).rest.cycle_pos i (Some at)) (meaning self.old).rest) (meaning self.old)) }
+    {
+        self.put_cycle_pos(i, Some(at));
+    }
+
+    // There are n rules, and nothing is kept of any.
+    pub fn unset_rules(&mut self, n: usize)
+        requires { n ≤ 64 }
+        ensures { Means self.new (base self.old) (with_rest (unset_rules n (meaning self.old).rest) (meaning self.old)) }
+    {
+        clear(&mut self.words, place::BITS, place::VARIABLES - place::BITS);
+        (n as u32).put(&mut self.words, place::RULES);
+    }
 }

@@ -8,14 +8,6 @@ use crate::{State, place};
 use rows::PENDING_WORDS;
 use rows::row::Row;
 
-// Whether the next number is at most 2^64 - 1: where it is not, the call is refused with 31.
-pub fn next_fits(v: &State) -> bool
-    ensures { result ≡ leb (meaning v.now).next max64 }
-{
-    let next = u64::at(&v.words, place::NEXT);
-    u64::at(&v.words, place::ACCEPTED) <= u64::MAX - next
-}
-
 // Each record behind the stored ones gets the number at its offset.
 // kept: not one map with `slots::move_all`: this adds to two words of the rows behind the stored ones, that writes whole slots, all of them. One map
 // would take the first row, the width, the word and a closure, where these are two loops of three lines.
@@ -31,23 +23,33 @@ fn number_all(t: &mut [u32], stored: usize, next: u64, accepted: u64)
     }
 }
 
-// The records of the call get their numbers, and the store its next one: the same meaning, with no offset left. The last activation number is
-// one of 64 bits.
-pub fn assign_numbers(v: &mut State)
-    requires { (leb (meaning v.old).next max64 ≡ true) × ((meaning v.old).last_number ≤ max64) }
-    ensures { AllNumbered v.new (meaning v.old) }
-{
-    let next = u64::at(&v.words, place::NEXT);
-    let accepted = u64::at(&v.words, place::ACCEPTED);
-    let stored = v.words[place::STORED] as usize;
-    number_all(
-        &mut v.words[place::PENDING..place::WEEK],
-        stored,
-        next,
-        accepted,
-    );
-    let count = v.words[place::PENDING];
-    count.put(&mut v.words, place::STORED);
-    (next + accepted).put(&mut v.words, place::NEXT);
-    0u64.put(&mut v.words, place::ACCEPTED);
+impl State {
+    // Whether the next number is at most 2^64 - 1: where it is not, the call is refused with 31.
+    pub fn next_fits(&self) -> bool
+        ensures { result ≡ leb (meaning self.now).next max64 }
+    {
+        let next = u64::at(&self.words, place::NEXT);
+        u64::at(&self.words, place::ACCEPTED) <= u64::MAX - next
+    }
+
+    // The records of the call get their numbers, and the store its next one: the same meaning, with no offset left. The last activation number is
+    // one of 64 bits.
+    pub fn assign_numbers(&mut self)
+        requires { (leb (meaning self.old).next max64 ≡ true) × ((meaning self.old).last_number ≤ max64) }
+        ensures { AllNumbered self.new (meaning self.old) }
+    {
+        let next = u64::at(&self.words, place::NEXT);
+        let accepted = u64::at(&self.words, place::ACCEPTED);
+        let stored = self.words[place::STORED] as usize;
+        number_all(
+            &mut self.words[place::PENDING..place::WEEK],
+            stored,
+            next,
+            accepted,
+        );
+        let count = self.words[place::PENDING];
+        count.put(&mut self.words, place::STORED);
+        (next + accepted).put(&mut self.words, place::NEXT);
+        0u64.put(&mut self.words, place::ACCEPTED);
+    }
 }

@@ -16,13 +16,6 @@ use rows::put::clear;
 use rows::row::Row;
 use rows::tables::{Rows, table_at};
 
-// The slots.
-pub fn all(v: &State) -> Rows<'_, EverySlot>
-    ensures { result ≡ (meaning v.now).rest.every }
-{
-    Rows::new(&v.words, place::SLOTS + 1, v.words[place::SLOTS] as usize)
-}
-
 // A due slot is due again a period from now.
 #[tactic(auto, unfolding(words::specs::Saturating::saturating_add))]
 fn move_on(x: EverySlot, time: u64) -> EverySlot
@@ -48,23 +41,6 @@ fn move_all(t: &mut [u32], time: u64)
     }
 }
 
-// Each due slot is due again a period from now.
-pub fn move_slots(v: &mut State, time: u64)
-    ensures { Means v.new (base v.old) (with_rest (with_every (map (moved time) (meaning v.old).rest.every) (meaning v.old).rest) (meaning v.old)) }
-{
-    move_all(&mut v.words[place::SLOTS..place::PENDING], time);
-}
-
-// The due slots, in their order.
-pub fn due_slots(v: &State, time: u64) -> ArrayVec<EverySlot, 64>
-    ensures { result.items ≡ keep (slot_due time) (meaning v.now).rest.every }
-{
-    let n = v.words[place::SLOTS] as usize;
-    let mut due: ArrayVec<EverySlot, 64> = table_at(&v.words, place::SLOTS + 1, n);
-    due.retain(|x| x.due <= time);
-    due
-}
-
 // A slot joins behind the others.
 pub fn join(t: &mut [u32], x: EverySlot)
     requires { Counted 64 slot_row t.old × (get_or t.old 0 0 < 64) }
@@ -73,9 +49,39 @@ pub fn join(t: &mut [u32], x: EverySlot)
     table::push(t, x);
 }
 
-// No slot is left.
-pub fn drop_every(v: &mut State)
-    ensures { Means v.new (base v.old) (with_rest (with_every [] (meaning v.old).rest) (meaning v.old)) }
-{
-    clear(&mut v.words, place::SLOTS, place::PENDING - place::SLOTS);
+impl State {
+    // The slots.
+    pub fn slots(&self) -> Rows<'_, EverySlot>
+        ensures { result ≡ (meaning self.now).rest.every }
+    {
+        Rows::new(
+            &self.words,
+            place::SLOTS + 1,
+            self.words[place::SLOTS] as usize,
+        )
+    }
+
+    // Each due slot is due again a period from now.
+    pub fn move_slots(&mut self, time: u64)
+        ensures { Means self.new (base self.old) (with_rest (with_every (map (moved time) (meaning self.old).rest.every) (meaning self.old).rest) (meaning self.old)) }
+    {
+        move_all(&mut self.words[place::SLOTS..place::PENDING], time);
+    }
+
+    // The due slots, in their order.
+    pub fn due_slots(&self, time: u64) -> ArrayVec<EverySlot, 64>
+        ensures { result.items ≡ keep (slot_due time) (meaning self.now).rest.every }
+    {
+        let n = self.words[place::SLOTS] as usize;
+        let mut due: ArrayVec<EverySlot, 64> = table_at(&self.words, place::SLOTS + 1, n);
+        due.retain(|x| x.due <= time);
+        due
+    }
+
+    // No slot is left.
+    pub fn drop_every(&mut self)
+        ensures { Means self.new (base self.old) (with_rest (with_every [] (meaning self.old).rest) (meaning self.old)) }
+    {
+        clear(&mut self.words, place::SLOTS, place::PENDING - place::SLOTS);
+    }
 }

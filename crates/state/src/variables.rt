@@ -26,21 +26,6 @@ fn all(v: &State) -> Rows<'_, Variable>
     )
 }
 
-// What the variable of the name holds.
-pub fn variable(v: &State, name: u32) -> Option<VarValue>
-    ensures { result ≡ var_named (meaning v.now).rest name }
-{
-    let x = all(v).find(|x| x.name == name)?;
-    Some(x.value)
-}
-
-// Whether the name is new and 16 variables stand.
-pub fn lacks_room(v: &State, name: u32) -> bool
-    ensures { result ≡ lacks_room name (meaning v.now) }
-{
-    !all(v).any(|x| x.name == name) && MAX_VARIABLES <= v.words[place::VARIABLES] as usize
-}
-
 // The place of the variable of a name.
 fn place_of(t: &[u32], name: u32) -> Option<usize>
     requires { Counted 16 variable_row t.now }
@@ -63,9 +48,26 @@ fn assign(t: &mut [u32], x: Variable)
     }
 }
 
-pub fn set_variable(v: &mut State, name: u32, value: VarValue)
-    ensures { Means v.new (base v.old) (assigned name value (meaning v.old)) }
-{
-    let x = Variable { name, value };
-    assign(&mut v.words[place::VARIABLES..place::TIMERS], x);
+impl State {
+    // What the variable of the name holds.
+    pub fn variable(&self, name: u32) -> Option<VarValue>
+        ensures { result ≡ var_named (meaning self.now).rest name }
+    {
+        let x = all(self).find(|x| x.name == name)?;
+        Some(x.value)
+    }
+
+    // Whether the name is new and 16 variables stand.
+    pub fn lacks_room(&self, name: u32) -> bool
+        ensures { result ≡ lacks_room name (meaning self.now) }
+    {
+        !all(self).any(|x| x.name == name) && MAX_VARIABLES <= self.words[place::VARIABLES] as usize
+    }
+
+    pub fn set_variable(&mut self, name: u32, value: VarValue)
+        ensures { Means self.new (base self.old) (assigned name value (meaning self.old)) }
+    {
+        let x = Variable { name, value };
+        assign(&mut self.words[place::VARIABLES..place::TIMERS], x);
+    }
 }

@@ -13,7 +13,6 @@ ghost use Rattle.wheel.specs.Tick.{HasRecords, Fires, fits_set, are_indices, rec
 use crate::Env;
 use activate::{Lent, resume};
 use model::Pending;
-use state::pending::{due_now, without_due};
 use store::flat_part::rule_flat;
 use store::volatile::pending_record;
 
@@ -52,7 +51,7 @@ pub fn fire_continuations(env: &Env, lent: &mut Lent)
     ensures { Over (Fires 32 (fire_continuations (env_of env.now))) lent.old lent.new }
 {
     let time = world::now_ms(env.snapshot);
-    let due = due_now(lent.state, time);
-    without_due(lent.state, time);
+    let due = lent.state.due_now(time);
+    lent.state.without_due_continuations(time);
     resume_all(env, lent, due.as_slice());
 }

@@ -9,7 +9,7 @@ ghost use Rattle.wheel.specs.Deadline.{store_of, Poll};
 
 use crate::wall::has_wall_triggers;
 use image::layout::Image;
-use state::{State, pending, slots, timers};
+use state::State;
 
 const WALL_POLL_MS: u64 = 1000;
 
@@ -35,8 +35,8 @@ pub fn next_deadline(image: Option<Image>, v: &State, last: u64) -> Option<u64>
     ensures { (flat : List (List FlatStep)) → result ≡ next_deadline (store_of image.entry flat v.now last) }
 {
     let poll = wall_poll(image, v, last);
-    let slot = slots::all(v).map(|x| x.due).min();
-    let timer = timers::all(v).map(|t| t.due).min();
-    let record = pending::all(v).map(|c| c.due).min();
+    let slot = v.slots().map(|x| x.due).min();
+    let timer = v.timers().map(|t| t.due).min();
+    let record = v.pending().map(|c| c.due).min();
     earliest_of(&[record, timer, slot, poll])
 }

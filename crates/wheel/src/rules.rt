@@ -10,7 +10,6 @@ ghost use Rattle.wheel.specs.Tick.{Fires};
 use crate::Rule;
 use activate::{Lent, Mode, activate};
 use model::TriggerKind;
-use state::rules::is_enabled;
 use store::flat_part::rule_flat;
 
 pub fn activate_rule(rule: &Rule, lent: &mut Lent, kind: TriggerKind)
@@ -35,7 +34,7 @@ pub fn activate_if_enabled(rule: &Rule, lent: &mut Lent, kind: TriggerKind)
     requires { Room 1 (carried_by lent.old) }
     ensures { Over (Fires 1 (activate_if_enabled (env_of rule.now.env.now) (trigger_number kind) rule.now.i)) lent.old lent.new }
 {
-    if is_enabled(lent.state, rule.i as usize) {
+    if lent.state.is_enabled(rule.i as usize) {
         activate_rule(rule, lent, kind);
     }
 }

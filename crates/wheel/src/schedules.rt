@@ -22,7 +22,6 @@ use activate::Lent;
 use counters::Counter;
 use model::{TriggerKind, WallTime};
 use state::State;
-use state::rules::is_enabled;
 
 // At most so many minutes are made up for.
 const CATCH_UP_MINUTES: u64 = 60;
@@ -45,7 +44,7 @@ fn wall_turn(rule: &Rule, lent: &mut Lent, window: Window, missed: bool) -> bool
     requires { Room 1 (carried_by lent.old) }
     ensures { Over (Turns (env_of rule.now.env.now) window.base window.window rule.now.i missed result) lent.old lent.new }
 {
-    if !is_enabled(lent.state, rule.i as usize) {
+    if !lent.state.is_enabled(rule.i as usize) {
         return missed;
     }
     let env = rule.env;
@@ -59,7 +58,7 @@ fn count_missed(v: &mut State, missed: bool)
     ensures { Means v.new (base v.old) (count_missed missed (meaning v.old)) }
 {
     if missed {
-        state::bump(v, Counter::TicksTimeUnsynced, 1);
+        v.bump(Counter::TicksTimeUnsynced, 1);
     }
 }
 
@@ -110,7 +109,7 @@ fn fire_window(env: &Env, lent: &mut Lent, minute: u64, window: u64)
 fn remember(v: &mut State, minute: u32)
     ensures { Means v.new (base v.old) (remembering minute (meaning v.old)) }
 {
-    state::set_prev_week_min(v, Some(minute));
+    v.set_prev_week_min(Some(minute));
 }
 
 // The minute of this tick is remembered, and what has become due since the one before starts, unless the clock was set back.
@@ -118,7 +117,7 @@ fn fire_wall_at(env: &Env, lent: &mut Lent, w: WallTime)
     requires { Room 64 (carried_by lent.old) × WallInRange w }
     ensures { Over (Fires 64 (fire_wall_at (Some w) (env_of env.now))) lent.old lent.new }
 {
-    let prev = state::prev_week_min(lent.state);
+    let prev = lent.state.prev_week_min();
     let minute = week_minute(w);
     remember(lent.state, minute);
     let Some(before) = prev else { return };
@@ -136,7 +135,7 @@ fn without_clock(env: &Env, v: &mut State)
 {
     let missed = has_wall_triggers(env.image, v);
     count_missed(v, missed);
-    state::set_prev_week_min(v, None);
+    v.set_prev_week_min(None);
 }
 
 pub fn fire_wall_schedules(env: &Env, lent: &mut Lent)

@@ -10,7 +10,6 @@ use crate::rules::activate_if_enabled;
 use crate::{Env, Rule};
 use activate::Lent;
 use model::{EverySlot, TriggerKind};
-use state::slots::{due_slots, move_slots};
 
 fn fire_slot(env: &Env, lent: &mut Lent, slot: EverySlot)
     requires { Room 1 (carried_by lent.old) }
@@ -41,7 +40,7 @@ pub fn fire_every(env: &Env, lent: &mut Lent)
     ensures { Over (Fires 64 (fire_every (env_of env.now))) lent.old lent.new }
 {
     let time = world::now_ms(env.snapshot);
-    let due = due_slots(lent.state, time);
-    move_slots(lent.state, time);
+    let due = lent.state.due_slots(time);
+    lent.state.move_slots(time);
     fire_slots(env, lent, due.as_slice());
 }

@@ -12,7 +12,6 @@ use crate::rules::activate_if_enabled;
 use crate::{Env, Rule};
 use activate::Lent;
 use model::{NamedTimer, Trigger, TriggerKind};
-use state::timers::{due_timers, without_due};
 
 fn is_timer(trigger: Trigger, timer: u32) -> bool
     ensures { result ≡ fires_on timer trigger }
@@ -65,7 +64,7 @@ pub fn fire_timers(env: &Env, lent: &mut Lent)
     ensures { Over (Fires 1024 (fire_timers (env_of env.now))) lent.old lent.new }
 {
     let time = world::now_ms(env.snapshot);
-    let due = due_timers(lent.state, time);
-    without_due(lent.state, time);
+    let due = lent.state.due_timers(time);
+    lent.state.without_due_timers(time);
     fire_due_timers(env, lent, due.as_slice());
 }

@@ -10,7 +10,6 @@ use crate::minutes::Window;
 use image::layout::{Image, Table};
 use model::{SolarEvent, Trigger, TriggerKind};
 use state::State;
-use state::rules::is_enabled;
 
 // The kind of the first due trigger, and whether a sun was asked for that is not known.
 // kept: no Option or Result says both: a trigger can be due where one before it missed the sun. The specification's record has the same two fields.
@@ -111,7 +110,7 @@ fn is_wall_trigger(trigger: Trigger) -> bool
 fn enabled_wall(image: &Image, v: &State, i: u32) -> bool
     ensures { result ≡ enabled_wall image.now (meaning v.now).rest i }
 {
-    is_enabled(v, i as usize)
+    v.is_enabled(i as usize)
         && (0..image.trigger_count(i)).any(|k| is_wall_trigger(image.trigger_at(i, k)))
 }
 

@@ -6,10 +6,10 @@ use Rattle.exec.proofs.rules.set_rule_bit.Goals as goal
 
 pub returns : goal.returns
 returns c flat =
-    let d = does-nothing {v = c.set_enabled.new.v} in
+    let d = does-nothing {v = c.set_enabled.new.self} in
     rw (sym c.rule_named.ensures ∙ c.in-Some.is, c.if-env.false)
     (record {
-      state = subst (Means c.set_enabled.new.v (base c.args.v.now)) (bit-flipped c.args.on c.args.rule c.in-Some.i (meaning c.args.v.now)) c.set_enabled.ensures;
+      state = subst (Means c.set_enabled.new.self (base c.args.v.now)) (bit-flipped c.args.on c.args.rule c.in-Some.i (meaning c.args.v.now)) c.set_enabled.ensures;
       effect = d.effect;
       reason = d.reason;
     })

@@ -11,12 +11,12 @@ resume_all-requires c =
     let is = c.as_slice.ensures.value ∙ c.due_now-due.ensures.indices in
     record {
       records = (c.as_slice.ensures.fits, due-indices c.args.env.now.store.now c.args.lent.now.state.now _ _ is c.due_now-due.ensures.few, due-fit (fits_set c.args.env.now.image.now) _ _ _ (due-records c.args.env.now.store.now c.args.lent.now.state.now _ _ is c.requires.records.1) c.requires.records.0);
-      room = continuations-room c.args.env.now.snapshot.now c.args.env.now.image.now _ c.now_ms-time.ensures (carried_by c.args.lent.now) _ c.without_due.ensures 32 c.requires.v_value.1;
+      room = continuations-room c.args.env.now.snapshot.now c.args.env.now.image.now _ c.now_ms-time.ensures (carried_by c.args.lent.now) _ c.without_due_continuations.ensures 32 c.requires.v_value.1;
     }
 
 pub returns : goal.returns
 returns c =
     record {
-      does = continuations-fire c.args.env.now.snapshot.now c.args.env.now.image.now _ c.now_ms-time.ensures (carried_by c.args.lent.now) _ c.without_due.ensures _ (due-records c.args.env.now.store.now c.args.lent.now.state.now _ _ (c.as_slice.ensures.value ∙ c.due_now-due.ensures.indices) c.requires.records.1) c.resume_all.ensures.does;
+      does = continuations-fire c.args.env.now.snapshot.now c.args.env.now.image.now _ c.now_ms-time.ensures (carried_by c.args.lent.now) _ c.without_due_continuations.ensures _ (due-records c.args.env.now.store.now c.args.lent.now.state.now _ _ (c.as_slice.ensures.value ∙ c.due_now-due.ensures.indices) c.requires.records.1) c.resume_all.ensures.does;
       same = c.resume_all.ensures.same;
     }

@@ -15,15 +15,15 @@ pub returns : goal.returns
 returns c flat =
     let slot =
     sym (option_map_id _)
-    ∙ min_from_yields_List c.map.result _ c.min-slot.ensures.ran (YieldsList-from_map _ (λ (x : EverySlot). x.due) (YieldsList-from_first (λ x. x) (λ rest. rest) _ (c.map.ensures.source ∙ c.all.ensures)) c.map.ensures.closure (λ x r q k. search rules))
+    ∙ min_from_yields_List c.map.result _ c.min-slot.ensures.ran (YieldsList-from_map _ (λ (x : EverySlot). x.due) (YieldsList-from_first (λ x. x) (λ rest. rest) _ (c.map.ensures.source ∙ c.slots.ensures)) c.map.ensures.closure (λ x r q k. search rules))
     in
     let timer =
     sym (option_map_id _)
-    ∙ min_from_yields_List c.map-2.result _ c.min-timer.ensures.ran (YieldsList-from_map _ (λ (x : NamedTimer). x.due) (YieldsList-from_first (λ x. x) (λ rest. rest) _ (c.map-2.ensures.source ∙ c.all-2.ensures)) c.map-2.ensures.closure (λ x r q k. search rules))
+    ∙ min_from_yields_List c.map-2.result _ c.min-timer.ensures.ran (YieldsList-from_map _ (λ (x : NamedTimer). x.due) (YieldsList-from_first (λ x. x) (λ rest. rest) _ (c.map-2.ensures.source ∙ c.timers.ensures)) c.map-2.ensures.closure (λ x r q k. search rules))
     in
     let continuation =
     sym (option_map_id _)
     ∙ min_from_yields_List c.map-3.result _ c.min-record.ensures.ran (YieldsList-from_map _ (λ (x : Pending). x.due) (YieldsList-from_first (λ x. x) (λ rest. rest) _ c.map-3.ensures.source) c.map-3.ensures.closure (λ x r q k. search rules))
-    ∙ ap (reduce min) c.all-3.ensures
+    ∙ ap (reduce min) c.pending.ensures
     in
     c.earliest_of.ensures ∙ next-is _ c.args.image c.args.last _ _ _ _ c.wall_poll-poll.ensures slot timer continuation flat

@@ -8,12 +8,12 @@ pub fire_due_timers-requires : goal.fire_due_timers-requires
 fire_due_timers-requires c =
     record {
       few = c.as_slice.ensures.fits;
-      room = timers-room c.args.env.now.snapshot.now c.args.env.now.image.now _ c.now_ms-time.ensures (carried_by c.args.lent.now) _ c.without_due.ensures 1024 c.requires;
+      room = timers-room c.args.env.now.snapshot.now c.args.env.now.image.now _ c.now_ms-time.ensures (carried_by c.args.lent.now) _ c.without_due_timers.ensures 1024 c.requires;
     }
 
 pub returns : goal.returns
 returns c =
     record {
-      does = timers-fire c.args.env.now.snapshot.now c.args.env.now.image.now _ c.now_ms-time.ensures (carried_by c.args.lent.now) _ c.without_due.ensures _ (c.as_slice.ensures.value ∙ c.due_timers-due.ensures) c.fire_due_timers.ensures.does;
+      does = timers-fire c.args.env.now.snapshot.now c.args.env.now.image.now _ c.now_ms-time.ensures (carried_by c.args.lent.now) _ c.without_due_timers.ensures _ (c.as_slice.ensures.value ∙ c.due_timers-due.ensures) c.fire_due_timers.ensures.does;
       same = c.fire_due_timers.ensures.same;
     }

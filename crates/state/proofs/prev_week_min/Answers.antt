@@ -1,7 +1,0 @@
--- `state::prev_week_min` meets its contract. Assumes nothing.
-use Rattle.state.proofs.CounterWords.{week-at}
-use Rattle.state.proofs.prev_week_min.Goals as goal
-
-pub returns : goal.returns
-returns c =
-    rw (← c.v.view_is) (week-at _ c.v.invariant _ c.option_at.ensures)

@@ -1,8 +1,0 @@
--- `state::sequence::next_fits` meets its contract. Assumes nothing.
-use native.Mathlib.Omega.{arith}
-use Rattle.state.proofs.Assigning.{next_fits}
-use Rattle.state.proofs.sequence.next_fits.Goals as goal
-
-pub returns : goal.returns
-returns c =
-    rw (← c.v.view_is) (next_fits _ _ _ c.at.ensures c.at-next.ensures (omega arith))
