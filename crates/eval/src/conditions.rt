@@ -12,7 +12,7 @@ use image::record::condition_of;
 use model::Condition;
 
 // One arm for each kind.
-// kept: a closure or a table for each kind would hide what this match says, and the kinds are the image's
+// kept: each arm hands on the fields of its own variant, of other numbers and types, which functions of one type in a table could not take
 pub fn eval_condition(env: &Env, condition: Condition) -> Option<bool>
     ensures { Evaluates env.now condition result }
 {

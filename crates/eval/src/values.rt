@@ -19,7 +19,7 @@ fn number(w: Option<u32>) -> Option<i64>
 }
 
 // No event stands behind these calls.
-// kept: one match over the kinds, which closures would hide
+// kept: each arm hands on the fields of its own variant, of other numbers and types, which functions of one type in a table could not take
 #[tactic(auto, unfolding(model::specs::Eval::eval_reading))]
 pub fn eval_reading(snapshot: &[u32], v: &State, reading: Reading) -> Option<i64>
     ensures { ReadsIn snapshot.now (meaning v.now).rest reading result }

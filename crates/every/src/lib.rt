@@ -14,7 +14,7 @@ ghost use Rattle.every.specs.Joined.{HasRoom, Joined};
 
 pub mod kept;
 
-use image::layout::{Image, Table};
+use image::layout::Image;
 use kept::{Key, Slots, due_of, same};
 use model::{EverySlot, Trigger};
 use state::State;
@@ -79,9 +79,8 @@ impl Loadable<'_> {
         ensures { Holds 64 slot_row t.new (rebuild_every self.now.image.now old.now time) }
     {
         let order = self.image.name_order();
-        for p in 0..self.image.size_of(Table::Rules) {
-            let i = order[p as usize];
-            self.join_rule(i, old, time, t);
+        for i in order.as_slice() {
+            self.join_rule(*i, old, time, t);
         }
     }
 }

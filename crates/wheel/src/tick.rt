@@ -10,7 +10,7 @@ use crate::schedules::fire_wall_schedules;
 use crate::slots::fire_every;
 use crate::timers::fire_timers;
 use activate::Lent;
-use image::layout::{Image, Table};
+use image::layout::Image;
 
 // `store` has the flat steps of the image, and the pending records as they stand before the tick; nothing else of it is read. The rules are put in the order of their names once.
 pub fn service_tick(snapshot: &[u32], image: &Image, store: &[u32], lent: &mut Lent)
@@ -18,12 +18,12 @@ pub fn service_tick(snapshot: &[u32], image: &Image, store: &[u32], lent: &mut L
     requires nothing { lent.old.handled ≡ record { outcomes = 0; effects = 0 } }
     ensures { Over (Fires 1184 (service_tick (tick_env snapshot.now image.now))) lent.old lent.new }
 {
-    let all = image.name_order();
+    let order = image.name_order();
     let env = Env {
         snapshot,
         image,
         store,
-        order: &all[..image.size_of(Table::Rules) as usize],
+        order: order.as_slice(),
     };
     fire_continuations(&env, lent);
     fire_timers(&env, lent);

@@ -6,5 +6,5 @@ use Rattle.model.specs.Slots.{rebuild_every}
 use Rattle.every.proofs.Slots.{rule_slots, Partial}
 use Rattle.every.proofs.Loadable.join_all.Given as goal
 
-abbrev pub invariant-loop-p : goal.invariant-loop-p
-invariant-loop-p l = Partial l.t (flatten (map (rule_slots l.self.image.now l.old l.time) (drop l.p (name_order l.self.image.now)))) (rebuild_every l.self.image.now l.old l.time)
+abbrev pub invariant-loop-i : goal.invariant-loop-i
+invariant-loop-i l = Partial l.t (flatten (map (rule_slots l.self.image.now l.old l.time) (drop l.i-index (name_order l.self.image.now)))) (rebuild_every l.self.image.now l.old l.time)

@@ -1,7 +1,5 @@
 -- `wheel::tick::service_tick` meets its contract. Assumes nothing.
-use mathlib.Core.Path.{ap, ◌∙◌}
-use Prim.Native.Nat.{ℕ}
-use lib.ListN.{take}
+use mathlib.Core.Path.{◌∙◌}
 use Rattle.wheel.specs.Tick.{tick_env}
 use Rattle.wheel.proofs.Ticks.{whole-tick}
 use Rattle.wheel.proofs.tick.service_tick.Goals as goal
@@ -10,7 +8,7 @@ pub invariant_of-env : goal.invariant_of-env
 invariant_of-env c =
     record {
       holds = c.requires.ready.holds;
-      ordered = ap (λ (n : ℕ). take n c.name_order-all.result) c.size_of.ensures ∙ c.name_order-all.ensures;
+      ordered = c.as_slice.ensures.value ∙ c.name_order-order.ensures;
     }
 
 pub returns : goal.returns
