@@ -113,7 +113,8 @@ fn service(store: &Checked, snapshot: &[u32], lent: &mut Lent)
     }
 }
 
-// What comes in is done.
+// What comes in is done. Inlined, as `handle` is: the stack of a run is then what a rule takes, and not what a tick does.
+#[inline(always)]
 fn dispatch(input: EngineInput, store: &Checked, snapshot: &[u32], lent: &mut Lent)
     requires ready { (snapshot_refusal snapshot.now ≡ 0) × AllNumbered lent.old.state.now store.now.vol }
     requires nothing { lent.old.handled ≡ record { outcomes = 0; effects = 0 } }
@@ -126,6 +127,7 @@ fn dispatch(input: EngineInput, store: &Checked, snapshot: &[u32], lent: &mut Le
 }
 
 // In the world of a snapshot. Outcomes and effects go into the lent stores.
+#[inline(always)]
 pub fn handle(
     store: &mut [u32],
     input: EngineInput,
