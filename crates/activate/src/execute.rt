@@ -88,11 +88,7 @@ pub fn execute(env: &Env, rule: &FlatRule, lent: &mut Lent)
         return run_dry(env, rule, lent);
     }
     let job = start(env.snapshot, lent.state, env.job);
-    let begun = Env {
-        snapshot: env.snapshot,
-        image: env.image,
-        job,
-    };
+    let begun = Env { job, ..*env };
     let most = env.image.budget();
     run_wet(&begun, rule, lent, START, most);
 }
