@@ -1,6 +1,4 @@
 // Readings and values.
-ghost use Rattle.std.specs.Prelude.{◌≡◌};
-ghost use Rattle.model.specs.Eval.{number};
 ghost use Rattle.state.specs.Meaning.{meaning};
 ghost use Rattle.eval.specs.Equals.{ReadsIn, ValueIn, ValueAt};
 
@@ -11,13 +9,6 @@ use image::record::value_of;
 use model::{Reading, Value, VarValue};
 use state::State;
 
-// A word that may be missing, as a number.
-fn number(w: Option<u32>) -> Option<i64>
-    ensures { result ≡ number w }
-{
-    Some(i64::from(w?))
-}
-
 // No event stands behind these calls.
 // kept: each arm hands on the fields of its own variant, of other numbers and types, which functions of one type in a table could not take
 #[tactic(auto, unfolding(model::specs::Eval::eval_reading))]
@@ -25,20 +16,20 @@ pub fn eval_reading(snapshot: &[u32], v: &State, reading: Reading) -> Option<i64
     ensures { ReadsIn snapshot.now (meaning v.now).rest reading result }
 {
     match reading {
-        Reading::LampLevel(a, i) => number(world::lamp(snapshot, a, i)?.level),
-        Reading::LampCct(a, i) => number(world::lamp(snapshot, a, i)?.cct_kelvin),
+        Reading::LampLevel(a, i) => world::lamp(snapshot, a, i)?.level.map(i64::from),
+        Reading::LampCct(a, i) => world::lamp(snapshot, a, i)?.cct_kelvin.map(i64::from),
         Reading::LampIsOn(a, i) => Some(i64::from(world::lamp(snapshot, a, i)?.is_on)),
-        Reading::LampLastLevel(a, i) => number(world::lamp(snapshot, a, i)?.last_level),
+        Reading::LampLastLevel(a, i) => world::lamp(snapshot, a, i)?.last_level.map(i64::from),
         Reading::GroupAnyOn(a, i) => Some(i64::from(world::group(snapshot, a, i)?.any_on)),
         Reading::GroupAllOff(a, i) => Some(i64::from(world::group(snapshot, a, i)?.all_off)),
         Reading::GroupMemberCount(a, i) => {
             Some(i64::from(world::group(snapshot, a, i)?.member_count))
         }
-        Reading::InputOccupied(a, i, k) => number(world::input(snapshot, a, i, k)?.occupied),
-        Reading::InputLight(a, i, k) => number(world::input(snapshot, a, i, k)?.light),
-        Reading::InputPosition(a, i, k) => number(world::input(snapshot, a, i, k)?.position),
+        Reading::InputOccupied(a, i, k) => world::input(snapshot, a, i, k)?.occupied.map(i64::from),
+        Reading::InputLight(a, i, k) => world::input(snapshot, a, i, k)?.light.map(i64::from),
+        Reading::InputPosition(a, i, k) => world::input(snapshot, a, i, k)?.position.map(i64::from),
         Reading::InputLastEventAge(a, i, k) => {
-            number(world::input(snapshot, a, i, k)?.last_event_age_ms)
+            world::input(snapshot, a, i, k)?.last_event_age_ms.map(i64::from)
         }
         Reading::TimeNow => Some(i64::from(world::wall(snapshot)?.minutes_of_day)),
         Reading::TimeHour => Some(i64::from(world::wall(snapshot)?.minutes_of_day / 60)),
