@@ -40,7 +40,7 @@ fn start(snapshot: &[u32], v: &mut State, job: Job) -> Job
 {
     let time = world::now_ms(snapshot);
     v.bump(Counter::ActivationsTotal, 1);
-    v.set_last_activation(job.index as usize, time);
+    v.set_last_activation(job.index as usize, Some(time));
     let number = v.take_number();
     Job { number, ..job }
 }

@@ -15,6 +15,7 @@ use eval::conditions::condition_at;
 use flat::Placed;
 use model::{Point, Step};
 use state::State;
+use state::pending::Continuation;
 use state::reasons::Reason;
 
 // What an action did, and the run goes on.
@@ -58,7 +59,15 @@ fn schedule(env: &Env, v: &mut State, left: u32, ms: u32, to: Point) -> Option<R
 {
     let time = world::now_ms(env.snapshot);
     let job = env.job;
-    v.schedule_continuation(time, job.rule, job.trigger, job.number, left, ms, to)
+    let next = Continuation {
+        rule: job.rule,
+        trigger: job.trigger,
+        number: job.number,
+        budget: left,
+        ms,
+        point: to,
+    };
+    v.schedule_continuation(time, next)
 }
 
 // What follows a wait is scheduled, and the run ends: also where the continuation is dropped.

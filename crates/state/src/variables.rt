@@ -15,17 +15,6 @@ use rows::VARIABLE_WORDS;
 use rows::row::Row;
 use rows::tables::Rows;
 
-// The variables.
-fn all(v: &State) -> Rows<'_, Variable>
-    ensures { result ≡ (meaning v.now).rest.vars }
-{
-    Rows::new(
-        &v.words,
-        place::VARIABLES + 1,
-        v.words[place::VARIABLES] as usize,
-    )
-}
-
 // The place of the variable of a name.
 fn place_of(t: &[u32], name: u32) -> Option<usize>
     requires { Counted 16 variable_row t.now }
@@ -52,11 +41,22 @@ fn assign(t: &mut [u32], x: Variable) -> bool
 }
 
 impl State {
+    // The variables.
+    fn variables(&self) -> Rows<'_, Variable>
+        ensures { result ≡ (meaning self.now).rest.vars }
+    {
+        Rows::new(
+            &self.words,
+            place::VARIABLES + 1,
+            self.words[place::VARIABLES] as usize,
+        )
+    }
+
     // What the variable of the name holds.
     pub fn variable(&self, name: u32) -> Option<VarValue>
         ensures { result ≡ var_named (meaning self.now).rest name }
     {
-        let x = all(self).find(|x| x.name == name)?;
+        let x = self.variables().find(|x| x.name == name)?;
         Some(x.value)
     }
 

@@ -1,4 +1,4 @@
--- `every::Loadable::join_all` meets its contract: the slots so far, and those of the rules that are left. Assumes nothing.
+-- `every::Rebuild::join_all` meets its contract: the slots so far, and those of the rules that are left. Assumes nothing.
 use mathlib.Core.Path.{◌≡◌, ap, ◌∙◌}
 use lib.ListN.{length}
 use Prim.Native.Nat.{ℕ, ◌<◌, ◌≤◌}
@@ -9,7 +9,7 @@ use Rattle.model.specs.Slots.{rebuild_every}
 use Rattle.image.proofs.Accepted.{rules-few}
 use Rattle.image.proofs.Slots.{every-slots-few}
 use Rattle.every.proofs.Slots.{starts, room, joins-on, joined-all, rule-left, no-rule-left}
-use Rattle.every.proofs.Loadable.join_all.Goals as goal
+use Rattle.every.proofs.Rebuild.join_all.Goals as goal
 
 pub name_order-order-requires : goal.name_order-order-requires
 name_order-order-requires c = rules-few _ c.args.self.now.few

@@ -1,7 +1,7 @@
--- `state::State::put_last_activation` meets its contract. Assumes nothing.
+-- `state::State::set_last_activation` meets its contract. Assumes nothing.
 use Rattle.state.proofs.KeptForRules.{activation-laid}
 use Rattle.state.proofs.Follows.{means}
-use Rattle.state.proofs.State.put_last_activation.Goals as goal
+use Rattle.state.proofs.State.set_last_activation.Goals as goal
 
 pub returns : goal.returns
 returns c = rw (← c.self.view_is) (means (activation-laid _ c.self.invariant _ _ c.args.x c.put_kept.ensures.words c.put_kept.ensures.laid))

@@ -1,4 +1,4 @@
--- `state::rules::kept` meets its contract. Assumes nothing.
+-- `state::State::kept` meets its contract. Assumes nothing.
 use native.Mathlib.Omega.{arith}
 use mathlib.Core.Path.{refl, ap, ◌∙◌}
 use Prim.Native.Nat.{ℕ, ◌+◌, ◌*◌}
@@ -8,7 +8,7 @@ use Rattle.rows.specs.Places.{row_at}
 use Rattle.state.specs.Meaning.{rules_of}
 use Rattle.state.specs.Named.{kept_for}
 use Rattle.state.proofs.KeptForRules.{kept-within}
-use Rattle.state.proofs.rules.kept.Goals as goal
+use Rattle.state.proofs.State.kept.Goals as goal
 
 pub overflow_mul-i : goal.overflow_mul-i
 overflow_mul-i g c =
@@ -31,13 +31,13 @@ option_at-requires g c =
 pub returns-then-i-rule_count : goal.returns-then-i-rule_count
 unfolding kept_for
 returns-then-i-rule_count g c =
-    let v = c.v.inside.words in
-    rw (← c.v.view_is) (
+    let v = c.self.inside.words in
+    rw (← c.self.view_is) (
       rw (lt-ltb c.args.i (rules_of v) (omega (arith, c.rule_count.ensures.0, c.if-i-rule_count.true)))
           (c.option_at.ensures ∙ ap (λ (n : ℕ). row_at (maybe g.T.Row.codec) v (c.args.part + c.args.i * (1 + n))) c.WORDS.ensures),
-      c.v.invariant,
+      c.self.invariant,
     )
 
 pub returns : goal.returns
 unfolding kept_for
-returns g c = rw (← c.v.view_is) (rw (le-ltb c.args.i (rules_of c.v.inside.words) (omega (arith, c.rule_count.ensures.0, c.if-i-rule_count.false))) refl, c.v.invariant)
+returns g c = rw (← c.self.view_is) (rw (le-ltb c.args.i (rules_of c.self.inside.words) (omega (arith, c.rule_count.ensures.0, c.if-i-rule_count.false))) refl, c.self.invariant)
