@@ -68,20 +68,20 @@ module _ (snapshot image part : List ℕ) (own i kind : ℕ) (mode : Mode) (v : 
   abbrev rest : Rest
   rest = (meaning v).rest
 
-  abbrev pub job_with : ℕ → Bool → Job
-  job_with name dry = record { rule = name; index = i; hold = hold_hcl_of image i; trigger = kind; dry = dry; number = 0 }
+  abbrev pub job_with : Bool → Job
+  job_with dry = record { rule = name_of image i; index = i; hold = hold_hcl_of image i; trigger = kind; dry = dry; number = 0 }
 
   abbrev job : Job
-  job = job_with (name_of image i) (is_dry mode)
+  job = job_with (is_dry mode)
 
   activated : (a d : Decision) → Decides snapshot image i mode rest a → a ≡ d → (flat : List (List FlatStep))
       → model.decided (decision_of d (is_dry mode) rest) (env_of snapshot image flat) (job_of job) (meaning v) ≡ model.activate (env_of snapshot image flat) i kind (mode_of mode) (meaning v)
   unfolding model.activate model.job_of
   activated a d h e flat = rw (h flat, e)
 
-  module _ (j : Job) (name : ℕ) (dry : Bool) (e : j ≡ job_with name dry) (n : name ≡ name_of image i) (w : dry ≡ is_dry mode) (a : Decision) (d : Decides snapshot image i mode rest a) where
+  module _ (j : Job) (dry : Bool) (e : j ≡ job_with dry) (w : dry ≡ is_dry mode) (a : Decision) (d : Decides snapshot image i mode rest a) where
     is-job : j ≡ job
-    is-job = e ∙ ap (λ (k : ℕ). job_with k dry) n ∙ ap (job_with (name_of image i)) w
+    is-job = e ∙ ap job_with w
 
     pub begins : (r : Carried) (ow' ew' : List ℕ) → a ≡ Begins → Executes snapshot image part own j (carried v x) ow ew r ow' ew' → Activates snapshot image part own i kind mode (carried v x) ow ew r ow' ew'
     begins r ow' ew' t h =

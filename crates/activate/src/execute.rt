@@ -40,7 +40,7 @@ fn start(snapshot: &[u32], v: &mut State, job: Job) -> Job
 {
     let time = world::now_ms(snapshot);
     v.bump(Counter::ActivationsTotal, 1);
-    v.set_last_activation(job.index as usize, time);
+    v.set_last_activation(job.index as usize, Some(time));
     let number = v.take_number();
     Job { number, ..job }
 }
@@ -88,11 +88,7 @@ pub fn execute(env: &Env, rule: &FlatRule, lent: &mut Lent)
         return run_dry(env, rule, lent);
     }
     let job = start(env.snapshot, lent.state, env.job);
-    let begun = Env {
-        snapshot: env.snapshot,
-        image: env.image,
-        job,
-    };
+    let begun = Env { job, ..*env };
     let most = env.image.budget();
     run_wet(&begun, rule, lent, START, most);
 }

@@ -9,7 +9,7 @@ mod outcomes;
 ghost use Rattle.std.specs.Prelude.{◌≡◌, ◌≤◌, ◌<◌};
 ghost use Rattle.std.specs.Prelude.{Some};
 ghost use Rattle.model.specs.Kinds.{trigger_number};
-ghost use Rattle.model.specs.Rules.{rule_named, hold_hcl_of};
+ghost use Rattle.model.specs.Rules.{name_of, rule_named, hold_hcl_of};
 ghost use Rattle.image.specs.Accepted.{Accepted};
 ghost use Rattle.activate.specs.Carried.{carried_by, Over};
 ghost use Rattle.activate.specs.Decisions.{is_auto, is_dry};
@@ -64,14 +64,14 @@ impl Mode {
 // The words of an outcome in a lent store.
 pub const OUTCOME_WORDS: usize = 8;
 
-// Rule `name`, at place i of the image, under an activation number.
+// Rule i of the image, under an activation number.
 // kept: the trigger is a number: `resume` has the one of its `Pending`, the record that the specification shares, and a `TriggerKind` made of it would be a number
-// again in the outcome. The five parameters beside the image are the fields of the `Job`, but for the one that is read here.
-fn job_of(image: &Image, name: u32, i: u32, trigger: u32, dry: bool, number: u64) -> Job
-    ensures { result ≡ record { rule = name; index = i; hold = hold_hcl_of image.now i; trigger = trigger; dry = dry; number = number } }
+// again in the outcome. The four parameters beside the image are the fields of the `Job`, but for the two that are read here.
+fn job_of(image: &Image, i: u32, trigger: u32, dry: bool, number: u64) -> Job
+    ensures { result ≡ record { rule = name_of image.now i; index = i; hold = hold_hcl_of image.now i; trigger = trigger; dry = dry; number = number } }
 {
     Job {
-        rule: name,
+        rule: image.name_of(i),
         index: i,
         hold: image.hold_hcl_of(i),
         trigger,
@@ -95,7 +95,7 @@ pub fn activate(
     ensures { Over (Activates snapshot.now image.now rule.now.part.now rule.now.own i (trigger_number kind) mode) lent.old lent.new }
 {
     let dry = mode.is_dry();
-    let job = job_of(image, image.name_of(i), i, u32::from(kind), dry, 0);
+    let job = job_of(image, i, u32::from(kind), dry, 0);
     let env = Env {
         snapshot,
         image,
@@ -120,7 +120,7 @@ pub fn resume(snapshot: &[u32], image: &Image, rule: &FlatRule, lent: &mut Lent,
     requires budget_bound { (c.budget ≤ 256) × Room 1 (carried_by lent.old) }
     ensures { Over (Resumes snapshot.now image.now rule.now.part.now rule.now.own i c) lent.old lent.new }
 {
-    let job = job_of(image, c.rule, i, c.trigger, false, c.number);
+    let job = job_of(image, i, c.trigger, false, c.number);
     let env = Env {
         snapshot,
         image,

@@ -7,9 +7,11 @@ ghost use Rattle.activate.specs.Outcomes.{Puts, Pushes};
 
 use crate::{Handled, OUTCOME_WORDS};
 use exec::Job;
-use state::reasons::{Reason, reason_word};
+use state::reasons::Reason;
 
 // Outcome n, of a job, with `count` effects from effect `first` on.
+// kept: no `rows::row::Row` of an outcome: its codec would be one more definition of the eight words, beside `outcome_words` of the specification, and the record that
+// it is of would be made here alone and read nowhere. No `get_mut` of the eight either: the library promises nothing of what a slice ends as after it.
 fn put_outcome(lent: &mut [u32], n: u32, job: Job, reason: Option<Reason>, first: u32, count: u32)
     ensures { Puts lent.old n job (reason_number reason) first count lent.new }
 {
@@ -19,7 +21,7 @@ fn put_outcome(lent: &mut [u32], n: u32, job: Job, reason: Option<Reason>, first
             job.rule,
             u32::from(job.dry),
             job.trigger,
-            reason_word(reason),
+            reason.map_or(0, u32::from),
             first,
             count,
             words::low_word(job.number),

@@ -82,7 +82,7 @@ impl Answer for NextStart {
         match self {
             NextStart::NoStart => put_values(answer, &[0, 0, 0]),
             NextStart::ClockUnknown => put_values(answer, &[2, 0, 0]),
-            NextStart::Start(minutes, rule) => put_values(answer, &[1, minutes, rule]),
+            NextStart::Start(start) => put_values(answer, &[1, start.minutes, start.name]),
         }
     }
 }

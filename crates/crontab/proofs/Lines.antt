@@ -238,19 +238,6 @@ module _ (l : List ℕ) where
   unfolding every_date
   month-decides {p} e n q = rw (← e, not-false p n) q
 
-  module _ (sunday : ℕ) {formed free : Bool} (e : formed ≡ of_the_form l sunday) (f : free ≡ every_date l) where
-    pub form-bad : not formed ≡ true → 50 ≡ form_refusal l sunday
-    unfolding form_refusal
-    form-bad n = rw (← e, not-true formed n)
-
-    pub date-bad : not formed ≡ false → not free ≡ true → 51 ≡ form_refusal l sunday
-    unfolding form_refusal
-    date-bad n m = rw (← e, ← f, not-false formed n, not-true free m)
-
-    pub form-good : not formed ≡ false → not free ≡ false → 0 ≡ form_refusal l sunday
-    unfolding form_refusal
-    form-good n m = rw (← e, ← f, not-false formed n, not-false free m)
-
 -- THE ANSWER
 pub sunday-low : (l : List ℕ) (sunday : ℕ) → 0 ≡ form_refusal l sunday → sunday ≤ 6
 unfolding form_refusal of_the_form

@@ -38,15 +38,14 @@ fn every_date(line: &[u8]) -> bool
 }
 
 // Refusals 50 and 51.
+#[tactic(auto, unfolding(crate::specs::Scanned::form_refusal))]
 fn check_form(line: &[u8], sunday: u32) -> Result<(), Refusal>
     ensures { refusal_number result ≡ form_refusal line.now sunday }
 {
-    let formed = of_the_form(line, sunday);
-    let free = every_date(line);
-    if !formed {
+    if !of_the_form(line, sunday) {
         return Err(Refusal::LineForm);
     }
-    if !free {
+    if !every_date(line) {
         return Err(Refusal::DayOrMonth);
     }
     Ok(())

@@ -5,6 +5,8 @@ ghost use Rattle.model.specs.Crontab.{range_of, element_of, holds, is_asterisk, 
 use crate::scan;
 
 // The lowest and the highest number of a field.
+// kept: no `RangeInclusive`, as it would be no plainer: it says also whether a loop has used it up, which each of the five contracts here would have to
+// exclude, it is not `Copy`, and the specification's element is a pair.
 #[derive(Clone, Copy)]
 pub struct Bounds {
     pub lowest: u32,
@@ -37,7 +39,7 @@ fn element(bounds: Bounds, s: &[u8]) -> Option<(u32, u32)>
 fn holds(range: Option<(u32, u32)>, v: u32) -> bool
     ensures { result ≡ holds v range }
 {
-    range.is_some_and(|(first, last)| first <= v && v <= last)
+    range.is_some_and(|(first, last)| (first..=last).contains(&v))
 }
 
 pub fn is_asterisk(s: &[u8]) -> bool

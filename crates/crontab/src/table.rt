@@ -7,6 +7,9 @@ ghost use Rattle.crontab.specs.Scanned.{Marked, marked, marked_minutes, written}
 
 use crate::parts::Field;
 
+// The kind of an AtTime trigger, as an image numbers them.
+const AT_TIME: u32 = 2;
+
 // Which of the first N numbers a field of a line covers.
 pub fn marks<const N: usize>(line: &[u8], field: Field) -> [bool; N]
     requires { N ≤ 60 }
@@ -56,7 +59,7 @@ fn put(store: &mut [u32], n: usize, t: u32, ds: u32)
     ensures { store.new ≡ sets store.old (8 * n) (2 ∷ t / 60 ∷ t % 60 ∷ ds ∷ []) }
 {
     let at = 8 * n;
-    store[at..at + 4].copy_from_slice(&[2, t / 60, t % 60, ds]);
+    store[at..at + 4].copy_from_slice(&[AT_TIME, t / 60, t % 60, ds]);
 }
 
 // The triggers of the marked minutes, one behind the other.

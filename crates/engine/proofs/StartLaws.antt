@@ -24,9 +24,10 @@ use Rattle.store.specs.Volatile.{changing_in}
 use Rattle.store.proofs.Parts.{bits_at}
 use Rattle.store.proofs.Stored.{from-read, volatile-read}
 use Rattle.model.specs.declared.WallTime.{WallTime}
-use Rattle.next.specs.NextStart.{next_from, next_of_set, next_start, start_values}
+use Rattle.next.specs.NextStart.{clock_known, next_from, next_of_set, next_start, start_values}
+use Rattle.next.specs.declared.FirstStart.{FirstStart}
 use Rattle.next.specs.declared.NextStart.{NextStart}
-use Rattle.next.specs.declared.NextStart.TheVariants.{NoStart, ClockUnknown}
+use Rattle.next.specs.declared.NextStart.TheVariants.{ClockUnknown}
 use Rattle.engine.specs.Asked.{start_asked, lowest_of, next_start_on}
 use Rattle.std.proofs.lemmas.Option.{none-some, same_Some}
 use Rattle.engine.proofs.LoadedLaws.{none-given}
@@ -59,11 +60,11 @@ module _ (w : List ℕ) (s : Store) (e : read w ≡ Some s) where
 
 -- THE SET ---------------------------------------------------------------------------------------------------------------------------------
 module _ (s : Store) (sun : Option SunTimes) (t : ℕ) where
-  pub nothing-starts : None ≡ option_map (λ (set : RuleSet). set.image) s.loaded → NoStart ≡ next_of_set s.loaded s.vol.rest.enabled sun t
+  pub nothing-starts : None ≡ option_map (λ (set : RuleSet). set.image) s.loaded → None ≡ next_of_set s.loaded s.vol.rest.enabled sun t
   unfolding next_of_set
   nothing-starts p = sym (ap (λ (o : Option RuleSet). next_of_set o s.vol.rest.enabled sun t) (none-given s.loaded p))
 
-  pub starts_from : (img : List ℕ) (enabled : List Bool) (r : NextStart) → Some img ≡ option_map (λ (set : RuleSet). set.image) s.loaded → enabled ≡ s.vol.rest.enabled
+  pub starts_from : (img : List ℕ) (enabled : List Bool) (r : Option FirstStart) → Some img ≡ option_map (λ (set : RuleSet). set.image) s.loaded → enabled ≡ s.vol.rest.enabled
       → r ≡ next_from img enabled sun t → r ≡ next_of_set s.loaded s.vol.rest.enabled sun t
   unfolding next_of_set
   starts_from img enabled r h b q = q ∙ ap (λ (x : List Bool). next_from img x sun t) b ∙ go s.loaded h
@@ -78,10 +79,10 @@ module _ (s : Store) (w : World) (clock : Option WallTime) (is : clock ≡ w.wal
   unfolding next_start
   unknown-clock e = rw (← is, e)
 
-  pub known-clock : (time : WallTime) (sun : Option SunTimes) (t : ℕ) (r : NextStart) → clock ≡ Some time → sun ≡ w.sun → t ≡ week_minute time
-      → r ≡ next_of_set s.loaded s.vol.rest.enabled sun t → r ≡ next_start s w
+  pub known-clock : (time : WallTime) (sun : Option SunTimes) (t : ℕ) {o r : Option FirstStart} → clock ≡ Some time → sun ≡ w.sun → t ≡ week_minute time
+      → o ≡ next_of_set s.loaded s.vol.rest.enabled sun t → o ≡ r → clock_known r ≡ next_start s w
   unfolding next_start
-  known-clock time sun t r e q f says = rw (← is, e, ← q, ← f) says
+  known-clock time sun t e q f says r = rw (← is, e, ← q, ← f, ← r, says)
 
 -- THE ANSWER ------------------------------------------------------------------------------------------------------------------------------
 pub start-shown : (snap w : List ℕ) (s : Store) (r : NextStart) → read w ≡ Some s → snapshot_refusal snap ≡ 0 → r ≡ next_start s (world_of snap)

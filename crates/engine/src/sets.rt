@@ -45,8 +45,8 @@ fn put_rule(store: &Checked, image: &Image, i: u32, v: &mut State)
     let (activation, position) = kept_of(store, image.name_of(i));
     let on = image.enabled_of(i);
     v.put_bit(i as usize, on);
-    v.put_last_activation(i as usize, activation);
-    v.put_cycle_pos(i as usize, position);
+    v.set_last_activation(i as usize, activation);
+    v.set_cycle_pos(i as usize, position);
 }
 
 // The rules of a set.

@@ -4,7 +4,7 @@ ghost use Rattle.model.specs.Snapshot.{snapshot_refusal};
 ghost use Rattle.model.specs.World.{is_one, world_of};
 ghost use Rattle.next.specs.NextStart.{next_of_set, next_start};
 
-use next::NextStart;
+use next::{FirstStart, NextStart};
 use store::checked::Checked;
 use store::table;
 use wheel::minutes::week_minute;
@@ -18,14 +18,11 @@ fn bits_in<'a>(store: &Checked<'a>) -> &'a [u32]
 }
 
 // From minute t of the week on: without a set nothing starts.
-fn next_from(store: &Checked, sun: Option<model::SunTimes>, t: u32) -> NextStart
+fn next_from(store: &Checked, sun: Option<model::SunTimes>, t: u32) -> Option<FirstStart>
     requires { t < 10080 }
     ensures { result ≡ next_of_set store.now.loaded store.now.vol.rest.enabled sun t }
 {
-    match store.image() {
-        Some(image) => next::next_from(&image, bits_in(store), sun, t),
-        None => NextStart::NoStart,
-    }
+    next::next_from(&store.image()?, bits_in(store), sun, t)
 }
 
 // In the world of a snapshot that is accepted.
@@ -33,8 +30,11 @@ pub fn next_start(store: &Checked, snapshot: &[u32]) -> NextStart
     requires { snapshot_refusal snapshot.now ≡ 0 }
     ensures { result ≡ next_start store.now (world_of snapshot.now) }
 {
-    match world::wall(snapshot) {
-        Some(w) => next_from(store, world::sun(snapshot), week_minute(w)),
-        None => NextStart::ClockUnknown,
+    let Some(w) = world::wall(snapshot) else {
+        return NextStart::ClockUnknown;
+    };
+    match next_from(store, world::sun(snapshot), week_minute(w)) {
+        Some(start) => NextStart::Start(start),
+        None => NextStart::NoStart,
     }
 }

@@ -1,5 +1,6 @@
 // The wall clock and the sun: time bounds, ranges of minutes and sets of weekdays.
-ghost use Rattle.std.specs.Prelude.{◌≡◌};
+ghost use Rattle.std.specs.Prelude.{◌≡◌, ◌+◌, ◌*◌, ◌≤◌};
+ghost use Rattle.words.specs.Saturating.{max32};
 ghost use Rattle.model.specs.Arith.{has_day};
 ghost use Rattle.model.specs.Eval.{solar_of, minute_in_range};
 ghost use Rattle.eval.specs.Equals.{SunIsUp, Resolves, BoundAt};
@@ -38,6 +39,14 @@ pub fn minute_in_range(t: u64, start: u64, end: u64) -> bool
     }
 }
 
+// The minute of the day that an hour and a minute are, whatever their words.
+pub fn minute_of_day(hour: u32, minute: u32) -> u64
+    ensures minute { result ≡ hour * 60 + minute }
+    ensures within { result ≤ 61 * max32 }
+{
+    u64::from(hour) * 60 + u64::from(minute)
+}
+
 // The minute of sunrise or sunset, with an offset in milliseconds.
 #[tactic(auto, unfolding(model::specs::Eval::solar_of))]
 pub fn solar_minute(sun: SunTimes, event: SolarEvent, offset_ms: u32) -> u32
@@ -55,7 +64,7 @@ pub fn resolve_time_bound(snapshot: &[u32], bound: TimeBound) -> Option<u64>
     ensures { Resolves snapshot.now bound result }
 {
     match bound {
-        TimeBound::Clock { hour, minute } => Some(u64::from(hour) * 60 + u64::from(minute)),
+        TimeBound::Clock { hour, minute } => Some(minute_of_day(hour, minute)),
         TimeBound::Solar { event, offset_ms } => {
             let sun = world::sun(snapshot)?;
             Some(u64::from(solar_minute(sun, event, offset_ms)))

@@ -1,6 +1,4 @@
 // Readings and values.
-ghost use Rattle.std.specs.Prelude.{◌≡◌};
-ghost use Rattle.model.specs.Eval.{number};
 ghost use Rattle.state.specs.Meaning.{meaning};
 ghost use Rattle.eval.specs.Equals.{ReadsIn, ValueIn, ValueAt};
 
@@ -9,36 +7,31 @@ use crate::time::sun_is_up;
 use image::layout::Table;
 use image::record::value_of;
 use model::{Reading, Value, VarValue};
-use state::State;
-
-// A word that may be missing, as a number.
-fn number(w: Option<u32>) -> Option<i64>
-    ensures { result ≡ number w }
-{
-    Some(i64::from(w?))
-}
 
 // No event stands behind these calls.
 // kept: each arm hands on the fields of its own variant, of other numbers and types, which functions of one type in a table could not take
 #[tactic(auto, unfolding(model::specs::Eval::eval_reading))]
-pub fn eval_reading(snapshot: &[u32], v: &State, reading: Reading) -> Option<i64>
-    ensures { ReadsIn snapshot.now (meaning v.now).rest reading result }
+pub(crate) fn eval_reading(env: &Env, reading: Reading) -> Option<i64>
+    ensures { ReadsIn env.now.snapshot.now (meaning env.now.state.now).rest reading result }
 {
+    let snapshot = env.snapshot;
     match reading {
-        Reading::LampLevel(a, i) => number(world::lamp(snapshot, a, i)?.level),
-        Reading::LampCct(a, i) => number(world::lamp(snapshot, a, i)?.cct_kelvin),
+        Reading::LampLevel(a, i) => world::lamp(snapshot, a, i)?.level.map(i64::from),
+        Reading::LampCct(a, i) => world::lamp(snapshot, a, i)?.cct_kelvin.map(i64::from),
         Reading::LampIsOn(a, i) => Some(i64::from(world::lamp(snapshot, a, i)?.is_on)),
-        Reading::LampLastLevel(a, i) => number(world::lamp(snapshot, a, i)?.last_level),
+        Reading::LampLastLevel(a, i) => world::lamp(snapshot, a, i)?.last_level.map(i64::from),
         Reading::GroupAnyOn(a, i) => Some(i64::from(world::group(snapshot, a, i)?.any_on)),
         Reading::GroupAllOff(a, i) => Some(i64::from(world::group(snapshot, a, i)?.all_off)),
         Reading::GroupMemberCount(a, i) => {
             Some(i64::from(world::group(snapshot, a, i)?.member_count))
         }
-        Reading::InputOccupied(a, i, k) => number(world::input(snapshot, a, i, k)?.occupied),
-        Reading::InputLight(a, i, k) => number(world::input(snapshot, a, i, k)?.light),
-        Reading::InputPosition(a, i, k) => number(world::input(snapshot, a, i, k)?.position),
+        Reading::InputOccupied(a, i, k) => world::input(snapshot, a, i, k)?.occupied.map(i64::from),
+        Reading::InputLight(a, i, k) => world::input(snapshot, a, i, k)?.light.map(i64::from),
+        Reading::InputPosition(a, i, k) => world::input(snapshot, a, i, k)?.position.map(i64::from),
         Reading::InputLastEventAge(a, i, k) => {
-            number(world::input(snapshot, a, i, k)?.last_event_age_ms)
+            world::input(snapshot, a, i, k)?
+                .last_event_age_ms
+                .map(i64::from)
         }
         Reading::TimeNow => Some(i64::from(world::wall(snapshot)?.minutes_of_day)),
         Reading::TimeHour => Some(i64::from(world::wall(snapshot)?.minutes_of_day / 60)),
@@ -47,7 +40,7 @@ pub fn eval_reading(snapshot: &[u32], v: &State, reading: Reading) -> Option<i64
         Reading::SunRise => Some(i64::from(world::sun(snapshot)?.sunrise_min)),
         Reading::SunSet => Some(i64::from(world::sun(snapshot)?.sunset_min)),
         Reading::SunIsUp => Some(i64::from(sun_is_up(snapshot)?)),
-        Reading::Var(name) => match v.variable(name)? {
+        Reading::Var(name) => match env.state.variable(name)? {
             VarValue::Int(n) => Some(n.cast_signed()),
             VarValue::Text(_) => None,
         },
@@ -59,14 +52,14 @@ pub fn eval_reading(snapshot: &[u32], v: &State, reading: Reading) -> Option<i64
 }
 
 #[tactic(auto, unfolding(model::specs::Eval::eval_value, words::specs::Signed::clamped))]
-pub fn eval_value(snapshot: &[u32], v: &State, value: Value) -> Option<i64>
-    ensures { ValueIn snapshot.now (meaning v.now).rest value result }
+pub(crate) fn eval_value(env: &Env, value: Value) -> Option<i64>
+    ensures { ValueIn env.now.snapshot.now (meaning env.now.state.now).rest value result }
 {
     match value {
         Value::Literal { low, high } => Some(words::join_words(low, high).cast_signed()),
-        Value::Reading { reading } => eval_reading(snapshot, v, reading),
+        Value::Reading { reading } => eval_reading(env, reading),
         Value::Offset { reading, delta } => {
-            let x = eval_reading(snapshot, v, reading)?;
+            let x = eval_reading(env, reading)?;
             Some(x.saturating_add(i64::from(delta.cast_signed())))
         }
     }
@@ -77,5 +70,5 @@ pub fn value_at(env: &Env, i: u32) -> Option<i64>
     ensures { ValueAt env.now i result }
 {
     let value = value_of(env.image.record_at(Table::Values, i))?;
-    eval_value(env.snapshot, env.state, value)
+    eval_value(env, value)
 }

@@ -68,7 +68,7 @@ pub fn lamp_level_is(env: &Env, adapter: u32, id: u32, cmp: Option<Cmp>, value: 
 pub fn lamp_cct_is(env: &Env, adapter: u32, id: u32, cmp: Option<Cmp>, value: u32) -> Option<bool>
     ensures { Evaluates env.now (condition.LampCct adapter id cmp value) result }
 {
-    let left = eval_reading(env.snapshot, env.state, Reading::LampCct(adapter, id))?;
+    let left = eval_reading(env, Reading::LampCct(adapter, id))?;
     let right = value_at(env, value)?;
     Some(compare_i64(cmp, left, right))
 }
@@ -111,11 +111,7 @@ pub fn input_light_is(
 ) -> Option<bool>
     ensures { Evaluates env.now (condition.InputLight adapter address instance above threshold) result }
 {
-    let left = eval_reading(
-        env.snapshot,
-        env.state,
-        Reading::InputLight(adapter, address, instance),
-    )?;
+    let left = eval_reading(env, Reading::InputLight(adapter, address, instance))?;
     let bound = value_at(env, threshold)?;
     Some(if above { bound < left } else { left < bound })
 }

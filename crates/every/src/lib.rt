@@ -20,67 +20,68 @@ use model::{EverySlot, Trigger};
 use state::State;
 use state::place::{PENDING, SLOTS};
 
-// An image of at most as many slots as there is room for.
+// What slots are built from: an image of at most as many as there is room for, the slots before it, and the time.
 #[derive(Clone, Copy)]
-struct Loadable<'a> {
+struct Rebuild<'a> {
     image: &'a Image<'a>,
+    old: &'a Slots<'a>,
+    time: u64,
 
     ghost few: { few_enough image.now ≡ true },
 }
 
-// The slot of an Every trigger.
-#[tactic(auto, unfolding(model::specs::Slots::slots_from, words::specs::Saturating::saturating_add))]
-fn slot_of(old: &Slots, time: u64, key: Key) -> EverySlot
-    ensures { slots_from old.now time key.rule key.place (Every key.period ∷ []) ≡ result ∷ [] }
-{
-    let fresh = time.saturating_add(key.period as u64);
-    let due = due_of(old, key, fresh);
-    EverySlot {
-        rule: key.rule,
-        place: key.place,
-        period: key.period,
-        due,
+impl Rebuild<'_> {
+    // The slot of an Every trigger.
+    #[tactic(auto, unfolding(model::specs::Slots::slots_from, words::specs::Saturating::saturating_add))]
+    fn slot_of(&self, key: Key) -> EverySlot
+        ensures { slots_from self.now.old.now self.now.time key.rule key.place (Every key.period ∷ []) ≡ result ∷ [] }
+    {
+        let fresh = self.time.saturating_add(key.period as u64);
+        let due = due_of(self.old, key, fresh);
+        EverySlot {
+            rule: key.rule,
+            place: key.place,
+            period: key.period,
+            due,
+        }
     }
-}
 
-// The slot of a trigger, if it is an Every, joins the table t.
-#[tactic(auto, using(crate::proofs::Slots::adds_none))]
-fn join_slot(old: &Slots, time: u64, rule: u32, place: u32, trigger: Trigger, t: &mut [u32])
-    requires { HasRoom t.old (slots_from old.now time rule place (trigger ∷ [])) }
-    ensures { Joined t.old (slots_from old.now time rule place (trigger ∷ [])) t.new }
-{
-    if let Trigger::Every { period_ms } = trigger {
-        let key = Key {
-            rule,
-            place,
-            period: period_ms,
-        };
-        let x = slot_of(old, time, key);
-        state::slots::join(t, x);
+    // The slot of a trigger, if it is an Every, joins the table t.
+    #[tactic(auto, using(crate::proofs::Slots::adds_none))]
+    fn join_slot(&self, rule: u32, place: u32, trigger: Trigger, t: &mut [u32])
+        requires { HasRoom t.old (slots_from self.now.old.now self.now.time rule place (trigger ∷ [])) }
+        ensures { Joined t.old (slots_from self.now.old.now self.now.time rule place (trigger ∷ [])) t.new }
+    {
+        if let Trigger::Every { period_ms } = trigger {
+            let key = Key {
+                rule,
+                place,
+                period: period_ms,
+            };
+            state::slots::join(t, self.slot_of(key));
+        }
     }
-}
 
-impl Loadable<'_> {
     // The slots of rule i join the table t.
-    fn join_rule(&self, i: u32, old: &Slots, time: u64, t: &mut [u32])
-        requires { HasRoom t.old (slots_from old.now time (name_of self.now.image.now i) 0 (triggers_of self.now.image.now i)) }
-        ensures { Joined t.old (slots_from old.now time (name_of self.now.image.now i) 0 (triggers_of self.now.image.now i)) t.new }
+    fn join_rule(&self, i: u32, t: &mut [u32])
+        requires { HasRoom t.old (slots_from self.now.old.now self.now.time (name_of self.now.image.now i) 0 (triggers_of self.now.image.now i)) }
+        ensures { Joined t.old (slots_from self.now.old.now self.now.time (name_of self.now.image.now i) 0 (triggers_of self.now.image.now i)) t.new }
     {
         let rule = self.image.name_of(i);
         for p in 0..self.image.trigger_count(i) {
             let trigger = self.image.trigger_at(i, p);
-            join_slot(old, time, rule, p, trigger, t);
+            self.join_slot(rule, p, trigger, t);
         }
     }
 
     // The slots of the rules, by name and then by place, join the empty table t: one of the old slots keeps its due time.
-    fn join_all(&self, old: &Slots, time: u64, t: &mut [u32])
+    fn join_all(&self, t: &mut [u32])
         requires { Holds 64 slot_row t.old [] }
-        ensures { Holds 64 slot_row t.new (rebuild_every self.now.image.now old.now time) }
+        ensures { Holds 64 slot_row t.new (rebuild_every self.now.image.now self.now.old.now self.now.time) }
     {
         let order = self.image.name_order();
         for i in order.as_slice() {
-            self.join_rule(*i, old, time, t);
+            self.join_rule(*i, t);
         }
     }
 }
@@ -91,7 +92,7 @@ pub fn rebuild_every(image: &Image, old: &Slots, time: u64, v: &mut State)
     ensures { Means v.new (base v.old) (with_rest (with_every (rebuild_every image.now old.now time) (meaning v.old).rest) (meaning v.old)) }
 {
     v.drop_every();
-    Loadable { image }.join_all(old, time, &mut v.words[SLOTS..PENDING]);
+    Rebuild { image, old, time }.join_all(&mut v.words[SLOTS..PENDING]);
 }
 
 // Whether these slots are those of an image's rules, by name and then by place, whatever their due times.
@@ -100,7 +101,13 @@ pub fn same_slots(slots: &Slots, image: &Image) -> bool
     ensures { result ≡ same_slots slots.now (rebuild_every image.now [] 0) }
 {
     let mut rebuilt = [0u32; PENDING - SLOTS];
-    Loadable { image }.join_all(&Slots::new(&[], 0, 0), 0, &mut rebuilt);
+    let none = Slots::new(&[], 0, 0);
+    Rebuild {
+        image,
+        old: &none,
+        time: 0,
+    }
+    .join_all(&mut rebuilt);
     let count = rebuilt[0] as usize;
     same(slots, &Slots::new(&rebuilt, 1, count))
 }

@@ -1,7 +1,7 @@
 -- An action's answer, and an action that changes the state and then answers. Assumes nothing.
 use Prim.Native.Nat.{ℕ}
-use mathlib.Core.Path.{◌≡◌, refl, ap, subst, ◌∙◌}
-use mathlib.Core.Bool.{Bool, true, false, cond}
+use mathlib.Core.Path.{◌≡◌, refl, sym, ap, subst, ◌∙◌}
+use mathlib.Core.Bool.{Bool, true, false, cond, not, true≢false}
 use mathlib.Core.List.{List}
 use Rattle.std.specs.Prelude.{None, Some, Ok}
 use lib.Dec.{leb}
@@ -45,6 +45,24 @@ armed-wet v w name due h m = rw h at m
 pub assigned-wet : (v w : List ℕ) (name : ℕ) (x : VarValue) → lacks_room name (meaning v) ≡ false → Means w (base v) (assigned name x (meaning v)) → Means w (base v) (with_rest (with_vars (put_var name x (meaning v).rest.vars) (meaning v).rest) (meaning v))
 unfolding assigned
 assigned-wet v w name x h m = rw h at m
+
+-- a state that has no room for it stays as it is
+pub armed-full : (v w : List ℕ) (name due : ℕ) → leb 16 (length (meaning v).rest.timers) ≡ true → Means w (base v) (armed name due (meaning v)) → Means w (base v) (with_rest (meaning v).rest (meaning v))
+unfolding armed
+armed-full v w name due h m = rw h at m
+
+pub assigned-full : (v w : List ℕ) (name : ℕ) (x : VarValue) → lacks_room name (meaning v) ≡ true → Means w (base v) (assigned name x (meaning v)) → Means w (base v) (with_rest (meaning v).rest (meaning v))
+unfolding assigned
+assigned-full v w name x h m = rw h at m
+
+-- what a try answers of the room that there was
+pub has-room : (r full : Bool) → r ≡ not full → r ≡ true → full ≡ false
+has-room r true e f = absurd (true≢false (sym f ∙ e))
+has-room r false e f = refl
+
+pub no-room : (r full : Bool) → r ≡ not full → r ≡ false → full ≡ true
+no-room r true e f = refl
+no-room r false e f = absurd (true≢false (sym e ∙ f))
 
 -- a time that is a number of milliseconds from now
 pub due-is : (due now n ms : ℕ) → due ≡ saturating_add max64 now ms → now ≡ n → due ≡ saturating_add max64 n ms

@@ -11,6 +11,8 @@ use flat::{FlatRule, Placed};
 use model::{Point, Step};
 use state::State;
 
+// kept: beside `exec`, whose three other arms are its calls too. One match of both would answer by two definitions of the specification, `exec` and `dry_step`, and
+// ask of a dry run that one more continuation can be accepted, which `DryReady` does not say.
 fn exec_dry(env: &Env, v: &mut State, here: Placed) -> StepResult
     requires { env.now.job.dry ≡ true }
     ensures { DryStepsIn env.now.snapshot.now env.now.image.now env.now.job v.old here.point here.step (step_done v.new result) }

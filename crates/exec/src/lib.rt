@@ -39,6 +39,8 @@ pub struct Job {
 }
 
 // What a run is given: the words of the snapshot and of the image, and what it knows of its rule.
+// kept: the state stands beside it in each function, `env, v`: an Env with `&mut State` could not be copied, and would have to be lent again at each call, and taken
+// apart where conditions and values are evaluated, since `eval::Env` has the state shared.
 #[derive(Clone, Copy)]
 pub struct Env<'a> {
     pub snapshot: &'a [u32],

@@ -83,7 +83,7 @@ pub fn prim_cycle(env: &Env, v: &mut State, first: u32, count: u32) -> PrimResul
     if env.job.dry {
         return emits(EffectKind::SceneRecall, scene, 0, 0, env.job.hold);
     }
-    v.set_cycle_pos(env.job.index as usize, (at + 1) % count);
+    v.set_cycle_pos(env.job.index as usize, Some((at + 1) % count));
     emits(EffectKind::SceneRecall, scene, 0, 0, env.job.hold)
 }
 

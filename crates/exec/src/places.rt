@@ -7,16 +7,16 @@ ghost use Rattle.model.specs.Exec as model_exec;
 use model::{Jump, Point};
 
 #[tactic(auto, unfolding(model::specs::Steps::arrive))]
-pub fn arrive(list: u32, place: u32, jump: Option<Jump>) -> Point
-    ensures { result ≡ model_steps.arrive list place jump }
+pub fn arrive(to: Point) -> Point
+    ensures { result ≡ model_steps.arrive to.list to.place to.jump }
 {
-    match jump {
-        Some(j) if place == j.at => Point {
-            list,
+    match to.jump {
+        Some(j) if to.place == j.at => Point {
             place: j.to,
             jump: None,
+            ..to
         },
-        _ => Point { list, place, jump },
+        _ => to,
     }
 }
 
@@ -26,8 +26,10 @@ pub fn advance(sp: Point, n: u32) -> Point
     requires { suc sp.place + n ≤ max32 }
     ensures { result ≡ model_exec.advance sp n }
 {
-    let jump = sp.jump;
-    arrive(sp.list, sp.place + 1 + n, jump)
+    arrive(Point {
+        place: sp.place + 1 + n,
+        ..sp
+    })
 }
 
 // Into the then-region: at its end the else-region is jumped over.
@@ -35,12 +37,16 @@ pub fn enter_then(sp: Point, t: u32, n: u32) -> Point
     requires { suc sp.place + (t + n) ≤ max32 }
     ensures { result ≡ model_exec.enter_then sp t n }
 {
-    let p = sp.place + 1;
+    let place = sp.place + 1;
     let past_else = Jump {
-        at: p + t,
-        to: p + t + n,
+        at: place + t,
+        to: place + t + n,
     };
-    arrive(sp.list, p, Some(past_else))
+    arrive(Point {
+        place,
+        jump: Some(past_else),
+        ..sp
+    })
 }
 
 // The body of the after at a point of the rule's own list.

@@ -4,6 +4,8 @@ ghost use Rattle.exec.specs.Queue.{window, first, rest};
 
 use std::marker::Model;
 
+// kept: a ring: the library's is on the heap. An `ArrayVec` of all lists that were ever queued, with the number of those taken, needs no remainder, but `push` would
+// ask that fewer than 256 were ever queued, which is more than that fewer than 256 wait, and is said by no value that the clauses see.
 #[derive(Drop)]
 pub struct Queue {
     slots: [u32; 256],

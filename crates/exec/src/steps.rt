@@ -15,6 +15,7 @@ use eval::conditions::condition_at;
 use flat::Placed;
 use model::{Point, Step};
 use state::State;
+use state::pending::Continuation;
 use state::reasons::Reason;
 
 // What an action did, and the run goes on.
@@ -24,13 +25,11 @@ fn after_prim(a: PrimResult, to: Point) -> StepResult
     match a {
         Ok(effect) => StepResult {
             effect,
-            reason: None,
-            next: Some(to),
+            ..goes_on(to)
         },
         Err(Unevaluable) => StepResult {
-            effect: None,
             reason: Some(Reason::ConditionUnevaluable),
-            next: Some(to),
+            ..goes_on(to)
         },
     }
 }
@@ -60,12 +59,20 @@ fn schedule(env: &Env, v: &mut State, left: u32, ms: u32, to: Point) -> Option<R
 {
     let time = world::now_ms(env.snapshot);
     let job = env.job;
-    v.schedule_continuation(time, job.rule, job.trigger, job.number, left, ms, to)
+    let next = Continuation {
+        rule: job.rule,
+        trigger: job.trigger,
+        number: job.number,
+        budget: left,
+        ms,
+        point: to,
+    };
+    v.schedule_continuation(time, next)
 }
 
 // What follows a wait is scheduled, and the run ends: also where the continuation is dropped.
-// kept: that one more can be accepted is asked here, by `schedule`, `run_after` and `exec`: it is of the state and the budget that is left together, from one
-// step to the next, and no value holds both
+// kept: that one more can be accepted is asked here, by `schedule`, `run_after` and `exec`. It follows from `Ready`, which is of the whole run: the state and the
+// budget left. A struct of the two would be made anew for each step, as the budget falls by one, and the state be lent through it again
 #[tactic(auto, unfolding(model::specs::Exec::exec))]
 fn run_wait(env: &Env, v: &mut State, left: u32, sp: Point, ms: u32) -> StepResult
     requires { (accepted v.old < max64) × (suc sp.place ≤ max32) }
@@ -90,9 +97,8 @@ fn run_after(env: &Env, v: &mut State, left: u32, sp: Point, ms: u32) -> StepRes
     let reason = schedule(env, v, left, ms, body);
     let to = advance(sp, 0);
     StepResult {
-        effect: None,
         reason,
-        next: Some(to),
+        ..goes_on(to)
     }
 }
 

@@ -15,12 +15,11 @@ fn arm_timer(env: &Env, v: &mut State, name: u32, ms: u32) -> PrimResult
     if env.job.dry {
         return Ok(None);
     }
-    if v.timers_full() {
-        return fails(v);
-    }
     let due = world::now_ms(env.snapshot).saturating_add(ms as u64);
-    v.arm_timer(name, due);
-    Ok(None)
+    if v.try_arm_timer(name, due) {
+        return Ok(None);
+    }
+    fails(v)
 }
 
 #[tactic(auto, unfolding(model::specs::Actions::run_prim))]

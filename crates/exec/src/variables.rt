@@ -17,11 +17,10 @@ fn assign(env: &Env, v: &mut State, name: u32, value: VarValue) -> PrimResult
     if env.job.dry {
         return Ok(None);
     }
-    if v.lacks_room(name) {
-        return fails(v);
+    if v.try_set_variable(name, value) {
+        return Ok(None);
     }
-    v.set_variable(name, value);
-    Ok(None)
+    fails(v)
 }
 
 // A text of more bytes than the limit is refused, in a dry run too.

@@ -4,7 +4,7 @@ use mathlib.Core.Bool.{Bool, true, false, ◌&&◌}
 use mathlib.Core.List.{List}
 use Prim.Native.Nat.{ℕ, ◌+◌, ◌≤◌}
 use lib.Dec.{eqb}
-use lib.ListN.{length, get_or}
+use lib.ListN.{length}
 use borrow.Author.Tests.{eqb-true, ne_eqb}
 use Rattle.model.specs.Lists.{all}
 use Rattle.model.specs.Image.{size_of}
@@ -13,16 +13,15 @@ use Rattle.model.specs.Load.{image_refusal}
 use Rattle.model.specs.Flat.{flatten_rules}
 use Rattle.model.specs.Snapshot.{snapshot_refusal}
 use Rattle.model.specs.Layout.{parts_fit}
-use Rattle.model.specs.Parts.{variable_row, layout}
+use Rattle.model.specs.Parts.{any, variable_row, layout}
 use Rattle.model.specs.Store.{text_short}
 use Rattle.model.proofs.Bools.{both}
 use Rattle.image.specs.Sized.{Sized}
 use Rattle.image.proofs.Accepted.{sized, tables-accepted, few-accepted, rules-few}
-use Rattle.rows.specs.Places.{table_at}
+use Rattle.rows.specs.Places.{row_at, table_at}
 use Rattle.store.specs.Places.{variables_place}
 use Rattle.store.specs.Volatile.{Readable}
 use Rattle.store.proofs.Parts.{variables-at}
-use Rattle.rows.proofs.Reading.{word-is}
 use Rattle.std.specs.Prelude.{Result, Ok, Err, ⊤}
 use Rattle.std.specs.Result.{is_ok}
 use Rattle.model.specs.declared.Refusal.{Refusal}
@@ -39,11 +38,11 @@ module _ (w : List ℕ) (a : Bool) (e : a ≡ eqb (length w) 16384 && parts_fit 
     fit : parts_fit layout.parts w ≡ true
     fit = (both (eqb (length w) 16384) (parts_fit layout.parts w) (sym e ∙ t)).1
 
-    pub texts-decide : (n : ℕ) (b : Bool) → n ≡ get_or w variables_place 0 → b ≡ all text_short (table_at variable_row n w (variables_place + 1)) → b ≡ readable w
+    pub texts-decide : (n : ℕ) (b : Bool) → n ≡ row_at any w variables_place → b ≡ all text_short (table_at variable_row n w (variables_place + 1)) → b ≡ readable w
     unfolding readable
     texts-decide n b h x =
         rw (sym e ∙ t)
-        (x ∙ ap (λ (m : ℕ). all text_short (table_at variable_row m w (variables_place + 1))) (word-is w variables_place n h) ∙ ap (all text_short) (sym (variables-at w)))
+        (x ∙ ap (λ (m : ℕ). all text_short (table_at variable_row m w (variables_place + 1))) h ∙ ap (all text_short) (sym (variables-at w)))
 
   pub not-shaped : a ≡ false → false ≡ readable w
   unfolding readable

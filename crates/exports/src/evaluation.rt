@@ -22,12 +22,7 @@ fn readable(store: &[u32]) -> bool
     if !store::shaped(store) {
         return false;
     }
-    let variables = Rows {
-        words: store,
-        k: VARIABLES as u32 + 1,
-        n: fields::word(store, VARIABLES),
-    };
-    variables.texts_short()
+    Rows::counted(store, VARIABLES).texts_short()
 }
 
 // Whether nothing that is given is refused.
@@ -78,6 +73,8 @@ pub extern "C" fn cerambiu_condition(snapshot: &[u32], image: &[u32], store: &[u
 }
 
 // What value i of the image is.
+// kept: this begins as the function above does. A state may not be returned, and `Env` borrows it and the image, so that one function for both would take a
+// closure over `&Env`, with a contract over what any closure answers, and leave each of them its own answer where an argument is refused: no plainer.
 #[unsafe(no_mangle)]
 pub extern "C" fn cerambiu_value(
     snapshot: &[u32],

@@ -4,9 +4,9 @@ use mathlib.Core.List.{List, [], ◌∷◌, ◌++◌, append_assoc, append-nil}
 use Prim.Native.Nat.{ℕ, ◌+◌, ◌*◌, ◌-◌, ◌≤◌, ◌<◌}
 use native.Mathlib.Omega.{arith}
 use native.Mathlib.Decide.{dec_le}
-use lib.ListN.{length, take, drop, length-append}
+use lib.ListN.{length, take, drop, replicate, length-append, length-drop, drop_of_length-le}
 use lib.Seq.{length-take-le, take-append-add, take-append-le, take-take, take-add, take_all, take_at, drop_at, paste, take-paste}
-use borrow.Rule.Slice.PartMut.{mid_of, put_mid, mid_len, same_len_mid}
+use borrow.Rule.Slice.PartMut.{mid_of, post_of, put_mid, mid_len, same_len_mid}
 use Rattle.model.specs.Flat.{Row}
 use Rattle.flat.specs.Words.{row_words, layout}
 use Rattle.flat.specs.Outcome.{Put, Behinds}
@@ -71,6 +71,16 @@ paste-front l at s k h g =
     sym (take-take at (at + k) (paste l at s k) (omega arith)) ∙ ap (take at) (take-paste l at s k h g)
     ∙ take_at (take at l) (take k s) at (length-take-le at l h)
 
+-- words written from where step n begins, or from the end if there is none: those before stay
+pub front-of : (l l1 : List ℕ) (n at : ℕ) → length l1 ≡ length l → (n * 4 ≤ length l → at ≡ n * 4) → (length l < n * 4 → at ≡ length l) → take at l1 ≡ take at l → take (n * 4) l1 ≡ take (n * 4) l
+front-of l l1 n at k cut end e =
+    elim (dec_le (n * 4) (length l)) [
+      | yes h ↦ rw (← cut h) e
+      | no h ↦
+          let z = end (omega arith) in
+          take_all (n * 4) l1 (omega (arith, k)) ∙ sym (take_all at l1 (omega (arith, k, z))) ∙ e ∙ take_all at l (omega (arith, z)) ∙ sym (take_all (n * 4) l (omega arith))
+    ]
+
 -- words pasted behind n steps
 pub paste-behinds : (l l1 s : List ℕ) (n size : ℕ) (rs : List Row) → size * 4 ≤ length s → take (size * 4) s ≡ layout rs
     → (n * 4 + size * 4 ≤ length l → l1 ≡ paste l (n * 4) s (size * 4)) → Behinds l n rs l1 (n + size)
@@ -88,6 +98,13 @@ rows-behind l l1 s n rs e p =
 module _ (w v : List ℕ) (at : ℕ) (inside : at ≤ length w) (kept : length v ≡ length (mid_of at (length w - at) w)) where
   pub whole_length : length (put_mid at (length w - at) w v) ≡ length w
   whole_length = same_len_mid at (length w - at) w v kept
+
+  -- it came back as zeros
+  pub zeros-behind : v ≡ replicate (length (mid_of at (length w - at) w)) 0 → put_mid at (length w - at) w v ≡ take at w ++ replicate (length w - at) 0
+  zeros-behind e =
+      let k : length (mid_of at (length w - at) w) ≡ length w - at = mid_len at (length w) w (omega arith) in
+      let d : post_of at (length w - at) w ≡ [] = drop_of_length-le (drop at w) (omega (arith, length-drop at w)) in
+      rw d (ap (λ (r : List ℕ). take at w ++ r) (append-nil v ∙ rw k at e))
 
   tail-length : length v ≡ length w - at
   tail-length = kept ∙ mid_len at (length w) w (omega arith)

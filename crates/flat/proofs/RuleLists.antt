@@ -2,7 +2,7 @@
 use mathlib.Core.Path.{◌≡◌, refl, sym, ap, ◌∙◌}
 use mathlib.Core.Bool.{Bool, true, false, ◌&&◌}
 use mathlib.Core.List.{List, [], ◌∷◌, ◌++◌, map, append-nil, append_assoc}
-use Prim.Native.Nat.{ℕ, zero, suc, ◌+◌, ◌*◌, ◌-◌, ◌/◌, ◌^◌, ◌≤◌, ◌<◌}
+use Prim.Native.Nat.{ℕ, zero, suc, ◌+◌, ◌*◌, ◌-◌, ◌/◌, ◌≤◌, ◌<◌}
 use native.Mathlib.Nat.{add-zero, zero-add}
 use native.Mathlib.Numerals.{add-one}
 use native.Mathlib.Omega.{arith}
@@ -108,10 +108,10 @@ module _ (acts blocks rules : List ℕ) (d limit k left : ℕ) (h : CheckedTable
 -- its bodies were written, and its own list behind them
 module _ (f : Flattened) (allowed : ℕ) (same : Bool) (seen own₀ words₀ own words : List ℕ) (n m left : ℕ) (s : Bool)
     (short : length f.steps ≤ 268) (h : Wrote 1 0 f 0 0 allowed same seen own₀ words₀ own words n m left s) where
-  pub rule-room : allowed ≤ 65536 → 1072 ≤ length own → (m < 2 ^ 40) × (n * 4 ≤ length own) × (n < 2 ^ 40)
-  rule-room a r =
+  pub rule-room : 1072 ≤ length own → n * 4 ≤ length own
+  rule-room r =
       let u : n ≤ 268 = omega (arith, h.counted) in
-      (omega (arith, h.few'), omega arith, omega arith)
+      omega arith
 
   pub rule-wrote : (words' : List ℕ) (r : Bool) → 1072 ≤ length own₀ → length words ≡ length words₀ → length words' ≡ length words
       → ((rs : List Row) → take (n * 4) own ≡ layout rs → Behinds words m rs words' (m + length rs) × (r ≡ s && holds_at seen m rs))

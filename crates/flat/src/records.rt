@@ -8,6 +8,8 @@ ghost use Rattle.flat.specs.Outcome.{action_in, block_at, called_in, Resolved};
 use model::{FlowAction, Record};
 
 // The first six words of record i.
+// kept: no function shared with `Image::record_at` and `record_from`: those read through a table of an image, where a word past its end is 0, this one words that a
+// clause says are there. One function of six words would be given the six reads at each of the three, and be no shorter.
 pub fn read_record(t: &[u32], i: usize) -> Record
     requires { i < length t.now / 8 }
     ensures { result ≡ record_in t.now i }
@@ -81,6 +83,8 @@ fn find_called(acts: &[u32], blocks: &[u32], i: usize) -> Option<usize>
 // Which block each action calls, looked up once for an image: 0 for none, k + 1 for block k. Tables of 4,096 words have no number above 512.
 // kept: a number, and no Option, as 512 of them stand on the stack: an Option<u16> takes twice the room, so 1,024 bytes more in each call that flattens, of
 // which `run` takes 24,024 where the limit is 24,576.
+// kept: an index of both. Tried by `calls.iter_mut().zip(acts.chunks_exact(8))`: what the function ensures does not close, since nothing is known of the words that
+// come back from an adapter of `iter_mut`.
 pub fn find_calls(acts: &[u32], blocks: &[u32], calls: &mut [u16])
     requires { (length acts.now / 8 ≤ length calls.old) × (length blocks.now ≤ 4096) }
     ensures { Resolved acts.now blocks.now calls.new (length acts.now / 8) }

@@ -7,18 +7,17 @@ ghost use Rattle.flat.specs.Load.{RuleOut, EachOut, rule_at, Checked, Loading, S
 
 use crate::cycle::flatten_list;
 use crate::records::find_calls;
-use crate::steps::{append_steps, clear, place, put_words};
+use crate::steps::{append_steps, place, put_words};
 use crate::{Around, Bodies, Done, Made, Progress, Source};
 use image::layout::{Image, Table};
 use model::{FlattenCtx, Refusal};
 
 // The row of list k: where it begins, and how many steps it has; written if there is room.
 fn put_list(lists: &mut [u32], k: usize, first: u32, size: u32)
-    requires { k < 4096 }
     ensures { (k + 1) * 2 ≤ length lists.old →
         take ((k + 1) * 2) lists.new ≡ take (k * 2) lists.old ++ first ∷ size ∷ [] }
 {
-    put_words(lists, k * 2, &[first, size]);
+    put_words(lists, k.saturating_mul(2), &[first, size]);
 }
 
 // The part of rule k, whose list is said by words 8 and 9 of its 16: the bodies of its afters go to the front of the words, its own list
@@ -67,7 +66,7 @@ fn flatten_rule(
 // The parts of all rules, one behind the other in `words`, and their rows in `lists`.
 // kept: words, lists and seen go through three functions, each for itself: a struct of them would be made in two places, and hold the bound of words and of
 // seen, 8,192, which three functions ask for. But here each rule takes its part of words and of seen as a `Bodies`, and lists go elsewhere, so that the struct is
-// taken apart again; and what it holds is a bound on what it lends, to be shown again of each part.
+// taken apart again.
 // kept: a loop over the numbers of the rules: k is also the row in `lists`, and the rule that `flatten_rule` says it flattens.
 fn flatten_each(
     t: &Source,
@@ -122,14 +121,16 @@ fn flatten_tables(
     let mut body = [0u32; 1072];
     let made = flatten_each(t, &mut own, &mut body, words, lists, seen)?;
     let end = place(made.size, words.len());
-    clear(words, end);
+    words[end..].fill(0);
     let last = (t.rules.len() / 16 * 2).min(lists.len());
-    clear(lists, last);
+    lists[last..].fill(0);
     Ok(made)
 }
 
 // The flat part of the image's set: its steps in `words`, the rows of its lists in `lists`, both if they have room; and the steps are
 // compared with `seen`, if that has any words.
+// kept: that load has checked the image is asked here and by the two that call this: a type for it would be made by each caller of those, load and store, and be
+// opened here alone, where the image becomes a `Source`, which holds what it says of the tables.
 fn flatten_image(
     image: &[u32],
     words: &mut [u32],

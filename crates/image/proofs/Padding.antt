@@ -1,12 +1,12 @@
 -- The code's tables of rows are the specification's, each row padded with void fields. Assumes nothing.
-use mathlib.Core.Path.{◌≡◌, refl, ◌∙◌}
+use mathlib.Core.Path.{◌≡◌, refl, sym, ◌∙◌}
 use mathlib.Core.List.{List, [], ◌∷◌, map}
 use Prim.Native.Nat.{ℕ, ◌-◌, ◌<◌, ◌≤◌}
 use native.Mathlib.Omega.{arith}
 use borrow.Author.Tests.{ne_eqb}
-use lib.ListN.{length, get_or, get_or-map, length-append, length-replicate}
+use lib.ListN.{length, get_or, get_or-map, get_or-eq_default, length-append, length-replicate}
 use Rattle.model.specs.declared.Field.{Field}
-use Rattle.model.specs.Rows.{void, reading_rows, kind_field, field_of}
+use Rattle.model.specs.Rows.{void, action_rows, reading_rows, kind_field, field_of}
 use Rattle.image.specs.Tables.{number_of}
 use Rattle.image.specs.declared.layout.Table.{Table}
 use Rattle.image.specs.declared.layout.Table.TheVariants.{Rules, Blocks, Triggers, Conditions, Actions, Values, Bounds, Pool}
@@ -21,6 +21,13 @@ pub field-is : (n : ℕ) (row : List Field) (j : ℕ) (d : Field) → j < n → 
 field-is n row j d h =
     let l : j < length (padded void n row) = omega (arith, length-append {A = Field}, length-replicate {A = Field}) in
     get_d_any (padded void n row) j d void l ∙ field_at void n (row ∷ []) 0 j (padded void n row) _ refl refl
+
+-- field j of an action of a kind that has no more than n fields, where n is read off their lengths with some default
+pub past-fields : (kind j n d : ℕ) → n ≡ get_or (map length action_rows) kind d → kind < 29 → n ≤ j → void ≡ get_or (get_or action_rows kind []) j void
+past-fields kind j n d e k h =
+    let m : n ≡ length (get_or action_rows kind []) = e ∙ (get_d_any (map length action_rows) kind d 0 k ∙ get_or-map length action_rows kind []) in
+    let l : length (get_or action_rows kind []) ≤ j = rw (← m) h in
+    sym (get_or-eq_default (get_or action_rows kind []) void l)
 
 -- the rows of values, whose references depend on the code of a reading
 module _ (code : ℕ) (r : List Field) (e : r ≡ get_or (map (padded void 3) reading_rows) code (padded void 3 [])) (d : Field) where

@@ -20,7 +20,7 @@ pub fn clear(words: &mut [u32])
 
 // Effect n, where there is room for it.
 // kept: no `rows::row::Row`, as it would be no plainer: its codec would be one more definition of the five words, beside those of the specification, with a law that
-// nothing else needs.
+// nothing else needs. No `get_mut` of the five either: the library promises nothing of what a slice ends as after it.
 pub fn write_effect(words: &mut [u32], n: usize, x: Effect)
     ensures { words.new ≡ put_effect words.old n x }
 {

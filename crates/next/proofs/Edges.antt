@@ -13,7 +13,7 @@ use Rattle.model.specs.declared.SunTimes.{SunTimes}
 use Rattle.model.specs.declared.SolarEvent.TheVariants.{Sunrise}
 use Rattle.model.specs.declared.Trigger.{Trigger}
 use Rattle.model.specs.declared.Trigger.TheVariants.{TimerFires, Every, AtTime, AtSolar, Other}
-use Rattle.next.specs.NextStart.{NextStart, NoStart, Start, first_from, on_days, stands_at, due_in, starts_in, lowest, minutes_ahead, name_ahead, next_from}
+use Rattle.next.specs.NextStart.{FirstStart, first_from, on_days, stands_at, due_in, starts_in, lowest, minutes_ahead, name_ahead, next_from}
 
 abbrev minutes : Option SunTimes → ℕ → Trigger → ℕ
 minutes sun t x = first_from (λ m. due_in sun t x m) 1 10080
@@ -42,15 +42,18 @@ house a on-a at_a b on-b at_b =
     ++ (2 ∷ 6 ∷ at_b ∷ 127 ∷ 0 ∷ 0 ∷ 0 ∷ 0 ∷ [])
     ++ (64 ∷ 4 ∷ 16 ∷ 64 ∷ 16 ∷ 0 ∷ 32 ∷ 32 ∷ 48 ∷ 48 ∷ 48 ∷ 48 ∷ 48 ∷ [])
 
-abbrev next : List ℕ → List Bool → NextStart
+abbrev next : List ℕ → List Bool → Option FirstStart
 next img enabled = next_from img enabled None 300
+
+abbrev start : ℕ → ℕ → Option FirstStart
+start m r = Some (record { minutes = m; name = r })
 
 -- the lowest name of one minute, not the first; the earlier one of two; the bit, not the image's word
 answers :
-    (next (house 9 1 0 4 1 0) (true ∷ true ∷ []) ≡ Start 60 4)
-    × (next (house 9 1 0 4 1 1) (true ∷ true ∷ []) ≡ Start 60 9)
-    × (next (house 9 1 0 4 1 0) (true ∷ false ∷ []) ≡ Start 60 9)
-    × (next (house 9 1 0 4 0 0) (false ∷ true ∷ []) ≡ Start 60 4)
-    × (next (house 9 1 0 4 1 0) (false ∷ false ∷ []) ≡ NoStart)
+    (next (house 9 1 0 4 1 0) (true ∷ true ∷ []) ≡ start 60 4)
+    × (next (house 9 1 0 4 1 1) (true ∷ true ∷ []) ≡ start 60 9)
+    × (next (house 9 1 0 4 1 0) (true ∷ false ∷ []) ≡ start 60 9)
+    × (next (house 9 1 0 4 0 0) (false ∷ true ∷ []) ≡ start 60 4)
+    × (next (house 9 1 0 4 1 0) (false ∷ false ∷ []) ≡ None)
 unfolding house next_from minutes_ahead name_ahead first_from starts_in due_in stands_at on_days has_day lowest triggers_of trigger_of size_of word_at first_of width_of trailer
 answers = (refl, refl, refl, refl, refl)

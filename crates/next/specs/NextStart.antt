@@ -11,6 +11,7 @@ use Rattle.model.specs.World.{World}
 use Rattle.model.specs.declared.SunTimes.{SunTimes}
 use Rattle.model.specs.declared.Trigger.{Trigger}
 use Rattle.model.specs.declared.Trigger.TheVariants.{TimerFires, Every, AtTime, AtSolar, Other}
+pub use Rattle.next.specs.declared.FirstStart.{FirstStart}
 pub use Rattle.next.specs.declared.NextStart.{NextStart}
 pub use Rattle.next.specs.declared.NextStart.TheVariants.{NoStart, ClockUnknown, Start}
 
@@ -54,31 +55,36 @@ minutes_ahead img enabled sun t = first_from (λ m. any (λ i. starts_in img ena
 unfoldable pub name_ahead : List ℕ → List Bool → Option SunTimes → ℕ → ℕ → ℕ
 name_ahead img enabled sun t m = lowest (map (name_of img) (keep (λ i. starts_in img enabled sun t i m) (rule_indices img)))
 
-abbrev pub start_or_none : Bool → ℕ → ℕ → NextStart
-start_or_none true m r = Start m r
-start_or_none false m r = NoStart
+abbrev pub start_or_none : Bool → ℕ → ℕ → Option FirstStart
+start_or_none true m r = Some (record { minutes = m; name = r })
+start_or_none false m r = None
 
 -- of a set's image and the bits of its rules, from minute t of the week
-unfoldable pub next_from : List ℕ → List Bool → Option SunTimes → ℕ → NextStart
+unfoldable pub next_from : List ℕ → List Bool → Option SunTimes → ℕ → Option FirstStart
 next_from img enabled sun t =
     let m = minutes_ahead img enabled sun t in
     start_or_none (leb m week_minutes) m (name_ahead img enabled sun t m)
 
 -- a store without a set has no start
-unfoldable pub next_of_set : Option RuleSet → List Bool → Option SunTimes → ℕ → NextStart
-next_of_set None enabled sun t = NoStart
+unfoldable pub next_of_set : Option RuleSet → List Bool → Option SunTimes → ℕ → Option FirstStart
+next_of_set None enabled sun t = None
 next_of_set (Some set) enabled sun t = next_from set.image enabled sun t
+
+-- what is said where the clock is known
+abbrev pub clock_known : Option FirstStart → NextStart
+clock_known None = NoStart
+clock_known (Some x) = Start x
 
 -- "A snapshot without a wall clock says "clock unknown", and a store without a set says "none" if the clock is known."
 unfoldable pub next_start : Store → World → NextStart
 next_start s w =
     elim w.wall [
       | None ↦ ClockUnknown
-      | Some clock ↦ next_of_set s.loaded s.vol.rest.enabled w.sun (week_minute clock)
+      | Some clock ↦ clock_known (next_of_set s.loaded s.vol.rest.enabled w.sun (week_minute clock))
     ]
 
 -- the values of the answer: a mark, the minutes and the rule's name, which are 0 where there is no start
 unfoldable pub start_values : NextStart → List ℕ
 start_values NoStart = 0 ∷ 0 ∷ 0 ∷ []
-start_values (Start m r) = 1 ∷ m ∷ r ∷ []
+start_values (Start x) = 1 ∷ x.minutes ∷ x.name ∷ []
 start_values ClockUnknown = 2 ∷ 0 ∷ 0 ∷ []

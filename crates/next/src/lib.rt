@@ -10,24 +10,25 @@ ghost use Rattle.model.specs.declared.Trigger.TheVariants as trigger;
 ghost use Rattle.next.specs.NextStart.{on_days, due_in, starts_in, first_from, next_from};
 ghost use Rattle.next.specs.Distance.{within, day_ahead, start_of, best_of};
 
-use eval::time::{has_day, solar_minute};
+use eval::time::{has_day, minute_of_day, solar_minute};
 use image::layout::{Image, Table};
 use model::{SolarEvent, Trigger};
 
-// kept: no Option, as it would be no plainer: there are three answers, and an unknown clock is neither a start nor none.
+// In how many minutes a rule starts, and its name. The order is by the minutes, and then by the name.
+#[derive(Clone, Copy, PartialEq, Eq, PartialOrd, Ord)]
+pub struct FirstStart {
+    pub minutes: u32,
+    pub name: u32,
+}
+
+// What starts next in the world of a snapshot.
+// kept: no Option, as it would be no plainer: there are three answers, and an unknown clock is neither a start nor none. Without a clock nothing is asked of
+// this crate, so that only `engine` makes this of the Option that it gets.
 #[derive(Clone, Copy)]
 pub enum NextStart {
     NoStart,
     ClockUnknown,
-    // In how many minutes, and the lowest name of a rule that starts then.
-    Start(u32, u32),
-}
-
-// In how many minutes a rule starts, and its name. The order is by the minutes, and then by the name.
-#[derive(Clone, Copy, PartialEq, Eq, PartialOrd, Ord)]
-struct Best {
-    minutes: u32,
-    name: u32,
+    Start(FirstStart),
 }
 
 // What is asked: the words of an image and of its rules' bits (1 is enabled), the sun's times, and the minute of the week it is.
@@ -90,7 +91,7 @@ impl Asked<'_> {
     {
         match trigger {
             Trigger::AtTime { hour, minute, days } => {
-                self.days_minutes(days, hour as u64 * 60 + minute as u64)
+                self.days_minutes(days, minute_of_day(hour, minute))
             }
             Trigger::AtSolar { event, offset_ms } => self.solar_minutes(event, offset_ms),
             Trigger::TimerFires { .. } | Trigger::Every { .. } | Trigger::Other => None,
@@ -110,16 +111,16 @@ impl Asked<'_> {
     }
 
     // The first start of rule i, with its name.
-    fn rule_start(&self, i: u32) -> Option<Best>
+    fn rule_start(&self, i: u32) -> Option<FirstStart>
         ensures { result ≡ start_of self.now.image.now (map is_one self.now.bits.now) self.now.sun self.now.t i }
     {
         let minutes = self.rule_minutes(i)?;
         let name = self.image.name_of(i);
-        Some(Best { minutes, name })
+        Some(FirstStart { minutes, name })
     }
 
     // The earliest start of all rules, and of those in one minute the one of the lowest name.
-    fn earliest(&self) -> Option<Best>
+    fn earliest(&self) -> Option<FirstStart>
         ensures { result ≡ best_of self.now.image.now (map is_one self.now.bits.now) self.now.sun self.now.t }
     {
         (0..self.image.size_of(Table::Rules))
@@ -129,7 +130,12 @@ impl Asked<'_> {
 }
 
 // From minute t of the week on, of an image and the words of its rules' bits: 1 is enabled.
-pub fn next_from(image: &Image, bits: &[u32], sun: Option<model::SunTimes>, t: u32) -> NextStart
+pub fn next_from(
+    image: &Image,
+    bits: &[u32],
+    sun: Option<model::SunTimes>,
+    t: u32,
+) -> Option<FirstStart>
     requires { t < 10080 }
     ensures { result ≡ next_from image.now (map is_one bits.now) sun t }
 {
@@ -139,8 +145,5 @@ pub fn next_from(image: &Image, bits: &[u32], sun: Option<model::SunTimes>, t: u
         sun,
         t,
     };
-    match asked.earliest() {
-        Some(best) => NextStart::Start(best.minutes, best.name),
-        None => NextStart::NoStart,
-    }
+    asked.earliest()
 }

@@ -1,4 +1,4 @@
-// What is printed for the values of an answer. A line is one `write!`: the check compares its text with the definition's.
+// What is printed for the values of an answer. A line is one `writeln!`: the check compares its text with the definition's.
 #![tactic(auto, using(crate::proofs::Gathering::gathers_by))]
 
 ghost use Rattle.std.specs.Prelude.{◌≤◌, ◌==◌, [], get_or};
@@ -15,33 +15,33 @@ use script::Call;
 pub fn refused(out: &mut Output, call: Call, number: u32)
     ensures { Gathers out.old (refused_line call number) out.new }
 {
-    write!(out, "{call} refused {number}\n")
+    writeln!(out, "{call} refused {number}")
 }
 
 pub fn enabled(out: &mut Output, rule: u32, answer: &[u32; 16])
     ensures { Gathers out.old (enabled_line rule (get_or answer.now 0 0 == 1)) out.new }
 {
     let known = if answer[0] == 1 { "yes" } else { "no" };
-    write!(out, "enable {rule} {known}\n")
+    writeln!(out, "enable {rule} {known}")
 }
 
 pub fn counters(out: &mut Output, answer: &[u32; 16])
     ensures { Gathers out.old (line (bytes_of "counters") (numbers (words_at answer.now 0 16))) out.new }
 {
-    write!(out, "counters{}\n", shown::first(answer, 16))
+    writeln!(out, "counters{}", shown::first(answer, 16))
 }
 
 pub fn peeked(out: &mut Output, place: u64, word: u32)
     ensures { Gathers out.old (peek_line place word) out.new }
 {
-    write!(out, "peek {place} {word}\n")
+    writeln!(out, "peek {place} {word}")
 }
 
 // The room of an image.
 pub fn room(out: &mut Output, answer: &[u32; 16])
     ensures { Gathers out.old (room_lines answer.now []) out.new }
 {
-    write!(out, "room{}\n", shown::first(answer, 2))
+    writeln!(out, "room{}", shown::first(answer, 2))
 }
 
 // The words of a record that a line shows: so many from word `from` on, of `width`.
@@ -63,7 +63,7 @@ fn row(out: &mut Output, name: &str, x: Columns, ws: &[u32], i: usize)
         at: x.width * i + x.from,
         count: x.shown,
     };
-    write!(out, "{name}{words}\n")
+    writeln!(out, "{name}{words}")
 }
 
 // So many records of a lent store, from number `first` on.
@@ -103,7 +103,7 @@ fn outcome_line(out: &mut Output, i: u32, outcomes: &[u32])
         at: at + 5,
         count: 1,
     };
-    write!(out, "rule{fields}{effects}\n")
+    writeln!(out, "rule{fields}{effects}")
 }
 
 // Outcome i and its effects.
@@ -130,7 +130,7 @@ fn outcomes_of(out: &mut Output, count: u32, outcomes: &[u32], effects: &[u32])
 fn handled_line(out: &mut Output, call: Call, time: u64, count: u32)
     ensures { Gathers out.old (handled_line call time count) out.new }
 {
-    write!(out, "{call} {time} {count}\n")
+    writeln!(out, "{call} {time} {count}")
 }
 
 // A tick or a run at a time: its outcomes.
@@ -155,12 +155,8 @@ pub fn deadline(out: &mut Output, answer: &[u32; 16])
     ensures { Gathers out.old (deadline_of answer.now) out.new }
 {
     match answer[0] {
-        0 => write!(out, "deadline none\n"),
-        _ => write!(
-            out,
-            "deadline {}\n",
-            words::join_words(answer[1], answer[2])
-        ),
+        0 => writeln!(out, "deadline none"),
+        _ => writeln!(out, "deadline {}", words::join_words(answer[1], answer[2])),
     }
 }
 
@@ -169,7 +165,7 @@ pub fn telegrams(out: &mut Output, answer: &[u32; 16], list: &[u32])
     ensures { Gathers out.old (telegram_lines answer.now list.now) out.new }
 {
     let count = answer[0];
-    write!(out, "telegrams {count}\n");
+    writeln!(out, "telegrams {count}");
     effects_of(out, 0, count, list)
 }
 
@@ -183,7 +179,7 @@ pub fn triggers(out: &mut Output, answer: &[u32; 16], triggers: &[u32])
         from: 1,
         shown: 3,
     };
-    write!(out, "crontab {count}\n");
+    writeln!(out, "crontab {count}");
     rows(out, "trigger", x, triggers, 0, count)
 }
 
@@ -194,8 +190,8 @@ pub fn start(out: &mut Output, answer: &[u32; 16])
     ensures { Gathers out.old (start_lines answer.now []) out.new }
 {
     match answer[0] {
-        0 => write!(out, "start none\n"),
-        1 => write!(out, "start {} {}\n", answer[1], answer[2]),
-        _ => write!(out, "start unknown\n"),
+        0 => writeln!(out, "start none"),
+        1 => writeln!(out, "start {} {}", answer[1], answer[2]),
+        _ => writeln!(out, "start unknown"),
     }
 }

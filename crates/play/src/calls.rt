@@ -8,7 +8,7 @@ ghost use Rattle.cerambiu.specs.Told.{sending};
 ghost use Rattle.script.specs.declared.calls.Call.TheVariants as Call;
 ghost use Rattle.script.specs.Scan.{Ranged};
 ghost use Rattle.play.specs.Printed.{telegram_lines, trigger_lines, start_lines, room_lines};
-ghost use Rattle.play.specs.Playing.{calling, asking, asking_store, settings_of, beginning};
+ghost use Rattle.play.specs.Playing.{calling, asking, asking_store, beginning};
 ghost use Rattle.play.specs.declared.output.Output.{Output};
 ghost use Rattle.play.specs.Gathered.{Makes, Does, done, lent_after};
 
@@ -56,8 +56,8 @@ fn accepted(number: u32) -> Result<(), Refused>
     }
 }
 
-// kept: `new`, `load` and `unload` are one call of the C interface each. Tried: as arms of `make`, where the store is lent as a field, what a call
-// leaves of it is not proved.
+// kept: `new`, `load` and `unload` are one call of the C interface each. Tried: as arms of `make`, where the store is lent as a field,
+// the clause `makes` did not close, which is of `self.new.store`.
 fn new(size: usize, time: u64, store: &mut [u32]) -> Result<(), Refused>
     ensures { (o : Output) → Makes (calling size (Calls.new time) store.old) Call.New store.new o o result }
 {
@@ -233,25 +233,6 @@ fn poke(store: &mut [u32], place: usize, word: u32)
     }
 }
 
-// What later calls are lent once a call was made.
-fn settings_of(command: Command, t: Settings) -> Settings
-    ensures { result ≡ settings_of command.call (get_or command.numbers 0 0) (get_or command.numbers 1 0) t }
-{
-    let [a, b, _, _] = command.numbers;
-    match command.call {
-        Call::Lend => Settings {
-            outcomes: a as usize,
-            effects: b as usize,
-            ..t
-        },
-        Call::Size => Settings {
-            size: a as usize,
-            ..t
-        },
-        _ => t,
-    }
-}
-
 impl Lent {
     // A store made new at time 0, which a script finds.
     pub fn new() -> Self
@@ -283,7 +264,6 @@ impl Lent {
         let (list, text) = (line.list, line.text);
         let [a, b, _, _] = line.command.numbers;
         let (most, size) = (self.settings, self.settings.size);
-        self.settings = settings_of(line.command, most);
         let (store, os, es) = (&mut self.store, &mut self.outcomes, &mut self.effects);
         match line.command.call {
             Call::New => new(size, a, store),
@@ -298,8 +278,15 @@ impl Lent {
             Call::Crontab => crontab(a as u32, b as usize, text, es, out),
             Call::Start => start(size, list, store, out),
             Call::RoomFor => room(list, out),
-            Call::Lend => Ok(()),
-            Call::Size => Ok(()),
+            Call::Lend => {
+                self.settings.outcomes = a as usize;
+                self.settings.effects = b as usize;
+                Ok(())
+            }
+            Call::Size => {
+                self.settings.size = a as usize;
+                Ok(())
+            }
             Call::Poke => {
                 poke(store, a as usize, b as u32);
                 Ok(())

@@ -18,6 +18,8 @@ pub use complain::{Signed, Wrong, WrongLine};
 // the last `bytes` bytes of the line.
 // kept: numbers by place, and no enum of calls with their fields, as it would be no plainer: parser, complaints and their proofs are about any row of the table,
 // where such an enum takes a parser and a complaint for each call.
+// kept: `words` and `bytes` are counts, and no slices, as it would be no plainer: this very struct is what the definition of a line gives, so that `Parses` is
+// one equation with it. A slice is more than its words: with slices the definition takes a struct of its own, and a relation for the equation.
 #[derive(Clone, Copy, PartialEq, Eq)]
 pub struct Command {
     pub call: Call,

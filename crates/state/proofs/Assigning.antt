@@ -19,6 +19,7 @@ use Rattle.model.specs.declared.Pending.{Pending}
 use Rattle.rows.specs.Places.{laid, row_at}
 use Rattle.state.specs.Cuts.{cut, Words}
 use Rattle.state.specs.Meaning.{pending_row, part_sizes, pending_part, next_part, stored_part, accepted_part, place_of, words_in, meaning_of, accepted_in, numbered, offset_from, Below, meaning, base, accepted, stored_count, pending_count, Sound, AllNumbered, Holds, Counted}
+use Rattle.rows.proofs.Writing.{one_set}
 use Rattle.state.proofs.Closing.{at_rest, drop_more}
 use Rattle.state.proofs.Lists.{joins}
 use Rattle.state.proofs.Numbers.{numbered-all, numbered-joins}
@@ -173,7 +174,7 @@ module _ (w : List ℕ) (s : Sound w) (next acc : ℕ) (n : next ≡ row_at wide
         sym (part_at pending_part (omega arith) w₁ 0 (omega arith)) ∙ ap (λ (ps : List (List ℕ)). get_or (get_or ps pending_part []) 0 0) lent_back.cuts
         ∙ holds-count pending_row pending-laws 32 p _ h ∙ ap length same-records
 
-    pub all-numbered : count ≡ get_or w₁ (place_of pending_part) 0 → w₂ ≡ laid w₁ (place_of stored_part) (any.put count) → w₃ ≡ laid w₂ (place_of next_part) (wide.put (next + acc)) → w₄ ≡ laid w₃ (place_of accepted_part) (wide.put 0)
+    pub all-numbered : count ≡ get_or w₁ (place_of pending_part) 0 → w₂ ≡ set w₁ (place_of stored_part) count → w₃ ≡ laid w₂ (place_of next_part) (wide.put (next + acc)) → w₄ ≡ laid w₃ (place_of accepted_part) (wide.put 0)
         → AllNumbered w₄ (meaning w)
     unfolding cut meaning stored_count pending_count accepted
     all-numbered e e₂ e₃ e₄ =
@@ -185,7 +186,8 @@ module _ (w : List ℕ) (s : Sound w) (next acc : ℕ) (n : next ≡ row_at wide
         let k : count ≡ length l = e ∙ count-is in
         let q = wide_fits (next + acc) (next_small fits) in
         let z = wide_fits 0 (omega arith) in
-        let c₂ : Changed w₁ w₂ stored_part (count ∷ []) = rw e₂ (changed-laid stored_part (omega arith) w₁ (count ∷ []) lent_back.shape refl (word_fits 32 count (omega arith))) in
+        let e₂' : w₂ ≡ laid w₁ (place_of stored_part) (count ∷ []) = e₂ ∙ one_set w₁ (place_of stored_part) count (omega (arith, lent_back.shape.long)) in
+        let c₂ : Changed w₁ w₂ stored_part (count ∷ []) = rw e₂' (changed-laid stored_part (omega arith) w₁ (count ∷ []) lent_back.shape refl (word_fits 32 count (omega arith))) in
         let c₃ : Changed w₂ w₃ next_part (wide.put (next + acc)) = rw e₃ (changed-laid next_part (omega arith) w₂ (wide.put (next + acc)) c₂.shape refl q.1) in
         let c₄ : Changed w₃ w₄ accepted_part (wide.put 0) = rw e₄ (changed-laid accepted_part (omega arith) w₃ (wide.put 0) c₃.shape refl z.1) in
         let ps : List (List ℕ) = set (set (set (set (cut part_sizes w) pending_part p) stored_part (count ∷ [])) next_part (wide.put (next + acc))) accepted_part (wide.put 0) in

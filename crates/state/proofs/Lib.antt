@@ -4,6 +4,7 @@ pub mod Closing
 pub mod Found
 pub mod Numbers
 pub mod Inserting
+pub mod Backwards
 pub mod Mapped
 pub mod Behind
 pub mod Selecting

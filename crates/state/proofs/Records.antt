@@ -316,13 +316,14 @@ none-stored w s e =
     let None : get_or w (place_of pending_part) 0 ≡ 0 = sym (pending-length w s) ∙ ap length e in
     omega (arith, None, s.parts.stored, part_at pending_part (omega arith) w 0 (omega arith))
 
-pub all-leave : (w w₁ w₂ : List ℕ) → Sound w → w₁ ≡ laid w (place_of pending_part) (replicate (words_in pending_part) 0) → w₂ ≡ laid w₁ (place_of stored_part) (any.put 0)
+pub all-leave : (w w₁ w₂ : List ℕ) → Sound w → w₁ ≡ laid w (place_of pending_part) (replicate (words_in pending_part) 0) → w₂ ≡ set w₁ (place_of stored_part) 0
     → MeansSoundly w₂ (base w) (record { rest = (meaning w).rest; pending = []; next = (meaning w).next; last_number = (meaning w).last_number })
 unfolding cut meaning base words_of all_good rows_at numbered
 all-leave w w₁ w₂ s e₁ e₂ =
     let h : Holds 32 pending_row (replicate (words_in pending_part) 0) [] = record { words = refl; good = refl } in
     let c₁ : Changed w w₁ pending_part (replicate (words_in pending_part) 0) = rw e₁ (table-laid pending_row pending-laws pending_part 32 (omega arith) refl w _ _ s h) in
-    let c₂ : Changed w₁ w₂ stored_part (0 ∷ []) = rw e₂ (changed-laid stored_part (omega arith) w₁ (0 ∷ []) c₁.shape refl (word_fits 32 0 (omega arith))) in
+    let e : w₂ ≡ laid w₁ (place_of stored_part) (0 ∷ []) = e₂ ∙ one_set w₁ (place_of stored_part) 0 (omega (arith, c₁.shape.long)) in
+    let c₂ : Changed w₁ w₂ stored_part (0 ∷ []) = rw e (changed-laid stored_part (omega arith) w₁ (0 ∷ []) c₁.shape refl (word_fits 32 0 (omega arith))) in
     let cuts : cut part_sizes w₂ ≡ set (set (cut part_sizes w) pending_part (replicate (words_in pending_part) 0)) stored_part (0 ∷ []) = c₂.cuts ∙ ap (λ (ps : List (List ℕ)). set ps stored_part (0 ∷ [])) c₁.cuts in
     let a = across w s in
     record { says = ap meaning_of cuts; sound = sound-of w₂ _ cuts c₂.shape (omega arith, tt, a.2, a.3, a.4, a.5, a.6); based = ap base_in cuts }

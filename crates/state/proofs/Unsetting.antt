@@ -18,7 +18,7 @@ use Rattle.model.proofs.Bools.{join}
 use Rattle.model.proofs.CodecLaws.{rest_of}
 use Rattle.model.proofs.RowLaws.{zeros-written}
 use Rattle.rows.specs.Places.{laid}
-use Rattle.rows.proofs.Writing.{laid-long, and-then, lays}
+use Rattle.rows.proofs.Writing.{laid-long, and-then, lays, one_set}
 use Rattle.state.specs.Cuts.{cut}
 use Rattle.state.specs.Meaning.{part_sizes, place_of, words_in, bits_part, activations_part, positions_part, variables_part, rules_part, meaning_of, base_in, unset_from, meaning, base, Sound, MeansSoundly}
 use Rattle.state.specs.Named.{unset_rules}
@@ -98,11 +98,11 @@ module _ (w w₁ w₂ : List ℕ) (n : ℕ) (s : Sound w) (few : n ≤ 64) where
       (λ l. lays a₁ a₂ a₃ (place_of activations_part) (place_of positions_part) z₁ z₂ (omega (arith, l, s.long)) (omega (arith, l₁)) refl refl)
       ∙ ap (laid w (place_of bits_part)) (ap (λ (z : List ℕ). z₀ ++ z) (replicate-append-replicate (words_in activations_part) (words_in positions_part) 0) ∙ replicate-append-replicate (words_in bits_part) (words_in activations_part + words_in positions_part) 0)
 
-  pub rules-unset : w₁ ≡ laid w (place_of bits_part) (replicate (place_of variables_part - place_of bits_part) 0) → w₂ ≡ laid w₁ (place_of rules_part) (any.put n)
+  pub rules-unset : w₁ ≡ laid w (place_of bits_part) (replicate (place_of variables_part - place_of bits_part) 0) → w₂ ≡ set w₁ (place_of rules_part) n
       → MeansSoundly w₂ (base w) (with_rest (unset_rules n (meaning w).rest) (meaning w))
   unfolding cut meaning base
   rules-unset e₁ e₂ =
-      let e : w₂ ≡ laid a₃ (place_of rules_part) (n ∷ []) = e₂ ∙ ap (λ (x : List ℕ). laid x (place_of rules_part) (n ∷ [])) (e₁ ∙ sym all_three) in
+      let e : w₂ ≡ laid a₃ (place_of rules_part) (n ∷ []) = e₂ ∙ ap (λ (x : List ℕ). set x (place_of rules_part) n) (e₁ ∙ sym all_three) ∙ one_set a₃ (place_of rules_part) n (omega (arith, c₃.shape.long)) in
       let c₄ : Changed a₃ w₂ rules_part (n ∷ []) = rw e (changed-laid rules_part (omega arith) a₃ (n ∷ []) c₃.shape refl (word_fit 64 n few)) in
       let cuts : cut part_sizes w₂ ≡ set (set (set (set (cut part_sizes w) bits_part z₀) activations_part z₁) positions_part z₂) rules_part (n ∷ []) =
       c₄.cuts ∙ ap (λ (ps : List (List ℕ)). set ps rules_part (n ∷ [])) (c₃.cuts ∙ ap (λ (ps : List (List ℕ)). set ps positions_part z₂) (c₂.cuts ∙ ap (λ (ps : List (List ℕ)). set ps activations_part z₁) c₁.cuts)) in

@@ -30,7 +30,7 @@ use Rattle.rows.specs.Rows.{variable_code_row, short_variable_of}
 use Rattle.rows.proofs.Reading.{short-is}
 use Rattle.state.specs.Cuts.{with_row}
 use Rattle.state.specs.Meaning.{Holds, Counted, Sound, MeansSoundly, meaning, base, variables_part, place_of, words_in, part}
-use Rattle.state.specs.Named.{variable_has_name, lacks_room, assigned, has_name, put_row, assign_row}
+use Rattle.state.specs.Named.{variable_has_name, lacks_room, no_row, assigned, has_name, put_row, assign_row}
 use Rattle.state.specs.Tables.{First, Finds}
 use Rattle.state.proofs.Found.{found, not_found, passed_over}
 use Rattle.state.proofs.Typed.{holds-get, holds-set, holds-push}
@@ -65,6 +65,16 @@ module _ (name : ℕ) (x : R) where
     full : length l ≤ i → 16 ≤ length l → assign_row name x l ≡ l
     unfolding assign_row
     full h k = rw (not_found (has_name name) l i first h, le-leb 16 (length l) k)
+
+    -- whether there is a row of the name, or room for one
+    pub row-there : i < length l → true ≡ not (no_row name l)
+    row-there h = rw (found (has_name name) l i first x h) refl
+
+    pub row-new : length l ≤ i → length l < 16 → true ≡ not (no_row name l)
+    row-new h k = rw (not_found (has_name name) l i first h, lt-leb 16 (length l) k) refl
+
+    pub row-none : length l ≤ i → 16 ≤ length l → false ≡ not (no_row name l)
+    row-none h k = rw (not_found (has_name name) l i first h, le-leb 16 (length l) k) refl
 
   module _ (p : List ℕ) (l : List R) (h : Holds 16 variable_row p l) where
     pub assigned-again : (i : ℕ) → Finds (has_name name) l (Some i) → variable_row.good x ≡ true → (p₁ : List ℕ) → p₁ ≡ laid p (1 + i * 4) (variable_row.put x) → Holds 16 variable_row p₁ (assign_row name x l)
@@ -136,12 +146,6 @@ module _ (w : List ℕ) (s : Sound w) where
   variables-hold : Holds 16 variable_row (take (words_in variables_part) (drop (place_of variables_part) w)) rows
   variables-hold = rw (ap (most 16 variable_row).get (sym (part-is variables_part (omega arith) w))) at variables-lent
 
-  pub variables-count : get_or w (place_of variables_part) 0 ≡ length (meaning w).rest.vars
-  unfolding meaning
-  variables-count =
-      let m : length (map variable_of rows) ≡ length rows = simp length-map in
-      table-count variable_row variable-laws variables_part 16 (omega arith) refl w s ∙ sym m
-
   -- so many as the count says, read behind it
   pub variables-read : (l : List Variable) → l ≡ table_at variable_code_row (get_or w (place_of variables_part) 0) w (place_of variables_part + 1) → l ≡ (meaning w).rest.vars
   unfolding meaning table_at
@@ -155,11 +159,6 @@ value_in_lem : (o : Option Variable) → present (value_in o) ≡ present o
 value_in_lem None = refl
 value_in_lem (Some y) = refl
 
--- one of the name, and no room for another
-pub no-room : (name n : ℕ) (w : List ℕ) (there : Bool) → n ≡ length (meaning w).rest.vars → there ≡ present (find (variable_has_name name) (meaning w).rest.vars) → not there && leb 16 n ≡ lacks_room name (meaning w)
-unfolding lacks_room var_named
-no-room name n w there e f = rw (e, f) (ap (λ (b : Bool). not b && leb 16 (length (meaning w).rest.vars)) (sym (value_in_lem (find (variable_has_name name) (meaning w).rest.vars))))
-
 -- A VARIABLE IS SET ---------------------------------------------------------------------------------------------------------------------------
 module _ (name : ℕ) (value : VarValue) where
   abbrev x : Variable
@@ -172,6 +171,16 @@ module _ (name : ℕ) (value : VarValue) where
   found-same : (l : List R) → present (find (has_name name) l) ≡ present (find (variable_has_name name) (map variable_of l))
   found-same [] = refl
   found-same (y ∷ l) = found-cond (has_name name y) y _ _ (found-same l)
+
+  -- no row of the name and no room, in the part that is lent
+  pub lacks-same : (w : List ℕ) → no_row name ((most 16 variable_row).get (take (words_in variables_part) (drop (place_of variables_part) w))) ≡ lacks_room name (meaning w)
+  unfolding lacks_room var_named meaning
+  lacks-same w =
+      let l : List R = (most 16 variable_row).get (part variables_part w) in
+      let m : length (map variable_of l) ≡ length l = simp length-map in
+      let same : not (present (find (has_name name) l)) && leb 16 (length l) ≡ not (present (value_in (find (variable_has_name name) (map variable_of l)))) && leb 16 (length (map variable_of l)) =
+      rw (found-same l, m, value_in_lem (find (variable_has_name name) (map variable_of l))) refl in
+      subst (λ (z : List ℕ). no_row name ((most 16 variable_row).get z) ≡ lacks_room name (meaning w)) (part-is variables_part (omega arith) w) same
 
   put-cond : (b : Bool) (y : R) (l m : List R) → map variable_of (cond b (variable_row_of x ∷ l) (y ∷ m)) ≡ cond b (x ∷ map variable_of l) (variable_of y ∷ map variable_of m)
   put-cond true y l m = ap (λ (z : Variable). z ∷ map variable_of l) (row_back name value)

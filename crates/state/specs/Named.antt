@@ -53,6 +53,10 @@ abbrev pub put_row : ℕ → ℕ × (ℕ × ℕ) → List (ℕ × (ℕ × ℕ)) 
 put_row name x [] = x ∷ []
 put_row name x (y ∷ ys) = cond (has_name name y) (x ∷ ys) (y ∷ put_row name x ys)
 
+-- no row of this name, and no room for one
+abbrev pub no_row : ℕ → List (ℕ × (ℕ × ℕ)) → Bool
+no_row name l = not (present (find (has_name name) l)) && leb 16 (length l)
+
 unfoldable pub assign_row : ℕ → ℕ × (ℕ × ℕ) → List (ℕ × (ℕ × ℕ)) → List (ℕ × (ℕ × ℕ))
 assign_row name x l = cond (not (present (find (has_name name) l)) && leb 16 (length l)) l (put_row name x l)
 

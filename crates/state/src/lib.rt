@@ -38,6 +38,8 @@ pub mod timers;
 pub mod variables;
 
 // The words of a state, which are sound: seen as the list of them.
+// kept: the words are open. `store::volatile` copies parts of them from a store's layout and back, and `every` builds the slots in their part: a method for each
+// would lend the same words under another name.
 #[derive(Drop)]
 pub struct State {
     pub words: [u32; place::WORDS],

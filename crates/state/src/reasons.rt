@@ -1,6 +1,6 @@
 // The reasons of an outcome: document 01, "Outcomes and effects".
 ghost use Rattle.std.specs.Prelude.{◌≡◌};
-ghost use Rattle.state.specs.Reasons.{reason_number};
+ghost use Rattle.state.specs.Reasons.{reason_code};
 
 #[derive(Clone, Copy)]
 pub enum Reason {
@@ -8,12 +8,10 @@ pub enum Reason {
     EffectBudget = 2,
 }
 
-// What an outcome says: 0 for none.
-pub fn reason_word(reason: Option<Reason>) -> u32
-    ensures { result ≡ reason_number reason }
-{
-    match reason {
-        Some(r) => r as u32,
-        None => 0,
+impl From<Reason> for u32 {
+    ghost from_gives = { λ reason number. number ≡ reason_code reason };
+
+    fn from(reason: Reason) -> u32 {
+        reason as u32
     }
 }

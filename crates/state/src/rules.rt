@@ -1,7 +1,6 @@
 // What is kept for each rule of the set, by its place in the image: its bit, its last activation, its cycle position. A place past
 // the last has none, and nothing is kept for it.
 ghost use Rattle.std.specs.Prelude.{ℕ, ◌≡◌, ◌+◌, ◌*◌, ◌≤◌, ◌<◌, set, length, get_or};
-ghost use Rattle.std.specs.Prelude.{Some};
 ghost use Rattle.model.specs.Calls.{flipped};
 ghost use Rattle.model.specs.State.{is_enabled, last_activation_at, cycle_pos_at, with_rest, with_enabled, with_last_activation, with_cycle_pos};
 ghost use Rattle.state.specs.Meaning.{Sound, Means, meaning, base, rules_of};
@@ -21,17 +20,6 @@ fn rule_count(v: &[u32]) -> usize
     u32::at(v, place::RULES) as usize
 }
 
-// What the part at `part`, which has an option for each rule, says of rule i.
-fn kept<T: Row>(v: &State, part: usize, i: usize) -> Option<T>
-    requires { part ≤ 16384 }
-    ensures { (result ≡ kept_for T.codec T.WORDS v.now part i) × Sound v.now }
-{
-    if i < rule_count(&v.words) {
-        return option_at(&v.words, part + i * (1 + T::WORDS));
-    }
-    None
-}
-
 fn put_kept<T: Row>(v: &mut [u32], part: usize, i: usize, x: Option<T>)
     requires { Sound v.old × (part + 64 * (1 + T.WORDS) ≤ length v.old) }
     ensures laid { v.new ≡ kept_laid T.codec T.WORDS v.old part i x }
@@ -43,6 +31,17 @@ fn put_kept<T: Row>(v: &mut [u32], part: usize, i: usize, x: Option<T>)
 }
 
 impl State {
+    // What the part at `part`, which has an option for each rule, says of rule i.
+    fn kept<T: Row>(&self, part: usize, i: usize) -> Option<T>
+        requires { part ≤ 16384 }
+        ensures { (result ≡ kept_for T.codec T.WORDS self.now part i) × Sound self.now }
+    {
+        if i < rule_count(&self.words) {
+            return option_at(&self.words, part + i * (1 + T::WORDS));
+        }
+        None
+    }
+
     pub fn is_enabled(&self, i: usize) -> bool
         ensures { result ≡ is_enabled (meaning self.now).rest i }
     {
@@ -74,39 +73,27 @@ impl State {
     pub fn last_activation(&self, i: usize) -> Option<u64>
         ensures { result ≡ last_activation_at (meaning self.now).rest i }
     {
-        kept(self, place::ACTIVATIONS, i)
+        self.kept(place::ACTIVATIONS, i)
     }
 
     // What is kept of rule i's last activation.
-    pub fn put_last_activation(&mut self, i: usize, x: Option<u64>)
+    pub fn set_last_activation(&mut self, i: usize, x: Option<u64>)
         ensures { Means self.new (base self.old) (with_rest (with_last_activation (set (meaning self.old).rest.last_activation i x) (meaning self.old).rest) (meaning self.old)) }
     {
         put_kept(&mut self.words, place::ACTIVATIONS, i, x);
     }
 
-    pub fn set_last_activation(&mut self, i: usize, time: u64)
-        ensures { Means self.new (base self.old) (with_rest (with_last_activation (set (meaning self.old).rest.last_activation i (Some time)) (meaning self.old).rest) (meaning self.old)) }
-    {
-        self.put_last_activation(i, Some(time));
-    }
-
     pub fn cycle_pos(&self, i: usize) -> Option<u32>
         ensures { result ≡ cycle_pos_at (meaning self.now).rest i }
     {
-        kept(self, place::POSITIONS, i)
+        self.kept(place::POSITIONS, i)
     }
 
     // What is kept of rule i's cycle position.
-    pub fn put_cycle_pos(&mut self, i: usize, x: Option<u32>)
+    pub fn set_cycle_pos(&mut self, i: usize, x: Option<u32>)
         ensures { Means self.new (base self.old) (with_rest (with_cycle_pos (set (meaning self.old).rest.cycle_pos i x) (meaning self.old).rest) (meaning self.old)) }
     {
         put_kept(&mut self.words, place::POSITIONS, i, x);
-    }
-
-    pub fn set_cycle_pos(&mut self, i: usize, at: u32)
-        ensures { Means self.new (base self.old) (with_rest (with_cycle_pos (set (meaning self.old).rest.cycle_pos i (Some at)) (meaning self.old).rest) (meaning self.old)) }
-    {
-        self.put_cycle_pos(i, Some(at));
     }
 
     // There are n rules, and nothing is kept of any.
@@ -115,6 +102,6 @@ impl State {
         ensures { Means self.new (base self.old) (with_rest (unset_rules n (meaning self.old).rest) (meaning self.old)) }
     {
         clear(&mut self.words, place::BITS, place::VARIABLES - place::BITS);
-        (n as u32).put(&mut self.words, place::RULES);
+        self.words[place::RULES] = n as u32;
     }
 }

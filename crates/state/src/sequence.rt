@@ -47,8 +47,7 @@ impl State {
             next,
             accepted,
         );
-        let count = self.words[place::PENDING];
-        count.put(&mut self.words, place::STORED);
+        self.words[place::STORED] = self.words[place::PENDING];
         (next + accepted).put(&mut self.words, place::NEXT);
         0u64.put(&mut self.words, place::ACCEPTED);
     }

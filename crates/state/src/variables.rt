@@ -1,11 +1,11 @@
 // The variables, at most 16: rows of name, tag and value. One that is set again stays in its place.
-ghost use Rattle.std.specs.Prelude.{◌≡◌};
+ghost use Rattle.std.specs.Prelude.{◌≡◌, not};
 ghost use Rattle.model.specs.Codec.{most};
 ghost use Rattle.model.specs.Parts.{variable_row};
 ghost use Rattle.model.specs.State.{var_named};
 ghost use Rattle.model.specs.Store.{variable_row_of};
 ghost use Rattle.state.specs.Meaning.{Sound, Means, Holds, Counted, meaning, base};
-ghost use Rattle.state.specs.Named.{has_name, lacks_room, assigned, assign_row};
+ghost use Rattle.state.specs.Named.{has_name, lacks_room, no_row, assigned, assign_row};
 ghost use Rattle.state.specs.Tables.{Finds};
 
 use crate::place::MAX_VARIABLES;
@@ -15,17 +15,6 @@ use rows::VARIABLE_WORDS;
 use rows::row::Row;
 use rows::tables::Rows;
 
-// The variables.
-fn all(v: &State) -> Rows<'_, Variable>
-    ensures { result ≡ (meaning v.now).rest.vars }
-{
-    Rows::new(
-        &v.words,
-        place::VARIABLES + 1,
-        v.words[place::VARIABLES] as usize,
-    )
-}
-
 // The place of the variable of a name.
 fn place_of(t: &[u32], name: u32) -> Option<usize>
     requires { Counted 16 variable_row t.now }
@@ -34,40 +23,49 @@ fn place_of(t: &[u32], name: u32) -> Option<usize>
     Rows::<Variable>::new(t, 1, t[0] as usize).position(|x| x.name == name)
 }
 
-// The variable of the name holds the value; a new one goes behind the others, where there is room.
-fn assign(t: &mut [u32], x: Variable)
+// The variable of the name holds the value; a new one goes behind the others, where there is room. Whether it holds it.
+fn assign(t: &mut [u32], x: Variable) -> bool
     requires { Counted 16 variable_row t.old }
-    ensures { Holds 16 variable_row t.new (assign_row x.name (variable_row_of x) ((most 16 variable_row).get t.old)) }
+    ensures holds { Holds 16 variable_row t.new (assign_row x.name (variable_row_of x) ((most 16 variable_row).get t.old)) }
+    ensures room { result ≡ not (no_row x.name ((most 16 variable_row).get t.old)) }
 {
     if let Some(i) = place_of(t, x.name) {
         x.put(t, 1 + i * VARIABLE_WORDS);
-        return;
+        return true;
     }
     if (t[0] as usize) < MAX_VARIABLES {
         table::push(t, x);
+        return true;
     }
+    false
 }
 
 impl State {
+    // The variables.
+    fn variables(&self) -> Rows<'_, Variable>
+        ensures { result ≡ (meaning self.now).rest.vars }
+    {
+        Rows::new(
+            &self.words,
+            place::VARIABLES + 1,
+            self.words[place::VARIABLES] as usize,
+        )
+    }
+
     // What the variable of the name holds.
     pub fn variable(&self, name: u32) -> Option<VarValue>
         ensures { result ≡ var_named (meaning self.now).rest name }
     {
-        let x = all(self).find(|x| x.name == name)?;
+        let x = self.variables().find(|x| x.name == name)?;
         Some(x.value)
     }
 
-    // Whether the name is new and 16 variables stand.
-    pub fn lacks_room(&self, name: u32) -> bool
-        ensures { result ≡ lacks_room name (meaning self.now) }
-    {
-        !all(self).any(|x| x.name == name) && MAX_VARIABLES <= self.words[place::VARIABLES] as usize
-    }
-
-    pub fn set_variable(&mut self, name: u32, value: VarValue)
-        ensures { Means self.new (base self.old) (assigned name value (meaning self.old)) }
+    // The variable of the name holds the value, unless the name is new and 16 variables stand: whether it does.
+    pub fn try_set_variable(&mut self, name: u32, value: VarValue) -> bool
+        ensures means { Means self.new (base self.old) (assigned name value (meaning self.old)) }
+        ensures room { result ≡ not (lacks_room name (meaning self.old)) }
     {
         let x = Variable { name, value };
-        assign(&mut self.words[place::VARIABLES..place::TIMERS], x);
+        assign(&mut self.words[place::VARIABLES..place::TIMERS], x)
     }
 }

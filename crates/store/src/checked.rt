@@ -76,6 +76,7 @@ impl<'a> Checked<'a> {
     }
 
     // How many rules are loaded.
+    // kept: a match. Tried `map_or(0, ..)`: that the answer is at most 64, which the image's acceptance gives in the first arm, did not close.
     pub fn rule_count(&self) -> usize
         ensures count { result ≡ rule_count self.now.loaded }
         ensures few { result ≤ 64 }

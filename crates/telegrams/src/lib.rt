@@ -10,6 +10,7 @@ use lent_words::EFFECT_WORDS;
 use model::{Effect, EffectKind, Refusal};
 
 // Record k.
+// kept: no `rows::row::Row`, for the reason beside `lent_words::write_effect`: its codec would say the five words once more, beside the specification's `effect_at`.
 #[tactic(auto, unfolding(model::specs::Telegrams::effect_at))]
 fn effect_at(effects: &[u32], k: usize) -> Effect
     requires { k < length effects.now / 5 }
@@ -27,6 +28,7 @@ fn effect_at(effects: &[u32], k: usize) -> Effect
 }
 
 // Whether the words are effects: refusal 60.
+// kept: by the number of the record, no `chunks_exact`: a record is read by `effect_at` here as everywhere below, where a chunk's kind would be its word 0 by hand.
 fn are_effects(effects: &[u32]) -> bool
     ensures { result ≡ are_effects effects.now }
 {

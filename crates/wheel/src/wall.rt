@@ -60,7 +60,7 @@ fn solar_kind(
 fn time_kind(window: Window, hour: u32, minute: u32, days: u32, missed: bool) -> WallKind
     ensures { KindAnywhere window.base window.window missed (trigger.AtTime hour minute days ∷ []) result }
 {
-    let minute = hour as u64 * 60 + minute as u64;
+    let minute = eval::time::minute_of_day(hour, minute);
     kind_if(window.minute_due(days, minute), TriggerKind::AtTime, missed)
 }
 

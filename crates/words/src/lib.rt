@@ -7,6 +7,8 @@ ghost use Rattle.words.specs.Pairs.{joined, low_of, high_of};
 ghost use Rattle.words.specs.Signed.{solar_minute};
 
 // Two words as one 64-bit number, and back.
+// kept: a product, `%` and `/`, as the definitions have them, here and in the two below. A cast asks that its value fits, so `x as u32` alone cuts no word out of
+// a number, and `%` would stand beside the shift.
 pub fn join_words(low: u32, high: u32) -> u64
     ensures { result ≡ joined low high }
 {

@@ -1,34 +1,39 @@
 -- `image::refusal` meets its contract. Assumes nothing.
+use mathlib.Core.Path.{sym, ◌∙◌}
+use Rattle.std.proofs.lemmas.Result.{err_from_is_err_and}
 use Rattle.model.specs.Load.{tables_refusal}
-use Rattle.image.proofs.Refusals.{refused, passed, sized}
+use Rattle.image.proofs.Refusals.{refused, passed, good-of, bad-of, unless-not, unless-so}
 use Rattle.image.proofs.refusal.Goals as goal
 
-pub returns-then-not-image_sized : goal.returns-then-not-image_sized
+pub returns-in_err-image : goal.returns-in_err-image
 unfolding tables_refusal
-returns-then-not-image_sized c = refused _ _ _ _ c.image_sized.ensures c.if-not-image_sized.true-raw
-
-pub new-image-requires : goal.new-image-requires
-new-image-requires c = sized _ _ c.image_sized.ensures c.if-not-image_sized.false-raw
+returns-in_err-image c =
+    let p = err_from_is_err_and c.from_residual.result c.from_residual.ensures.1 in
+    let q = bad-of _ _ _ _ (sym c.in_err-image.was ∙ c.of.ensures) in
+    rw (p.1, p.2, q.1) (unless-not _ _ _ q.0)
 
 pub returns-then-not-limits_fit : goal.returns-then-not-limits_fit
 unfolding tables_refusal
 returns-then-not-limits_fit c =
-    passed _ _ _ _ _ c.image_sized.ensures c.if-not-image_sized.false-raw
-    (rw (← c.new-image.ensures) (refused _ _ _ _ c.limits_fit.ensures c.if-not-limits_fit.true-raw))
+    let q = good-of _ _ _ _ (sym c.in_ok-image.was ∙ c.of.ensures) in
+    unless-so _ _ _ _ q.0
+    (rw (← q.1) (refused _ _ _ _ c.limits_fit.ensures c.if-not-limits_fit.true-raw))
 
 pub returns-then-not-places_fit : goal.returns-then-not-places_fit
 unfolding tables_refusal
 returns-then-not-places_fit c =
-    passed _ _ _ _ _ c.image_sized.ensures c.if-not-image_sized.false-raw
-    (rw (← c.new-image.ensures)
+    let q = good-of _ _ _ _ (sym c.in_ok-image.was ∙ c.of.ensures) in
+    unless-so _ _ _ _ q.0
+    (rw (← q.1)
     (passed _ _ _ _ _ c.limits_fit.ensures c.if-not-limits_fit.false-raw
     (refused _ _ _ _ c.places_fit.ensures c.if-not-places_fit.true-raw)))
 
 pub returns : goal.returns
 unfolding tables_refusal
 returns c =
-    passed _ _ _ _ _ c.image_sized.ensures c.if-not-image_sized.false-raw
-    (rw (← c.new-image.ensures)
+    let q = good-of _ _ _ _ (sym c.in_ok-image.was ∙ c.of.ensures) in
+    unless-so _ _ _ _ q.0
+    (rw (← q.1)
     (passed _ _ _ _ _ c.limits_fit.ensures c.if-not-limits_fit.false-raw
     (passed _ _ _ _ _ c.places_fit.ensures c.if-not-places_fit.false-raw
     c.records_refusal.ensures)))

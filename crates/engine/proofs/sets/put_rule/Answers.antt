@@ -12,4 +12,4 @@ returns c =
     rule-put a.image.now s a.i a.v.now _ _ _ _ _ _ c.enabled_of-on.ensures
     (c.kept_of-activation.ensures.activation ∙ ap (kept s.loaded s.vol.rest.last_activation) n)
     (c.kept_of-activation.ensures.position ∙ ap (kept s.loaded s.vol.rest.cycle_pos) n)
-    c.put_bit.ensures c.put_last_activation.ensures c.put_cycle_pos.ensures
+    c.put_bit.ensures c.set_last_activation.ensures c.set_cycle_pos.ensures

@@ -8,9 +8,13 @@ pub week_minute-requires : goal.week_minute-requires
 week_minute-requires c =
     wall-in-range _ c.requires (sym c.wall.ensures ∙ c.in-Some.is)
 
-pub returns-in-Some : goal.returns-in-Some
-returns-in-Some c =
-    known-clock c.args.store.now _ _ c.wall.ensures _ _ _ _ c.in-Some.is c.sun.ensures c.week_minute.ensures.0 c.next_from.ensures
+pub returns-in_default : goal.returns-in_default
+returns-in_default c = unknown-clock c.args.store.now _ _ c.wall.ensures c.in_default.is
+
+pub returns-in-Some-next_from : goal.returns-in-Some-next_from
+returns-in-Some-next_from c =
+    known-clock c.args.store.now _ _ c.wall.ensures _ _ _ c.in-Some.is c.sun.ensures c.week_minute.ensures.0 c.next_from.ensures c.in-Some-next_from.is
 
 pub returns-in-None : goal.returns-in-None
-returns-in-None c = unknown-clock c.args.store.now _ _ c.wall.ensures c.in-None.is
+returns-in-None c =
+    known-clock c.args.store.now _ _ c.wall.ensures _ _ _ c.in-Some.is c.sun.ensures c.week_minute.ensures.0 c.next_from.ensures c.in-None.is

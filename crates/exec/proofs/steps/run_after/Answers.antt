@@ -1,5 +1,4 @@
 -- `exec::steps::run_after` meets its contract. Assumes nothing.
-use mathlib.Core.Path.{refl}
 use Rattle.model.specs.Exec.{exec}
 use Rattle.exec.proofs.steps.run_after.Goals as goal
 
@@ -7,4 +6,5 @@ pub returns : goal.returns
 unfolding exec
 returns c image flat =
     let s = c.schedule-reason.ensures image flat in
-    rw (← c.body_start-body.ensures, ← c.advance-to.ensures) (record { state = s.0; effect = refl; reason = s.1; next = refl })
+    let g = c.goes_on.ensures c.args.v.now in
+    rw (← c.body_start-body.ensures, ← c.advance-to.ensures) (record { state = s.0; effect = g.effect; reason = s.1; next = g.next })

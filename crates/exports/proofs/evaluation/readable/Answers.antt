@@ -8,4 +8,5 @@ returns-then-not-shaped c = not-shaped _ _ c.shaped.ensures (not-true _ c.if-not
 
 pub returns : goal.returns
 returns c =
-    texts-decide _ _ c.shaped.ensures (not-false _ c.if-not-shaped.false-raw) _ _ c.word.ensures c.texts_short.ensures
+    let r = c.counted in
+    texts-decide _ _ c.shaped.ensures (not-false _ c.if-not-shaped.false-raw) r.result.n _ r.ensures.size (rw (r.ensures.words, r.ensures.place) at c.texts_short.ensures)

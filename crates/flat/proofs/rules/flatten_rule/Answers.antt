@@ -9,14 +9,14 @@ slice_bounds-append_steps-end c =
     let a = c.args in
     let f = c.flatten_list in
     let z = rw c.in_ok-q.was at f.ensures.out in
-    (rule-room _ a.left a.same a.seen.now a.own.now a.words.now f.new.list f.new.bodies.words.now _ _ _ _ (rule-short a.t.now.acts.now a.t.now.blocks.now a.t.now.rules.now a.t.now.depth a.t.now.limit a.k a.left a.t.now.checked) z c.requires.in_bounds.3 (omega (arith, c.requires.in_bounds.0, f.auto.list))).1
+    rule-room _ a.left a.same a.seen.now a.own.now a.words.now f.new.list f.new.bodies.words.now _ _ _ _ (rule-short a.t.now.acts.now a.t.now.blocks.now a.t.now.rules.now a.t.now.depth a.t.now.limit a.k a.left a.t.now.checked) z (omega (arith, c.requires.in_bounds.0, f.auto.list))
 
 pub slice_bounds-append_steps-end-2 : goal.slice_bounds-append_steps-end-2
 slice_bounds-append_steps-end-2 c =
     let a = c.args in
     let f = c.flatten_list in
     let z = rw c.in_ok-q.was at f.ensures.out in
-    let fits = (rule-room _ a.left a.same a.seen.now a.own.now a.words.now f.new.list f.new.bodies.words.now _ _ _ _ (rule-short a.t.now.acts.now a.t.now.blocks.now a.t.now.rules.now a.t.now.depth a.t.now.limit a.k a.left a.t.now.checked) z c.requires.in_bounds.3 (omega (arith, c.requires.in_bounds.0, f.auto.list))).1 in
+    let fits = rule-room _ a.left a.same a.seen.now a.own.now a.words.now f.new.list f.new.bodies.words.now _ _ _ _ (rule-short a.t.now.acts.now a.t.now.blocks.now a.t.now.rules.now a.t.now.depth a.t.now.limit a.k a.left a.t.now.checked) z (omega (arith, c.requires.in_bounds.0, f.auto.list)) in
     sym (length-take-le (c.in_ok-q.q.n * 4) f.new.list fits)
 
 pub returns : goal.returns

@@ -6,4 +6,4 @@ use Rattle.play.proofs.answers.telegrams.Goals as goal
 
 pub returns : goal.returns
 unfolding words_at
-returns c = gathers_lines c.write.ensures c.effects_of.ensures (simp append_assoc)
+returns c = gathers_lines c.writeln.ensures c.effects_of.ensures (simp append_assoc)

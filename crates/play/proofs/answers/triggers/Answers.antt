@@ -6,4 +6,4 @@ use Rattle.play.proofs.answers.triggers.Goals as goal
 
 pub returns : goal.returns
 unfolding words_at
-returns c = gathers_lines c.write.ensures c.rows.ensures (simp append_assoc)
+returns c = gathers_lines c.writeln.ensures c.rows.ensures (simp append_assoc)

@@ -19,7 +19,7 @@ overflow_add-next c = omega (arith, next_small _ c.self.invariant _ _ c.at-next.
 
 pub returns : goal.returns
 returns c =
-    rw (← c.self.view_is) (all-numbered _ c.self.invariant _ _ c.at-next.ensures c.at-accepted.ensures (rw (← c.self.view_is) at c.requires.0) (rw (← c.self.view_is) at c.requires.1) _ _ _ _ _ _ c.number_all.ensures refl refl c.put.ensures c.put-2.ensures c.put-3.ensures)
+    rw (← c.self.view_is) (all-numbered _ c.self.invariant _ _ c.at-next.ensures c.at-accepted.ensures (rw (← c.self.view_is) at c.requires.0) (rw (← c.self.view_is) at c.requires.1) _ _ _ _ _ _ c.number_all.ensures refl refl refl c.put.ensures c.put-2.ensures)
 
 pub invariant_of-self : goal.invariant_of-self
-invariant_of-self c = (all-numbered _ c.self.invariant _ _ c.at-next.ensures c.at-accepted.ensures (rw (← c.self.view_is) at c.requires.0) (rw (← c.self.view_is) at c.requires.1) _ _ _ _ _ _ c.number_all.ensures refl refl c.put.ensures c.put-2.ensures c.put-3.ensures).sound
+invariant_of-self c = (all-numbered _ c.self.invariant _ _ c.at-next.ensures c.at-accepted.ensures (rw (← c.self.view_is) at c.requires.0) (rw (← c.self.view_is) at c.requires.1) _ _ _ _ _ _ c.number_all.ensures refl refl refl c.put.ensures c.put-2.ensures).sound

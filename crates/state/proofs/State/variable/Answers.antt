@@ -15,7 +15,7 @@ returns-in_err-x c =
     c.from_residual.ensures
     ∙ ap value_in
     (sym c.in_err-x.was
-    ∙ finds p (meaning c.args.self.now).rest.vars _ (find_from_yields_List p _ _ _ c.find.ensures.ran (YieldsList-from_first (λ x. x) (λ rest. rest) _ c.all.ensures) (λ x b q h. search rules)))
+    ∙ finds p (meaning c.args.self.now).rest.vars _ (find_from_yields_List p _ _ _ c.find.ensures.ran (YieldsList-from_first (λ x. x) (λ rest. rest) _ c.variables.ensures) (λ x b q h. search rules)))
 
 pub returns : goal.returns
 unfolding var_named
@@ -23,4 +23,4 @@ returns c =
     let p = variable_has_name c.args.name in
     ap value_in
     (sym c.in_ok-x.was
-    ∙ finds p (meaning c.args.self.now).rest.vars _ (find_from_yields_List p _ _ _ c.find.ensures.ran (YieldsList-from_first (λ x. x) (λ rest. rest) _ c.all.ensures) (λ x b q h. search rules)))
+    ∙ finds p (meaning c.args.self.now).rest.vars _ (find_from_yields_List p _ _ _ c.find.ensures.ran (YieldsList-from_first (λ x. x) (λ rest. rest) _ c.variables.ensures) (λ x b q h. search rules)))

@@ -1,10 +1,11 @@
 -- `state::variables::assign` meets its contract: set again, new, or no room. Assumes nothing.
 use native.Mathlib.Omega.{arith}
 use Rattle.model.specs.Parts.{variable_row}
+use Rattle.model.specs.Store.{variable_row_of}
 use Rattle.model.proofs.PartsLaws.{variable-laws}
 use Rattle.state.proofs.Typed.{has-room, holds-long, holds-count, holds-few}
 use Rattle.state.proofs.Good.{variable-good, words-laid, are_words}
-use Rattle.state.proofs.VariableRows.{assigned-again, assigned-new, assigned-not}
+use Rattle.state.proofs.VariableRows.{assigned-again, assigned-new, assigned-not, row-there, row-new, row-none}
 use Rattle.state.proofs.variables.assign.Goals as goal
 
 pub overflow_mul-i : goal.overflow_mul-i
@@ -16,8 +17,8 @@ overflow_add-i c = omega (arith, c.in-Some.ensures.1, holds-few variable_row var
 pub put-requires : goal.put-requires
 put-requires c = omega (arith, c.in-Some.ensures.1, holds-long variable_row variable-laws 16 _ _ c.requires, holds-few variable_row variable-laws 16 _ _ c.requires)
 
-pub returns-in-Some : goal.returns-in-Some
-returns-in-Some c =
+pub returns-in-Some-clause-holds : goal.returns-in-Some-clause-holds
+returns-in-Some-clause-holds c =
     let put = c.put in
     let good = variable-good c.args.x (words-laid _ _ _ put.new.s put.ensures (are_words put.new.s (λ i. omega (arith, c.type_inv.t i)))) in
     assigned-again _ _ _ _ c.requires _ c.in-Some.ensures good _ put.ensures
@@ -28,10 +29,21 @@ bounds-t-0 c = omega (arith, holds-long variable_row variable-laws 16 _ _ c.requ
 pub push-requires : goal.push-requires
 push-requires c = has-room variable_row variable-laws 16 _ _ c.requires (omega arith) (omega arith) (omega (arith, holds-count variable_row variable-laws 16 _ _ c.requires, c.if-t-lt-MAX_VARIABLES.true))
 
-pub returns-then-t-lt-MAX_VARIABLES : goal.returns-then-t-lt-MAX_VARIABLES
-returns-then-t-lt-MAX_VARIABLES c =
+pub returns-in-Some-clause-room : goal.returns-in-Some-clause-room
+returns-in-Some-clause-room c = row-there _ (variable_row_of c.args.x) _ _ c.in-Some.ensures.0 c.in-Some.ensures.1
+
+pub returns-then-t-lt-MAX_VARIABLES-clause-holds : goal.returns-then-t-lt-MAX_VARIABLES-clause-holds
+returns-then-t-lt-MAX_VARIABLES-clause-holds c =
     assigned-new _ _ _ _ c.requires c.in_default.ensures (variable-good c.args.x c.push.ensures.words) _ (omega (arith, holds-count variable_row variable-laws 16 _ _ c.requires, c.if-t-lt-MAX_VARIABLES.true)) c.push.ensures.rows
 
-pub returns-else-t-lt-MAX_VARIABLES : goal.returns-else-t-lt-MAX_VARIABLES
-returns-else-t-lt-MAX_VARIABLES c =
+pub returns-then-t-lt-MAX_VARIABLES-clause-room : goal.returns-then-t-lt-MAX_VARIABLES-clause-room
+returns-then-t-lt-MAX_VARIABLES-clause-room c =
+    row-new _ (variable_row_of c.args.x) _ _ c.in_default.ensures (omega arith) (omega (arith, holds-count variable_row variable-laws 16 _ _ c.requires, c.if-t-lt-MAX_VARIABLES.true))
+
+pub returns-clause-holds : goal.returns-clause-holds
+returns-clause-holds c =
     assigned-not _ _ _ _ c.requires c.in_default.ensures (omega (arith, holds-count variable_row variable-laws 16 _ _ c.requires, c.if-t-lt-MAX_VARIABLES.false))
+
+pub returns-clause-room : goal.returns-clause-room
+returns-clause-room c =
+    row-none _ (variable_row_of c.args.x) _ _ c.in_default.ensures (omega arith) (omega (arith, holds-count variable_row variable-laws 16 _ _ c.requires, c.if-t-lt-MAX_VARIABLES.false))

@@ -1,6 +1,8 @@
 -- `store::set::put_new` meets its contract. Assumes nothing.
+use native.Mathlib.Omega.{arith}
+use Rattle.rows.proofs.Writing.{one_set}
 use Rattle.store.proofs.New.{new-put}
 use Rattle.store.proofs.set.put_new.Goals as goal
 
 pub returns : goal.returns
-returns c = new-put _ _ _ _ _ c.told-store c.clear.ensures c.put.ensures c.put-2.ensures
+returns c = new-put _ _ _ _ _ c.told-store c.clear.ensures c.put.ensures (one_set _ _ _ (omega (arith, c.put.auto.s, c.clear.auto.s, c.told-store)))

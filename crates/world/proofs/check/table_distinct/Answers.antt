@@ -2,5 +2,5 @@
 use Rattle.world.proofs.Counts.{start_word}
 use Rattle.world.proofs.check.table_distinct.Goals as goal
 
-pub overflow_cast-start : goal.overflow_cast-start
-overflow_cast-start c = record { fits = rw c.start.ensures.0 (start_word c.args.s.now c.requires c.args.t) }
+pub overflow_cast-rows : goal.overflow_cast-rows
+overflow_cast-rows c = record { fits = rw c.start.ensures.0 (start_word c.args.s.now c.requires c.args.t) }

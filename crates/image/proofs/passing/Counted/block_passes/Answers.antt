@@ -4,4 +4,6 @@ use Rattle.image.proofs.passing.Counted.block_passes.Goals as goal
 
 pub returns : goal.returns
 returns c =
-    block-both c.args.self.now.words.now c.args.i c.args.at c.requires.0 c.within-actions.result (rw (← c.size.ensures) c.within-actions.ensures)
+    let a = c.args in
+    let e = c.words-w.ensures.0 in
+    rw e (block-both a.self.now.image.now a.i a.at c.requires.0 c.within-actions.result (rw (← c.size.ensures, ← e) c.within-actions.ensures))

@@ -11,4 +11,5 @@ pub returns : goal.returns
 returns c =
     let a = c.args in
     let l : length c.row_of-row.result ≡ 5 = omega arith in
-    c.row_passes.ensures ∙ kind-both a.self.now.words.now a.i (number_of a.t) a.at c.requires.le_t.0 c.requires.le_t.1 c.requires.at_value.0 _ c.row_of-row.ensures l _ c.last_kind.ensures
+    let e = c.words-w.ensures.0 in
+    c.row_passes.ensures ∙ kind-both a.self.now.image.now a.i (number_of a.t) a.at c.requires.le_t.0 c.requires.le_t.1 c.requires.at_value.0 _ (rw e at c.row_of-row.ensures) l _ (rw e at c.last_kind.ensures)

@@ -1,12 +1,13 @@
 -- `image::passing::Counted::row_passes` meets its contract. Assumes nothing.
 use mathlib.Core.Path.{◌≡◌}
-use Prim.Native.Nat.{ℕ, ◌<◌}
+use Prim.Native.Nat.{ℕ, ◌+◌, ◌<◌}
 use native.Mathlib.Omega.{arith}
 use lib.ListN.{length, get_or}
 use Rattle.model.specs.declared.Field.TheVariants.{Free}
 use Rattle.model.specs.Rows.{void}
 use Rattle.fields.proofs.Padded.{get_d_any}
 use Rattle.image.specs.Passing.{row_both}
+use Rattle.image.proofs.OnePass.{zero-is}
 use Rattle.image.proofs.passing.Counted.row_passes.Goals as goal
 
 pub returns : goal.returns
@@ -15,4 +16,5 @@ returns c =
     let r = c.args.row.now in
     let l : length r ≡ 5 = omega arith in
     let d : (j : ℕ) → j < 5 → get_or r j Free ≡ get_or r j void = λ j h. get_d_any r j Free void (omega (arith, l, h)) in
-    rw (c.field_passes-e.ensures, c.field_passes-d.ensures, c.field_passes-c.ensures, c.field_passes-b.ensures, c.field_passes-a.ensures, d 0 (omega arith), d 1 (omega arith), d 2 (omega arith), d 3 (omega arith), d 4 (omega arith))
+    let e = c.words-w.ensures.0 in
+    rw (c.field_passes-e.ensures, c.field_passes-d.ensures, c.field_passes-c.ensures, c.field_passes-b.ensures, c.field_passes-a.ensures, d 0 (omega arith), d 1 (omega arith), d 2 (omega arith), d 3 (omega arith), d 4 (omega arith), e, zero-is (get_or c.args.self.now.image.now (c.args.at + 6) 0), zero-is (get_or c.args.self.now.image.now (c.args.at + 7) 0))

@@ -4,4 +4,6 @@ use Rattle.image.proofs.passing.Counted.rule_passes.Goals as goal
 
 pub returns : goal.returns
 returns c =
-    rule-both c.args.self.now.words.now c.args.i c.args.at c.requires.0 _ _ _ (rw (← c.size.ensures) c.within-triggers.ensures) (rw (← c.size-2.ensures) c.within-conditions.ensures) (rw (← c.size-3.ensures) c.within-actions.ensures)
+    let a = c.args in
+    let e = c.words-w.ensures.0 in
+    rw e (rule-both a.self.now.image.now a.i a.at c.requires.0 _ _ _ (rw (← c.size.ensures, ← e) c.within-triggers.ensures) (rw (← c.size-2.ensures, ← e) c.within-conditions.ensures) (rw (← c.size-3.ensures, ← e) c.within-actions.ensures))

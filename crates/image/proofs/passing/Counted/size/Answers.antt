@@ -6,4 +6,4 @@ use Rattle.image.proofs.passing.Counted.size.Goals as goal
 pub returns : goal.returns
 returns c =
     let s = c.args.self.now in
-    search (rules, size-at s.words.now s.sizes c.args.t s.sizes_are)
+    search (rules, size-at s.image.now s.sizes c.args.t s.sizes_are)

@@ -11,14 +11,14 @@ use Rattle.image.proofs.passing.Counted.table_passes.Goals as goal
 
 pub all-requires-clause-callable : goal.all-requires-clause-callable
 all-requires-clause-callable c =
-    let s = c.args.self.now.words.now in
+    let s = c.args.self.now.image.now in
     let t = number_of c.args.t in
-    let first = rw c.new-image.ensures at c.start_of-first.ensures in
-    let n = rw c.new-image.ensures at c.size_of.ensures in
+    let first = c.start_of-first.ensures in
+    let n = c.size_of.ensures in
     serves_from_Range (λ x q k. search rules) (λ x lo hi. (λ κs r g e m l u v. search rules, λ κs r g e m l u v. search rules, λ κs r g e m l u v z. (place s t x _ _ first c.width-width.ensures.0, inside s c.requires t x _ _ _ (numbered c.args.t) first c.width-width.ensures.0 n hi)))
 
 pub returns : goal.returns
 unfolding table_both
 returns c =
-    let n = rw c.new-image.ensures at c.size_of.ensures in
+    let n = c.size_of.ensures in
     rw (← n) (computes-every _ _ _ _ _ _ c.all.ensures.ran refl (λ x b q k. search rules))

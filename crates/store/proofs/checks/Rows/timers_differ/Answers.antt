@@ -4,4 +4,4 @@ use Rattle.store.proofs.Rules.{timers-differ}
 use Rattle.store.proofs.checks.Rows.timers_differ.Goals as goal
 
 pub returns : goal.returns
-returns c = c.distinct.ensures ∙ timers-differ _ _ _
+returns c = c.names_differ.ensures ∙ timers-differ _ _ _

@@ -4,4 +4,4 @@ use Rattle.store.proofs.Rules.{variables-differ}
 use Rattle.store.proofs.checks.Rows.variables_differ.Goals as goal
 
 pub returns : goal.returns
-returns c = c.distinct.ensures ∙ variables-differ _ _ _
+returns c = c.names_differ.ensures ∙ variables-differ _ _ _

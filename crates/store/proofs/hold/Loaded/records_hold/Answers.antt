@@ -4,11 +4,11 @@ use Rattle.store.proofs.SetRules.{records-are}
 use Rattle.store.proofs.hold.Loaded.records_hold.Goals as goal
 
 pub records_fit-requires : goal.records_fit-requires
-records_fit-requires c = (c.args.self.now.accepted, rw c.rows.ensures.words c.requires.flat)
+records_fit-requires c = (c.args.self.now.accepted, rw c.counted.ensures.words c.requires.flat)
 
 pub returns : goal.returns
 returns c =
-    let r = c.rows in
+    let r = c.counted in
     let img = c.args.self.now.image.now in
     let set = set_of img (flatten_rules img) in
     records-are c.args.self.now.store.words.now set r.result.n _ r.ensures.size

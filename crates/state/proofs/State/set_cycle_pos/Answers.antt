@@ -1,0 +1,10 @@
+-- `state::State::set_cycle_pos` meets its contract. Assumes nothing.
+use Rattle.state.proofs.KeptForRules.{position-laid}
+use Rattle.state.proofs.Follows.{means}
+use Rattle.state.proofs.State.set_cycle_pos.Goals as goal
+
+pub returns : goal.returns
+returns c = rw (← c.self.view_is) (means (position-laid _ c.self.invariant _ _ c.args.x c.put_kept.ensures.words c.put_kept.ensures.laid))
+
+pub invariant_of-self : goal.invariant_of-self
+invariant_of-self c = (position-laid _ c.self.invariant _ _ c.args.x c.put_kept.ensures.words c.put_kept.ensures.laid).sound
