@@ -2,13 +2,15 @@
 // leads into a table of the image, and a nested list is its first record and its count.
 // One file, though it has more than 400 lines: the specification names each type by `model::specs::declared`, and a module would stand in each of those names.
 
-// What a word of a record may be: document 01, refusals 13, 14 and 21.
 #![tactic(auto)]
 
 ghost use Rattle.std.specs.Prelude.{◌≡◌};
 ghost use Rattle.model.specs.Kinds.{trigger_number};
 ghost use Rattle.model.specs.Refusals.{refusal_code, refusal_number};
 
+// What a word of a record may be: document 01, refusals 13, 14 and 21.
+// kept: a table is a number here. Images and snapshots have an enum of their tables each, `image::layout::Table` and `world::table::Table`; this type is of the
+// fields of both, and stands below either.
 #[derive(Clone, Copy)]
 pub enum Field {
     // Any word.
@@ -56,6 +58,9 @@ pub enum VarConstant {
 // Action kinds 0 to 22: the arms of `run_prim` and its callees; and kind 28, which stands with the lights. A `hold` is None where the rule's stands
 // for it, a scene where it cannot be told.
 // kept: `present` and `retain` are words and no bools, and so is what a `hold` holds: an effect carries them on as they are.
+// kept: no struct of adapter, address and instance, nor of adapter and id, here and in `Condition` and `Reading`, as it would be no plainer: an effect carries these
+// words on one by one, and the functions of world that search with them take them one by one, as the Rust's do. A struct would be put together
+// in image and taken apart in eval and exec, and nothing would be said once that is said twice now.
 #[derive(Clone, Copy)]
 pub enum Action {
     Light {
