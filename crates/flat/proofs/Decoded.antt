@@ -125,6 +125,11 @@ found-near part own p (Some x) f e =
     let q = near-at (steps_in w) p.place x (f.near p.list) e in
     (omega (arith, q.0, list-few part own p.list, f.few, steps-count w), q.1)
 
+-- the same of a list and a place that are the point's
+pub near-there : (part : List ℕ) (own : ℕ) (p : Point) (o : Option Step) (list place : ℕ) → NearLists part own → list ≡ p.list → place ≡ p.place
+    → o ≡ slice_get (steps_in (list_words part own list)) place → IsNear p o
+near-there part own p o list place near l k e = found-near part own p o near (rw (l, k) at e)
+
 -- the step of the rule
 pub is-step : (part : List ℕ) (own : ℕ) (p : Point) (e : Env) (j : actions.Job) → Says part own (get_or e.set.flat j.index []) → step_in part own p ≡ step_at e.set j.index p
 unfolding step_at

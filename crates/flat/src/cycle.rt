@@ -15,7 +15,6 @@ ghost use Rattle.model.specs.Flat.{flatten_call};
 ghost use Rattle.flat.specs.Outcome.{Start, Behind, action_in, list_at, action_at, form_at};
 ghost use Rattle.flat.specs.Flattens.{FlattensList, FlattensAct, SameLent};
 
-use crate::context::repeat_fails;
 use crate::records::{called_block, read_action};
 use crate::steps::{append_steps, copies, one_step, place, put, put_after};
 use crate::{Around, Bodies, Progress, Source};
@@ -28,8 +27,8 @@ pub fn flatten_list(
     list: &mut [u32],
     body: &mut [u32],
     bodies: &mut Bodies,
-    first: usize,
-    count: usize,
+    first: u32,
+    count: u32,
     at: Around,
     p: Progress,
 ) -> Result<Progress, Refusal>
@@ -39,7 +38,8 @@ pub fn flatten_list(
     ensures lent { SameLent bodies.old bodies.new }
 {
     let mut q = p;
-    for i in first..first + count {
+    let from = first as usize;
+    for i in from..from + count as usize {
         let full = 256 <= q.n;
         if full {
             return Ok(one_step(list, q, Step::Fail));
@@ -78,35 +78,13 @@ fn flatten_action(
             delay_ms,
             first,
             count,
-        } => flatten_after(
-            t,
-            list,
-            body,
-            bodies,
-            i,
-            delay_ms,
-            first as usize,
-            count as usize,
-            at,
-            p,
-        ),
+        } => flatten_after(t, list, body, bodies, i, delay_ms, first, count, at, p),
         FlowAction::Call { block } => { flatten_call(t, list, body, bodies, i, block, at, p) }
         FlowAction::Repeat {
             times,
             first,
             count,
-        } => flatten_repeat(
-            t,
-            list,
-            body,
-            bodies,
-            i,
-            times,
-            first as usize,
-            count as usize,
-            at,
-            p,
-        ),
+        } => flatten_repeat(t, list, body, bodies, i, times, first, count, at, p),
         FlowAction::Conditional {
             condition,
             then_first,
@@ -114,18 +92,8 @@ fn flatten_action(
             else_first,
             else_count,
         } => flatten_branch(
-            t,
-            list,
-            body,
-            bodies,
-            i,
-            condition,
-            then_first as usize,
-            then_count as usize,
-            else_first as usize,
-            else_count as usize,
-            at,
-            p,
+            t, list, body, bodies, i, condition, then_first, then_count, else_first, else_count,
+            at, p,
         ),
         FlowAction::Plain => Ok(one_step(list, p, Step::Primitive(i as u32))),
     }
@@ -140,8 +108,8 @@ fn flatten_after(
     bodies: &mut Bodies,
     i: usize,
     ms: u32,
-    first: usize,
-    count: usize,
+    first: u32,
+    count: u32,
     at: Around,
     p: Progress,
 ) -> Result<Progress, Refusal>
@@ -200,16 +168,7 @@ fn flatten_call(
         depth: at.depth - 1,
         ..at
     };
-    flatten_list(
-        t,
-        list,
-        body,
-        bodies,
-        block.a as usize,
-        block.b as usize,
-        inside,
-        p,
-    )
+    flatten_list(t, list, body, bodies, block.a, block.b, inside, p)
 }
 
 // A repeat of record i: its body is flattened once, as a list of its own, at the place of its first copy. If that does not fit, neither
@@ -222,8 +181,8 @@ fn flatten_repeat(
     bodies: &mut Bodies,
     i: usize,
     times: u32,
-    first: usize,
-    count: usize,
+    first: u32,
+    count: u32,
     at: Around,
     p: Progress,
 ) -> Result<Progress, Refusal>
@@ -232,7 +191,7 @@ fn flatten_repeat(
     ensures out { FlattensAct (form_at t.now.acts.now t.now.blocks.now at.depth i (Repeat times first count) at.ctx p.n bodies.old.count) p bodies.old bodies.new list.old list.new result }
     ensures lent { SameLent bodies.old bodies.new }
 {
-    if repeat_fails(at.ctx, times) {
+    if at.repeat_fails(times) {
         return Ok(one_step(list, p, Step::Fail));
     }
     let inner = at.within_repeat();
@@ -268,10 +227,10 @@ fn flatten_branch(
     bodies: &mut Bodies,
     i: usize,
     condition: u32,
-    then_first: usize,
-    then_count: usize,
-    else_first: usize,
-    else_count: usize,
+    then_first: u32,
+    then_count: u32,
+    else_first: u32,
+    else_count: u32,
     at: Around,
     p: Progress,
 ) -> Result<Progress, Refusal>

@@ -81,8 +81,8 @@ fn find_called(acts: &[u32], blocks: &[u32], i: usize) -> Option<usize>
 }
 
 // Which block each action calls, looked up once for an image: 0 for none, k + 1 for block k. Tables of 4,096 words have no number above 512.
-// kept: a number, and no Option, as 512 of them stand on the stack: an Option<u16> takes twice the room, so 1,024 bytes more in each call that flattens, of
-// which `run` takes 24,024 where the limit is 24,576.
+// kept: a number, and no Option, as 512 of them stand on the stack, which firmware sets aside for good: an Option<u16> takes twice the room, so 1,024 bytes more in
+// each call that flattens, 5 in 100 of the 20,712 of a run.
 // kept: an index of both. Tried by `calls.iter_mut().zip(acts.chunks_exact(8))`: what the function ensures does not close, since nothing is known of the words that
 // come back from an adapter of `iter_mut`.
 pub fn find_calls(acts: &[u32], blocks: &[u32], calls: &mut [u16])
@@ -90,10 +90,7 @@ pub fn find_calls(acts: &[u32], blocks: &[u32], calls: &mut [u16])
     ensures { Resolved acts.now blocks.now calls.new (length acts.now / 8) }
 {
     for i in 0..acts.len() / 8 {
-        calls[i] = match find_called(acts, blocks, i) {
-            Some(k) => k as u16 + 1,
-            None => 0,
-        };
+        calls[i] = find_called(acts, blocks, i).map_or(0, |k| k as u16 + 1);
     }
 }
 
@@ -102,9 +99,6 @@ pub fn called_block(blocks: &[u32], calls: &[u16], i: usize) -> Option<Record>
     requires { (i < length calls.now) × (get_or calls.now i 0 ≤ length blocks.now / 8) }
     ensures { result ≡ block_at blocks.now (get_or calls.now i 0) }
 {
-    let k = calls[i] as usize;
-    if k == 0 {
-        return None;
-    }
-    Some(read_record(blocks, k - 1))
+    let k = calls[i].checked_sub(1)?;
+    Some(read_record(blocks, k as usize))
 }

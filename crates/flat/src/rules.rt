@@ -12,7 +12,16 @@ use crate::{Around, Bodies, Done, Made, Progress, Source};
 use image::layout::{Image, Table};
 use model::{FlattenCtx, Refusal};
 
+// The words of a list under way: no list passes 256 + 8 + 4 steps.
+const LIST_WORDS: usize = 268 * 4;
+
+// Refusal 16: "over 2,048 flat steps, or `flatten_action` taken over 65,536 times for all rules together".
+const MOST_STEPS: usize = 2048;
+
+const MOST_ACTIONS: usize = 65536;
+
 // The row of list k: where it begins, and how many steps it has; written if there is room.
+// kept: two words, and no `rows::row::Row`: this crate does not stand on `rows`, and store's `own_begin` says what a row of its own would need.
 fn put_list(lists: &mut [u32], k: usize, first: u32, size: u32)
     ensures { (k + 1) * 2 ≤ length lists.old →
         take ((k + 1) * 2) lists.new ≡ take (k * 2) lists.old ++ first ∷ size ∷ [] }
@@ -35,8 +44,8 @@ fn flatten_rule(
     requires in_bounds { (1072 ≤ length own.old) × (1072 ≤ length body.old) × (k < length t.now.rules.now / 16) × (left ≤ 65536) }
     ensures { RuleOut (rule_at t.now.acts.now t.now.blocks.now t.now.rules.now t.now.depth t.now.limit k) left same seen.now words.new result }
 {
-    let first = t.rules[k * 16 + 8] as usize;
-    let count = t.rules[k * 16 + 9] as usize;
+    let first = t.rules[k * 16 + 8];
+    let count = t.rules[k * 16 + 9];
     let at = Around {
         depth: t.depth,
         ctx: FlattenCtx {
@@ -67,6 +76,7 @@ fn flatten_rule(
 // kept: words, lists and seen go through three functions, each for itself: a struct of them would be made in two places, and hold the bound of words and of
 // seen, 8,192, which three functions ask for. But here each rule takes its part of words and of seen as a `Bodies`, and lists go elsewhere, so that the struct is
 // taken apart again.
+// kept: `own` and `body` beside them: they are lent to each rule anew, one as its list and one as the body (see cycle.rt).
 // kept: a loop over the numbers of the rules: k is also the row in `lists`, and the rule that `flatten_rule` says it flattens.
 fn flatten_each(
     t: &Source,
@@ -80,7 +90,7 @@ fn flatten_each(
     ensures { EachOut (flatten_tables t.now.acts.now t.now.blocks.now t.now.rules.now t.now.depth t.now.limit) seen.now words.new lists.new result }
 {
     let mut size: usize = 0;
-    let mut left: usize = 65536;
+    let mut left = MOST_ACTIONS;
     let mut same = true;
     for k in 0..t.rules.len() / 16 {
         let at = place(size, words.len());
@@ -100,8 +110,8 @@ fn flatten_each(
         left = p.left;
         same = p.same;
     }
-    // kept: a number compared with 2,048, and no library call: it is the limit of refusal 16, known only when all rules are flattened.
-    if 2048 < size {
+    // Known only when all rules are flattened.
+    if MOST_STEPS < size {
         return Err(Refusal::FlatSteps);
     }
     Ok(Made { size, same })
@@ -117,8 +127,8 @@ fn flatten_tables(
     requires words_len_bound { (length words.old ≤ 8192) × (length seen.now ≤ 8192) }
     ensures { Loading (flatten_tables t.now.acts.now t.now.blocks.now t.now.rules.now t.now.depth t.now.limit) seen.now words.new lists.new result }
 {
-    let mut own = [0u32; 1072];
-    let mut body = [0u32; 1072];
+    let mut own = [0u32; LIST_WORDS];
+    let mut body = [0u32; LIST_WORDS];
     let made = flatten_each(t, &mut own, &mut body, words, lists, seen)?;
     let end = place(made.size, words.len());
     words[end..].fill(0);

@@ -6,13 +6,13 @@ use native.Mathlib.Omega.{arith}
 use native.Mathlib.Decide.{dec_le}
 use lib.ListN.{length, set, length-set}
 use lib.Seq.{get_or-set_same, get_or-set_other}
-use Rattle.std.specs.Prelude.{Option, None, Some}
+use Rattle.std.specs.Prelude.{Option, None, Some, MatchOption}
 use Rattle.std.specs.Option.{option_map}
+use Rattle.std.proofs.Common.{rules}
 use Rattle.model.specs.declared.FlowAction.{FlowAction}
 use Rattle.model.specs.Rules.{record_in}
 use Rattle.flat.specs.Outcome.{action_in, block_at, called_in, Resolved}
 use Rattle.flat.proofs.records.find_calls.Goals as goal
-use Rattle.flat.proofs.records.find_calls.Goals.{in-Some, in-None}
 
 module _ (acts blocks calls : List ℕ) where
   none_yet : Resolved acts blocks calls 0
@@ -30,27 +30,19 @@ module _ (acts blocks calls : List ℕ) where
 pub loop-i-init : goal.loop-i-init
 loop-i-init c = let a = c.args in (refl, none_yet a.acts.now a.blocks.now a.calls.now)
 
-call_found : (blocks : List ℕ) (k : ℕ) (r : Option ℕ) (x : FlowAction) → r ≡ Some k → option_map (record_in blocks) r ≡ called_in blocks x
-    → block_at blocks (k + 1) ≡ called_in blocks x
+-- the number of the block that was found, or of none
+numbered : (blocks : List ℕ) (r : Option ℕ) (x : FlowAction) (n : ℕ) → MatchOption r (n ≡ 0) (λ k. n ≡ k + 1) → ((k : ℕ) → r ≡ Some k → k < length blocks / 8)
+    → option_map (record_in blocks) r ≡ called_in blocks x → (block_at blocks n ≡ called_in blocks x) × (n ≤ length blocks / 8)
 unfolding block_at
-call_found blocks k r x e h = let s : k + 1 ≡ suc k = omega arith in rw s (rw e at h)
-
-call_none : (blocks : List ℕ) (r : Option ℕ) (x : FlowAction) → r ≡ None → option_map (record_in blocks) r ≡ called_in blocks x → block_at blocks 0 ≡ called_in blocks x
-unfolding block_at
-call_none blocks r x e h = rw e at h
+numbered blocks None x n m b h = (rw m h, omega arith)
+numbered blocks (Some k) x n m b h = let s : n ≡ suc k = omega arith in (rw s h, omega (arith, b k refl))
 
 pub loop-i-preserved : goal.loop-i-preserved
 loop-i-preserved c =
     let a = c.args in
     let l = c.loop-i in
     let f = c.find_called in
-    let e = f.ensures.result_value in
-    let i-lt : l.i < length l.calls = omega (arith, l.invariant.0, c.requires, c.loop-i-test.true) in (
-      simp length-set l.invariant.0,
-      elim c.match-find_called.branch [
-        | in-Some w ↦
-            let k-lt = f.ensures.upper_bound _ w.in-Some.is in
-            rw w.calls-is (one_more a.acts.now a.blocks.now l.calls l.i _ l.invariant.1 i-lt (call_found a.blocks.now _ f.result _ w.in-Some.is e) (omega (arith, k-lt)))
-        | in-None w ↦ rw w.calls-is (one_more a.acts.now a.blocks.now l.calls l.i 0 l.invariant.1 i-lt (call_none a.blocks.now f.result _ w.in-None.is e) (omega arith))
-      ],
-    )
+    let i-lt : l.i < length l.calls = omega (arith, l.invariant.0, c.requires, c.loop-i-test.true) in
+    let said : MatchOption f.result (c.map_or.result ≡ 0) (λ (k : ℕ). c.map_or.result ≡ k + 1) = search rules in
+    let n = numbered a.blocks.now f.result _ c.map_or.result said f.ensures.upper_bound f.ensures.result_value in
+    (simp length-set l.invariant.0, one_more a.acts.now a.blocks.now l.calls l.i c.map_or.result l.invariant.1 i-lt n.0 n.1)

@@ -38,14 +38,14 @@ loop-k-preserved c =
           r.auto.words z p.auto.lists p.ensures),
     )
 
-pub returns-then-size-gt2048 : goal.returns-then-size-gt2048
-returns-then-size-gt2048 c =
+pub returns-then-size-gt-MOST_STEPS : goal.returns-then-size-gt-MOST_STEPS
+returns-then-size-gt-MOST_STEPS c =
     let a = c.args in
     let l = c.loop-k in
-    (refl, all-over a.t.now.acts.now a.t.now.blocks.now a.t.now.rules.now a.t.now.depth a.t.now.limit l.k l.auto.k-end c.loop-k-test.false a.seen.now (length a.words.now) (length a.lists.now) l.words l.lists l.size l.left l.same l.invariant.2 c.if-size-gt2048.true)
+    (refl, all-over a.t.now.acts.now a.t.now.blocks.now a.t.now.rules.now a.t.now.depth a.t.now.limit l.k l.auto.k-end c.loop-k-test.false a.seen.now (length a.words.now) (length a.lists.now) l.words l.lists l.size l.left l.same l.invariant.2 c.if-size-gt-MOST_STEPS.true)
 
 pub returns : goal.returns
 returns c =
     let a = c.args in
     let l = c.loop-k in
-    all-wrote a.t.now.acts.now a.t.now.blocks.now a.t.now.rules.now a.t.now.depth a.t.now.limit l.k l.auto.k-end c.loop-k-test.false a.seen.now (length a.words.now) (length a.lists.now) l.words l.lists l.size l.left l.same l.invariant.2 c.if-size-gt2048.false
+    all-wrote a.t.now.acts.now a.t.now.blocks.now a.t.now.rules.now a.t.now.depth a.t.now.limit l.k l.auto.k-end c.loop-k-test.false a.seen.now (length a.words.now) (length a.lists.now) l.words l.lists l.size l.left l.same l.invariant.2 c.if-size-gt-MOST_STEPS.false
