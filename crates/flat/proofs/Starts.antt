@@ -8,6 +8,7 @@ use lib.ListN.{length, get_or}
 use Rattle.model.specs.declared.FlattenCtx.{FlattenCtx}
 use Rattle.model.specs.declared.FlowAction.TheVariants.{Call}
 use Rattle.model.specs.Flat.{within_after, within_repeat, within_conditional, block_named}
+use Rattle.flat.specs.declared.Source.{Source}
 use Rattle.flat.specs.Outcome.{Tables, Start, Resolved, action_in, block_at, called_in}
 
 -- what each function of the cycle goes by: what it requires, and what is known of the tables
@@ -22,13 +23,13 @@ pub record Begun (acts blocks calls : List ℕ) (scratch d : ℕ) (ctx : Flatten
   pub listed_le : n ≤ 4294967295
   pub stored-le : m + 257 * allowed ≤ 4294967295
 
-pub begun : {acts blocks calls : List ℕ} {scratch d : ℕ} {c : FlattenCtx} {n m a : ℕ} → Tables acts blocks → Resolved acts blocks calls (length acts / 8)
-    → length acts / 8 ≤ length calls → Start scratch d c n m a → Begun acts blocks calls scratch d c n m a
-begun t r l s =
+-- the tables are those of what is flattened
+pub begun : (t : Source) {scratch d : ℕ} {c : FlattenCtx} {n m a : ℕ} → Start scratch d c n m a → Begun t.acts.now t.blocks.now t.calls.now scratch d c n m a
+begun t s =
     record {
-      tables = t;
-      resolved = r;
-      calls-long = l;
+      tables = t.checked.tables;
+      resolved = t.resolved;
+      calls-long = t.calls_len;
       depth_le = s.depth_le;
       room = s.room;
       limit-lt = s.limit-lt;

@@ -118,16 +118,16 @@ abbrev pub told : ℕ → Bool → Result Progress Refusal → Result Done Refus
 told m same (Err refusal) = Err refusal
 told m same (Ok p) = Ok (record { n = p.n; m = m; left = p.left; same = same })
 
-abbrev pub Outcome : ℕ → ℕ → Flattened → ℕ → ℕ → ℕ → Bool → List ℕ → List ℕ → List ℕ → List ℕ → List ℕ → Result Done Refusal → Type 0
-Outcome e e' f n m allowed same seen list bodies list' bodies' (Err refusal) = (refusal ≡ FlatSteps) × (allowed < f.taken)
-Outcome e e' f n m allowed same seen list bodies list' bodies' (Ok p) = Wrote e e' f n m allowed same seen list bodies list' bodies' p.n p.m p.left p.same
+abbrev pub FlattensTo : ℕ → ℕ → Flattened → ℕ → ℕ → ℕ → Bool → List ℕ → List ℕ → List ℕ → List ℕ → List ℕ → Result Done Refusal → Type 0
+FlattensTo e e' f n m allowed same seen list bodies list' bodies' (Err refusal) = (refusal ≡ FlatSteps) × (allowed < f.taken)
+FlattensTo e e' f n m allowed same seen list bodies list' bodies' (Ok p) = Wrote e e' f n m allowed same seen list bodies list' bodies' p.n p.m p.left p.same
 
 -- of a list, and of an action, which has been counted by the list around it
 abbrev pub ListOut : Flattened → ℕ → ℕ → ℕ → Bool → List ℕ → List ℕ → List ℕ → List ℕ → List ℕ → Result Done Refusal → Type 0
-ListOut = Outcome 1 0
+ListOut = FlattensTo 1 0
 
 abbrev pub ActOut : Flattened → ℕ → ℕ → ℕ → Bool → List ℕ → List ℕ → List ℕ → List ℕ → List ℕ → Result Done Refusal → Type 0
-ActOut = Outcome 257 257
+ActOut = FlattensTo 257 257
 
 -- the copies of a repeat's body, whose first copy stands behind the n steps that `list` has
 pub record Copied (b : Flattened) (times n : ℕ) (list after : List ℕ) (n' : ℕ) : Type 0 where
