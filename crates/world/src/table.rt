@@ -1,7 +1,12 @@
 // Where the words of a snapshot stand: 14 words before the rows, then the rows of five tables.
 ghost use Rattle.std.specs.Prelude.{◌≡◌, ◌+◌, ◌*◌, ◌<◌, ◌≤◌, ◌^◌};
-ghost use Rattle.model.specs.Snapshot.{row_width, key_of, count_of, start_of, cell_at};
+ghost use Rattle.model.specs.Snapshot.{row_width, key_of, count_of, start_of};
 ghost use Rattle.world.specs.Tables.{number};
+
+use fields::Records;
+
+// The words before the rows.
+pub const HEAD: usize = 14;
 
 #[derive(Clone, Copy)]
 pub enum Table {
@@ -64,12 +69,12 @@ impl Table {
     pub fn start(self, s: &[u32]) -> usize
         ensures { (result ≡ start_of s.now (number self)) × (result < 2 ^ 37) }
     {
-        let groups = 14 + Table::Lamps.length(s);
+        let groups = HEAD + Table::Lamps.length(s);
         let devices = groups + Table::Groups.length(s);
         let inputs = devices + Table::Devices.length(s);
         let hcl = inputs + Table::Inputs.length(s);
         match self {
-            Table::Lamps => 14,
+            Table::Lamps => HEAD,
             Table::Groups => groups,
             Table::Devices => devices,
             Table::Inputs => inputs,
@@ -77,13 +82,17 @@ impl Table {
         }
     }
 
-    // Word j of row i; 0 past the end of the snapshot.
-    #[tactic(auto, unfolding(model::specs::Snapshot::cell_at))]
-    pub fn cell(self, s: &[u32], i: u32, j: u32) -> u32
-        ensures { result ≡ cell_at s.now (number self) i j }
+    // Its rows: words past the end of the snapshot are 0.
+    pub fn rows(self, s: &[u32]) -> Records<'_>
+        ensures words { result.words.now ≡ s.now }
+        ensures start { result.start ≡ start_of s.now (number self) }
+        ensures width { result.width ≡ row_width (number self) }
     {
-        let row = self.start(s) + self.width() as usize * i as usize;
-        fields::word(s, row + j as usize)
+        Records {
+            words: s,
+            start: self.start(s),
+            width: self.width(),
+        }
     }
 }
 

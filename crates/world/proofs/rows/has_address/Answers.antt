@@ -5,4 +5,4 @@ use Rattle.fields.proofs.Chains.{computes-every}
 use Rattle.world.proofs.rows.has_address.Goals as goal
 
 pub returns : goal.returns
-returns c = rw (← c.key.ensures.0) (computes-every _ _ _ _ _ _ c.all.ensures.ran refl (λ x b q k. search rules))
+returns c = computes-every _ _ _ _ _ _ c.all.ensures.ran refl (λ x b q k. search rules)
