@@ -55,10 +55,6 @@ module _ (text : List ℕ) (call : Call) (ps : List Param) (four rest : List ℕ
     here : (ws : List (List ℕ)) → numbers_from call (drop i ps) (take i four) ws ≡ numbers_from call (get_or ps i d ∷ drop (suc i) ps) (take i four) ws
     here ws = ap (λ qs. numbers_from call qs (take i four) ws) (drop-cons ps i d h)
 
-    pub numbers-stop : (w : Wrong) → ((qs : List Param) (ns : List ℕ) → numbers_from call (get_or ps i d ∷ qs) ns (words_of rest) ≡ Err w)
-        → numbers_from call ps [] (words_of text) ≡ Err w
-    numbers-stop w f = n.takes ∙ (here (words_of rest) ∙ f (drop (suc i) ps) (take i four))
-
     pub numbers_more : (v : ℕ) (rest' : List ℕ) → TakesNumber rest call (get_or ps i d) v rest' → i < 4 → Numbering text call ps (set four i v) rest' (i + 1)
     unfolding past_words
     numbers_more v rest' t k =
@@ -74,9 +70,6 @@ pub record Filled (whole rest : Listed) (before after : List ℕ) (n : ℕ) : Ty
   pub words : whole.words ≡ take n after ++ rest.words
   pub wrong : whole.wrong ≡ rest.wrong
   pub kept : drop n after ≡ drop n before
-
-pub none_filled : (l : Listed) (xs : List ℕ) → Filled l l xs xs 0
-none_filled l xs = record { words = refl; wrong = refl; kept = refl }
 
 module _ (text : List ℕ) (call : Call) (n room : ℕ) where
   pub list-end : words_of text ≡ [] → list_from call room n (words_of text) ≡ stopped None
@@ -192,13 +185,13 @@ module _ (row : Row) (room : ℕ) (call : Call) (text : List ℕ) where
           go (Some v) m f = let z : ◌≡◌ {A = ℕ} 0 1 = cc in absurd (omega arith)
 
 -- BEHIND THE NAME ------------------------------------------------------------------------------------------------------------------------
+behind : (text rest : List ℕ) → rest ≡ past_words 1 text → EndOf text rest
+behind text rest r = rw r (end-words 1 text)
+
+pub rest_within : (text rest : List ℕ) → rest ≡ past_words 1 text → length rest ≤ length text
+rest_within text rest r = let e = behind text rest r in omega (arith, ap length e.whole ∙ length-append e.front rest)
+
 module _ (row : Row) (line text rest : List ℕ) (t : text ≡ uncommented line) (r : rest ≡ past_words 1 text) where
-  e : EndOf text rest
-  e = rw r (end-words 1 text)
-
-  pub rest-within : length rest ≤ length text
-  rest-within = omega (arith, ap length e.whole ∙ length-append e.front rest)
-
   pub no_text : (x : Tail) → row.tail ≡ x → (x ≡ Text → ⊥) → rest ≡ behind_name row line
   unfolding behind_name
   no_text Nothing h n = rw (h, ← t, append-nil) r
@@ -208,6 +201,7 @@ module _ (row : Row) (line text rest : List ℕ) (t : text ≡ uncommented line)
   pub to_end : row.tail ≡ Text → take (length line - (length text - length rest)) (drop (length text - length rest) line) ≡ behind_name row line
   unfolding behind_name
   to_end h =
+      let e = behind text rest r in
       let k = length text - length rest in
       let c = drop (length (uncommented line)) line in
       let f : length e.front ≡ k = omega (arith, ap length e.whole ∙ length-append e.front rest) in

@@ -1,12 +1,18 @@
 // The table of calls: the rows of the definition.
 ghost use Rattle.std.specs.Prelude.{◌≡◌, ◌≤◌, Some, length};
-ghost use Rattle.std.specs.List.{find};
 ghost use Rattle.std.specs.Str.{bytes_eq};
 ghost use Rattle.script.specs.Table.{rows, param_name, most_of};
 ghost use Rattle.script.specs.Script.{call_named};
 ghost use Rattle.script.specs.Print.{call_name};
 
 use std::fmt;
+
+// The words that a script can have lent for outcomes and for effects, and the words of a list.
+pub const OUTCOME_WORDS: usize = 24576;
+
+pub const EFFECT_WORDS: usize = 327680;
+
+pub const LIST_WORDS: usize = 8192;
 
 #[derive(Clone, Copy, PartialEq, Eq)]
 pub enum Call {
@@ -61,6 +67,7 @@ struct Shape {
 }
 
 impl Shape {
+    // kept: the struct's own literal, as it would be no plainer: with the names of its fields a row of the table would be four lines.
     fn new(name: &'static str, params: &'static [Param], tail: Tail) -> Self
         ensures name { result.name.now ≡ name.now }
         ensures params { result.params.now ≡ params.now }
@@ -146,17 +153,12 @@ impl Call {
     }
 
     // The call of a name.
+    #[tactic(auto, unfolding(crate::specs::Script::call_named, crate::specs::Table::calls))]
     pub fn named(word: &[u8]) -> Option<Call>
         ensures { result ≡ call_named rows word.now }
     {
-        first_named(&CALLS, word)
+        CALLS.iter().copied().find(|call| call.is_named(word))
     }
-}
-
-fn first_named(calls: &[Call], word: &[u8]) -> Option<Call>
-    ensures { result ≡ find (λ c. bytes_eq (rows c).name word.now) calls.now }
-{
-    calls.iter().copied().find(|call| call.is_named(word))
 }
 
 impl fmt::Display for Call {
@@ -195,10 +197,10 @@ impl Param {
             Param::Time => u64::MAX,
             Param::Rule | Param::WordCount | Param::Word | Param::Sunday => u32::MAX as u64,
             Param::Mark | Param::DryMark => 1,
-            Param::OutcomeWords => 24576,
-            Param::EffectWords => 327680,
+            Param::OutcomeWords => OUTCOME_WORDS as u64,
+            Param::EffectWords => EFFECT_WORDS as u64,
             Param::Place => 16383,
-            Param::Room => 8192,
+            Param::Room => LIST_WORDS as u64,
             Param::TriggerWords => 16384,
         }
     }

@@ -39,5 +39,6 @@ pub fn parse(line: &[u8], list: &mut [u32]) -> Result<Option<Command>, Wrong>
         return Ok(None);
     };
     let call = Call::named(name).ok_or(Wrong::NoSuchCall)?;
-    read::call_of(read::behind_name(line, text, rest, call), call, list)
+    let said = read::behind_name(line, text, rest, call);
+    Ok(Some(read::call_of(said, call, list)?))
 }

@@ -1,5 +1,5 @@
 // A line's call is read from its words, one after the other.
-ghost use Rattle.std.specs.Prelude.{◌≡◌, length};
+ghost use Rattle.std.specs.Prelude.{◌≡◌, Ok, Err, Some, MatchResult, length};
 ghost use Rattle.words.specs.Saturating.{max32};
 ghost use Rattle.decimal.specs.Numbers.{argument_of};
 ghost use Rattle.script.specs.Words.{words_of, uncommented, past_words};
@@ -68,8 +68,8 @@ fn items(text: &[u8], call: Call, list: &mut [u32]) -> Result<usize, Wrong>
 }
 
 // The numbers and what stands behind them, from the bytes behind a call's name.
-pub fn call_of(text: &[u8], call: Call, list: &mut [u32]) -> Result<Option<Command>, Wrong>
-    ensures { Parses (parse_call (rows call) (length list.old) call text.now) list.old list.new result }
+pub fn call_of(text: &[u8], call: Call, list: &mut [u32]) -> Result<Command, Wrong>
+    ensures { MatchResult result (λ c. Parses (parse_call (rows call) (length list.old) call text.now) list.old list.new (Ok (Some c))) (λ w. Parses (parse_call (rows call) (length list.old) call text.now) list.old list.new (Err w)) }
 {
     let (numbers, rest) = numbers(text, call)?;
     let command = Command {
@@ -80,22 +80,23 @@ pub fn call_of(text: &[u8], call: Call, list: &mut [u32]) -> Result<Option<Comma
     };
     match call.tail() {
         Tail::Nothing => match scan::next_word(rest) {
-            None => Ok(Some(command)),
+            None => Ok(command),
             Some(_) => Err(Wrong::TooManyWords { call }),
         },
         Tail::Words => {
             let words = items(rest, call, list)?;
-            Ok(Some(Command { words, ..command }))
+            Ok(Command { words, ..command })
         }
         Tail::Text => {
             // It begins behind one blank.
             let bytes = rest.len().saturating_sub(1);
-            Ok(Some(Command { bytes, ..command }))
+            Ok(Command { bytes, ..command })
         }
     }
 }
 
 // What stands behind a call's name: `rest`, which ends the text of the line, or the bytes from there to the end of the line if the call takes a text.
+#[tactic(auto, using(crate::proofs::Reading::rest_within, crate::proofs::Reading::no_text, crate::proofs::Reading::to_end))]
 pub fn behind_name<'a>(line: &'a [u8], text: &[u8], rest: &'a [u8], call: Call) -> &'a [u8]
     requires text { text.now ≡ uncommented line.now }
     requires rest { rest.now ≡ past_words 1 text.now }

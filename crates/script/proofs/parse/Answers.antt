@@ -10,8 +10,8 @@ use Rattle.script.proofs.parse.Goals as goal
 pub returns-in_default-clause-parses : goal.returns-in_default-clause-parses
 returns-in_default-clause-parses c = blank _ _ _ c.uncommented-text.ensures c.in_default.ensures _
 
-pub behind_name-requires-clause-rest : goal.behind_name-requires-clause-rest
-behind_name-requires-clause-rest c = one_word 0 c.args.line.now _ c.uncommented-text.ensures _ _ c.in-Some.ensures
+pub behind_name-said-requires-clause-rest : goal.behind_name-said-requires-clause-rest
+behind_name-said-requires-clause-rest c = one_word 0 c.args.line.now _ c.uncommented-text.ensures _ _ c.in-Some.ensures
 
 pub returns-in_err-call-clause-parses : goal.returns-in_err-call-clause-parses
 returns-in_err-call-clause-parses c =
@@ -20,8 +20,14 @@ returns-in_err-call-clause-parses c =
     let n : None ≡ call_named rows c.in-Some.name.now = grind arith in
     rw (p.1, p.2, w) (unknown-call _ _ _ c.uncommented-text.ensures _ _ c.in-Some.ensures n _)
 
+pub returns-in_err-call_of-clause-parses : goal.returns-in_err-call_of-clause-parses
+returns-in_err-call_of-clause-parses c =
+    let n : Some c.in_ok-call.call ≡ call_named rows c.in-Some.name.now = grind arith in
+    let p = err_from_is_err_and c.from_residual-in_err-call_of.result c.from_residual-in_err-call_of.ensures.1 in
+    rw (p.1, p.2) (known-call _ _ _ c.uncommented-text.ensures _ _ c.in-Some.ensures _ n _ c.behind_name-said.ensures _ _ _ c.in_err-call_of.ensures)
+
 pub returns : goal.returns
 returns c =
     let n : Some c.in_ok-call.call ≡ call_named rows c.in-Some.name.now = grind arith in
-    let p = known-call _ _ _ c.uncommented-text.ensures _ _ c.in-Some.ensures _ n _ c.behind_name.ensures _ _ _ c.call_of.ensures in
+    let p = known-call _ _ _ c.uncommented-text.ensures _ _ c.in-Some.ensures _ n _ c.behind_name-said.ensures _ _ _ c.in_ok-call_of.ensures in
     record { parses = p; finds = line_finds _ _ _ _ _ c.call_of.auto.list p }

@@ -1,7 +1,6 @@
 -- `script::read::numbers` meets its contract. Assumes nothing.
 use Rattle.std.proofs.Common.{rules, arith}
-use Rattle.std.proofs.lemmas.Result.{err_from_is_err_and}
-use Rattle.script.proofs.Reading.{none-numbered, numbers-end, numbers-stop, numbers_more}
+use Rattle.script.proofs.Reading.{none-numbered, numbers-end, numbers_more}
 use Rattle.script.proofs.read.numbers.Goals as goal
 
 pub loop-i-init : goal.loop-i-init
@@ -10,12 +9,6 @@ loop-i-init c = none-numbered _ _ _
 pub loop-i-preserved : goal.loop-i-preserved
 loop-i-preserved c =
     numbers_more _ _ c.params-param-items.result.now _ _ _ c.loop-i.invariant (search rules) _ c.loop-i-test.true _ _ c.in_ok-numbers.ensures (search rules)
-
-pub returns-in_err-numbers : goal.returns-in_err-numbers
-returns-in_err-numbers c =
-    let p = err_from_is_err_and c.from_residual.result c.from_residual.ensures.1 in
-    rw (p.1, p.2, ← c.params-param-items.ensures.params)
-    (numbers-stop _ _ c.params-param-items.result.now _ _ _ c.loop-i.invariant (search rules) _ c.loop-i-test.true _ c.in_err-numbers.ensures)
 
 pub returns : goal.returns
 returns c =
