@@ -11,8 +11,8 @@ use image::layout::Table;
 use image::record::condition_of;
 use model::Condition;
 
-// One arm for each kind.
-// kept: each arm hands on the fields of its own variant, of other numbers and types, which functions of one type in a table could not take
+// One arm for each kind, so that it is longer than 40 lines.
+// kept: each arm hands on the fields of its own variant, of other numbers and types, which functions of one type in a table could not take.
 pub fn eval_condition(env: &Env, condition: Condition) -> Option<bool>
     ensures { Evaluates env.now condition result }
 {
@@ -52,18 +52,16 @@ pub fn eval_condition(env: &Env, condition: Condition) -> Option<bool>
             above,
             threshold,
         } => input_light_is(env, adapter, address, instance, above, threshold),
-        Condition::HclState { target, state } => hcl_state(env.snapshot, target, state),
-        Condition::DeviceOnline { adapter, address } => device_online(
-            env.snapshot,
-            adapter,
-            address,
-        ),
-        Condition::RuleEnabled { rule } => rule_enabled(env, rule),
-        Condition::LastFiredOlderThan { rule, than_ms } => last_fired_older_than(
-            env, rule, than_ms,
-        ),
-        Condition::TimerRunning { timer } => timer_running(env, timer),
-        Condition::ControllerActive => controller_active(env.snapshot),
+        Condition::HclState { target, state } => Some(hcl_state(env.snapshot, target, state)),
+        Condition::DeviceOnline { adapter, address } => {
+            Some(device_online(env.snapshot, adapter, address))
+        }
+        Condition::RuleEnabled { rule } => Some(rule_enabled(env, rule)),
+        Condition::LastFiredOlderThan { rule, than_ms } => {
+            Some(last_fired_older_than(env, rule, than_ms))
+        }
+        Condition::TimerRunning { timer } => Some(timer_running(env, timer)),
+        Condition::ControllerActive => Some(controller_active(env.snapshot)),
         Condition::VarCompare { name, cmp, operand } => compare_var(env, name, cmp, operand),
     }
 }
@@ -77,6 +75,7 @@ pub fn condition_at(env: &Env, i: u32) -> Option<bool>
 }
 
 // The conditions of a rule: the first that does not hold decides.
+// kept: no chain, as it would be no plainer: three ways lead out of a turn, and a `try_fold` would have to carry which one was taken.
 #[tactic(auto, using(crate::proofs::Holding::starts))]
 pub fn conditions_hold(env: &Env, rule: u32) -> Option<bool>
     ensures { RuleHolds env.now rule result }

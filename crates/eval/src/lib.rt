@@ -13,6 +13,8 @@ use image::layout::Image;
 use state::State;
 
 // What conditions and values are evaluated in: the words of the snapshot, those of the image, and the state.
+// kept: functions take it first, and it has no methods, as these would be no plainer: half of the kinds of conditions read the snapshot alone, and are functions of
+// it, beside which the others stand in one match.
 #[derive(Clone, Copy)]
 pub struct Env<'a> {
     pub snapshot: &'a [u32],

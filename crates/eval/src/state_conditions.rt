@@ -1,5 +1,5 @@
 // The conditions on what the store keeps: rules, timers and variables.
-ghost use Rattle.std.specs.Prelude.{◌≡◌};
+ghost use Rattle.std.specs.Prelude.{◌≡◌, Some};
 ghost use Rattle.model.specs.declared.Condition.TheVariants as condition;
 ghost use Rattle.eval.specs.Equals.{Evaluates};
 
@@ -10,31 +10,32 @@ use model::{Cmp, VarOperand, VarValue};
 
 // False for a rule that is not loaded.
 #[tactic(auto, unfolding(model::specs::Eval::eval_condition))]
-pub fn rule_enabled(env: &Env, rule: u32) -> Option<bool>
-    ensures { Evaluates env.now (condition.RuleEnabled rule) result }
+pub fn rule_enabled(env: &Env, rule: u32) -> bool
+    ensures { Evaluates env.now (condition.RuleEnabled rule) (Some result) }
 {
     let place = env.image.rule_named(rule);
-    Some(place.is_some_and(|i| env.state.is_enabled(i as usize)))
+    place.is_some_and(|i| env.state.is_enabled(i as usize))
 }
 
 // True for a rule that is not loaded, and for one that never fired.
 #[tactic(auto, unfolding(words::specs::Saturating::saturating_sub, model::specs::Eval::last_fired_older, model::specs::Eval::eval_condition))]
-pub fn last_fired_older_than(env: &Env, rule: u32, ms: u32) -> Option<bool>
-    ensures { Evaluates env.now (condition.LastFiredOlderThan rule ms) result }
+pub fn last_fired_older_than(env: &Env, rule: u32, ms: u32) -> bool
+    ensures { Evaluates env.now (condition.LastFiredOlderThan rule ms) (Some result) }
 {
     let Some(i) = env.image.rule_named(rule) else {
-        return Some(true);
+        return true;
     };
-    let last = env.state.last_activation(i as usize);
-    let now = world::now_ms(env.snapshot);
-    Some(last.is_none_or(|at| u64::from(ms) < now.saturating_sub(at)))
+    let Some(at) = env.state.last_activation(i as usize) else {
+        return true;
+    };
+    u64::from(ms) < world::now_ms(env.snapshot).saturating_sub(at)
 }
 
 #[tactic(auto, unfolding(model::specs::Eval::eval_condition))]
-pub fn timer_running(env: &Env, timer: u32) -> Option<bool>
-    ensures { Evaluates env.now (condition.TimerRunning timer) result }
+pub fn timer_running(env: &Env, timer: u32) -> bool
+    ensures { Evaluates env.now (condition.TimerRunning timer) (Some result) }
 {
-    Some(env.state.has_timer(timer))
+    env.state.has_timer(timer)
 }
 
 // An integer is compared with a value, a text with a text. Any other pairing differs, and so does a variable that is not there.

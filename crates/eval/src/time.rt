@@ -16,7 +16,7 @@ pub fn sun_is_up(snapshot: &[u32]) -> Option<bool>
 {
     let wall = world::wall(snapshot)?;
     let sun = world::sun(snapshot)?;
-    Some(sun.sunrise_min <= wall.minutes_of_day && wall.minutes_of_day < sun.sunset_min)
+    Some((sun.sunrise_min..sun.sunset_min).contains(&wall.minutes_of_day))
 }
 
 // Whether a weekday is in a set: bit d for weekday d.
@@ -33,7 +33,7 @@ pub fn minute_in_range(t: u64, start: u64, end: u64) -> bool
     ensures { result ≡ minute_in_range t start end }
 {
     if start <= end {
-        start <= t && t <= end
+        (start..=end).contains(&t)
     } else {
         start <= t || t <= end
     }

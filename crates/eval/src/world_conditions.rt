@@ -1,5 +1,5 @@
 // The conditions on the world, one function for each kind.
-ghost use Rattle.std.specs.Prelude.{◌≡◌};
+ghost use Rattle.std.specs.Prelude.{◌≡◌, Some};
 ghost use Rattle.model.specs.declared.Condition.TheVariants as condition;
 ghost use Rattle.eval.specs.Equals.{Decides, Evaluates, LevelIs};
 
@@ -68,7 +68,7 @@ pub fn lamp_level_is(env: &Env, adapter: u32, id: u32, cmp: Option<Cmp>, value: 
 pub fn lamp_cct_is(env: &Env, adapter: u32, id: u32, cmp: Option<Cmp>, value: u32) -> Option<bool>
     ensures { Evaluates env.now (condition.LampCct adapter id cmp value) result }
 {
-    let left = eval_reading(env, Reading::LampCct(adapter, id))?;
+    let left = eval_reading(env.snapshot, env.state, Reading::LampCct(adapter, id))?;
     let right = value_at(env, value)?;
     Some(compare_i64(cmp, left, right))
 }
@@ -111,34 +111,32 @@ pub fn input_light_is(
 ) -> Option<bool>
     ensures { Evaluates env.now (condition.InputLight adapter address instance above threshold) result }
 {
-    let left = eval_reading(env, Reading::InputLight(adapter, address, instance))?;
+    let reading = Reading::InputLight(adapter, address, instance);
+    let left = eval_reading(env.snapshot, env.state, reading)?;
     let bound = value_at(env, threshold)?;
     Some(if above { bound < left } else { left < bound })
 }
 
 #[tactic(auto, unfolding(model::specs::Eval::eval_condition))]
-pub fn hcl_state(snapshot: &[u32], target: u32, state: HclState) -> Option<bool>
-    ensures { Decides snapshot.now (condition.HclState target state) result }
+pub fn hcl_state(snapshot: &[u32], target: u32, state: HclState) -> bool
+    ensures { Decides snapshot.now (condition.HclState target state) (Some result) }
 {
-    let Some(hcl) = world::hcl_target(snapshot, target) else {
-        return Some(false);
-    };
-    Some(match state {
+    world::hcl_target(snapshot, target).is_some_and(|hcl| match state {
         HclState::Enabled => hcl.enabled,
         HclState::Overridden => hcl.overridden,
     })
 }
 
 #[tactic(auto, unfolding(model::specs::Eval::eval_condition))]
-pub fn device_online(snapshot: &[u32], adapter: u32, address: u32) -> Option<bool>
-    ensures { Decides snapshot.now (condition.DeviceOnline adapter address) result }
+pub fn device_online(snapshot: &[u32], adapter: u32, address: u32) -> bool
+    ensures { Decides snapshot.now (condition.DeviceOnline adapter address) (Some result) }
 {
-    Some(world::device(snapshot, adapter, address).is_some_and(|device| device.online))
+    world::device(snapshot, adapter, address).is_some_and(|device| device.online)
 }
 
 #[tactic(auto, unfolding(model::specs::Eval::eval_condition))]
-pub fn controller_active(snapshot: &[u32]) -> Option<bool>
-    ensures { Decides snapshot.now condition.ControllerActive result }
+pub fn controller_active(snapshot: &[u32]) -> bool
+    ensures { Decides snapshot.now condition.ControllerActive (Some result) }
 {
-    Some(world::controller_active(snapshot))
+    world::controller_active(snapshot)
 }

@@ -1,6 +1,6 @@
 -- How many minutes on a trigger is, and a rule by its triggers. Assumes nothing.
 use mathlib.Core.Path.{◌≡◌, refl, sym, ap, ◌∙◌}
-use mathlib.Core.Bool.{false}
+use mathlib.Core.Bool.{Bool, false, ◌&&◌}
 use mathlib.Core.List.{List, [], ◌∷◌, map}
 use Rattle.std.specs.Prelude.{Option, None, Some}
 use Rattle.std.specs.List.{reduce, filter_map, range_with_len}
@@ -69,7 +69,8 @@ module _ (sun : Option SunTimes) (t : ℕ) where
     pub off : (get_or bits i 0 ≡ 1 → ⊥) → None ≡ minutes_of
     unfolding starts_in
     off h =
-        let e : 10081 ≡ first_from (starts_in img (map is_one bits) sun t i) 1 10080 = never (starts_in img (map is_one bits) sun t i) 1 10080 (λ k. rw (bit_at bits i ∙ ne_eqb (get_or bits i 0) 1 h)) in
+        let bit = bit_at bits i ∙ ne_eqb (get_or bits i 0) 1 h in
+        let e : 10081 ≡ first_from (starts_in img (map is_one bits) sun t i) 1 10080 = never (starts_in img (map is_one bits) sun t i) 1 10080 (λ k. ap (λ (b : Bool). b && any (λ x. due_in sun t x k) (triggers_of img i)) bit) in
         sym (within-none 10081 (omega arith)) ∙ ap within e
 
     pub on :
@@ -83,4 +84,4 @@ module _ (sun : Option SunTimes) (t : ℕ) where
         ∙ least-first (due_in sun t) (triggers_of img i)
         ∙ ap within
         (same_first (λ m. any (λ x. due_in sun t x m) (triggers_of img i)) (starts_in img (map is_one bits) sun t i) 1 10080
-        (λ k. rw (bit_at bits i ∙ eq-eqb (get_or bits i 0) 1 h)))
+        (λ k. ap (λ (b : Bool). b && any (λ x. due_in sun t x k) (triggers_of img i)) (sym (bit_at bits i ∙ eq-eqb (get_or bits i 0) 1 h))))

@@ -42,7 +42,12 @@ struct Asked<'a> {
     ghost in_week: { t < 10080 },
 }
 
+// Minutes of a week and of a day.
 const WEEK: u32 = 10080;
+
+const DAY: u64 = 1440;
+
+const EVERY_DAY: u32 = 127;
 
 impl Asked<'_> {
     // To a minute of the week, at least 1 and at most a week.
@@ -50,7 +55,7 @@ impl Asked<'_> {
         ensures first { result ≡ first_from (λ m. eqb (target % 10080) ((self.now.t + m) % 10080)) 1 10080 }
         ensures in_week { result ≤ 10080 }
     {
-        let minute = (target % 10080) as u32;
+        let minute = (target % WEEK as u64) as u32;
         if self.t < minute {
             minute - self.t
         } else {
@@ -66,7 +71,7 @@ impl Asked<'_> {
         if !has_day(days, day) {
             return None;
         }
-        Some(self.minutes_to(day as u64 * 1440 + minute))
+        Some(self.minutes_to(day as u64 * DAY + minute))
     }
 
     // To a minute of these days.
@@ -83,7 +88,7 @@ impl Asked<'_> {
         ensures { result ≡ within (first_from (λ m. due_in self.now.sun self.now.t (trigger.AtSolar event offset_ms) m) 1 10080) }
     {
         let sun = self.sun?;
-        self.days_minutes(127, solar_minute(sun, event, offset_ms) as u64)
+        self.days_minutes(EVERY_DAY, solar_minute(sun, event, offset_ms) as u64)
     }
 
     fn trigger_minutes(&self, trigger: Trigger) -> Option<u32>
