@@ -5,7 +5,11 @@ use mathlib.Core.List.{List}
 use Prim.Native.Nat.{ℕ, zero, suc, ◌+◌, ◌-◌, ◌≤◌}
 use native.Mathlib.Omega.{arith}
 use lib.ListN.{length}
-use Rattle.model.specs.Image.{first_of, places_fit}
+use lib.Dec.{eqb}
+use borrow.Author.Tests.{eqb-true}
+use Rattle.model.proofs.Bools.{both}
+use Rattle.model.specs.Lists.{every}
+use Rattle.model.specs.Image.{first_of, place_fits, places_fit}
 use Rattle.model.proofs.ImageLaws.{table-follows, last-first}
 use Rattle.image.specs.declared.layout.Table.{Table}
 use Rattle.image.specs.Tables.{number_of}
@@ -17,6 +21,10 @@ module _ (img : List ℕ) (placed : places_fit img ≡ true) where
   ends (suc k) l =
       let e : 8 - suc k + 1 ≡ 8 - k = omega arith in
       omega (arith, rw e at (table-follows img placed (8 - suc k) (omega arith)), ends k (omega arith))
+
+  pub tables-begin : first_of img 0 ≡ 0
+  unfolding places_fit
+  tables-begin = eqb-true _ _ (both (eqb (first_of img 0) 0) (every 8 (place_fits img)) placed).0
 
   pub table-order : (t : Table) → first_of img (number_of t) ≤ first_of img (number_of t + 1)
   table-order t = table-follows img placed (number_of t) (numbered t)

@@ -11,4 +11,4 @@ returns c =
     let img = c.args.self.now in
     let d = c.new.ensures in
     let e = c.new-2.ensures in
-    rw (c.contains-budget_fits.ensures.value, c.contains-repeat_fits.ensures.value, d.start, d.end, d.exhausted, e.start, e.end, e.exhausted, c.budget.ensures, c.call_depth.ensures, c.repeat_limit.ensures, c.text_limit.ensures, c.group_limit.ensures, le-is 1 (budget img), le-is 1 (repeat_limit img), le-is (budget img) 256, le-is (repeat_limit img) 255, leb-zero (call_depth img), leb-zero (text_limit img), leb-zero (group_limit img))
+    rw (c.contains.ensures.value, c.contains-2.ensures.value, d.start, d.end, d.exhausted, e.start, e.end, e.exhausted, c.budget.ensures, c.call_depth.ensures, c.repeat_limit.ensures, c.text_limit.ensures, c.group_limit.ensures, le-is 1 (budget img), le-is 1 (repeat_limit img), le-is (budget img) 256, le-is (repeat_limit img) 255, leb-zero (call_depth img), leb-zero (text_limit img), leb-zero (group_limit img))

@@ -1,4 +1,4 @@
--- `image::passing::tables_pass` meets its contract. Assumes nothing.
+-- `image::passing::tables_both` meets its contract. Assumes nothing.
 use mathlib.Core.Path.{◌∙◌}
 use borrow.Author.Rules.{rules}
 use Rattle.std.proofs.lemmas.Iterator.{YieldsList-from_slice}
@@ -7,7 +7,7 @@ use Rattle.image.specs.Passing.{table_both}
 use Rattle.image.specs.Tables.{number_of}
 use Rattle.image.proofs.EachTable.{tables, each}
 use Rattle.image.proofs.OnePass.{tables-split}
-use Rattle.image.proofs.passing.tables_pass.Goals as goal
+use Rattle.image.proofs.passing.tables_both.Goals as goal
 
 pub returns : goal.returns
 returns c =
