@@ -1,8 +1,10 @@
 -- Two lists of slots compared. Assumes nothing.
-use Rattle.std.proofs.Common.{◌≡◌, refl, ap, Bool, true, false, ◌&&◌, List, [], ◌∷◌, suc, eqb, length, arith}
+use Rattle.std.proofs.Common.{◌≡◌, refl, ap, Bool, true, false, ◌&&◌, List, [], ◌∷◌, ℕ, suc, eqb, length, arith}
+use Rattle.std.specs.Prelude.{Option, None, Some}
 use Rattle.std.specs.List.{list_all, zip}
+use Rattle.std.specs.Option.{MatchOption}
 use mathlib.Core.Bool.{and-false}
-use Rattle.model.specs.Slots.{same_slot}
+use Rattle.model.specs.Slots.{same_slot, due_or}
 use Rattle.model.specs.Store.{same_slots}
 use Rattle.model.specs.declared.EverySlot.{EverySlot}
 
@@ -29,3 +31,8 @@ other_length [] (y ∷ ys) h = refl
 other_length (x ∷ xs) [] h = refl
 other_length (x ∷ xs) (y ∷ ys) h =
     rw (other_length xs ys (λ e. h (ap suc e)), and-false (eqb x.period y.period), and-false (eqb x.place y.place), and-false (eqb x.rule y.rule))
+
+-- the due time of a slot that is found, or another time
+pub answered : {Q : EverySlot → Type 0} (fresh r : ℕ) (o : Option EverySlot) → MatchOption o (r ≡ fresh) Q → ((x : EverySlot) → Q x → r ≡ x.due) → r ≡ due_or fresh o
+answered fresh r None h due = h
+answered fresh r (Some x) h due = due x h

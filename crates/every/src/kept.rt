@@ -40,10 +40,10 @@ impl Key {
 pub fn due_of(slots: &Slots, key: Key, fresh: u64) -> u64
     ensures { result ≡ due_or fresh (find (same_slot key.rule key.place key.period) slots.now) }
 {
-    match slots.iter().find(|x| key.is_of(*x)) {
-        Some(x) => x.due,
-        None => fresh,
-    }
+    slots
+        .iter()
+        .find(|x| key.is_of(*x))
+        .map_or(fresh, |x| x.due)
 }
 
 // Whether these are the others, whatever their due times.

@@ -20,7 +20,8 @@ use model::{EverySlot, Trigger};
 use state::State;
 use state::place::{PENDING, SLOTS};
 
-// What slots are built from: an image of at most as many as there is room for, the slots before it, and the time.
+// What slots are built from: an image of at most as many as there is room for, the slots before it, and the time. All of it is read; the table that the slots join
+// is written, so it stands beside.
 #[derive(Clone, Copy)]
 struct Rebuild<'a> {
     image: &'a Image<'a>,
@@ -108,6 +109,5 @@ pub fn same_slots(slots: &Slots, image: &Image) -> bool
         time: 0,
     }
     .join_all(&mut rebuilt);
-    let count = rebuilt[0] as usize;
-    same(slots, &Slots::new(&rebuilt, 1, count))
+    same(slots, &Slots::counted(&rebuilt, 0))
 }

@@ -121,13 +121,14 @@ pending-is w k s d r p b t n es ed er ep eb et en =
     at i j e = ap (λ (m : ℕ). drop m w) e
 
 -- a variable: a text is its number alone
-module _ (w : List ℕ) (k n t v : ℕ) (p : n ≡ row_at any w k) (q : t ≡ row_at any w (k + 1)) (r : v ≡ row_at wide w (k + 2)) where
-  row_is : (n, (t, v)) ≡ row_at variable_row w k
-  row_is = pair_is w any (bit ⊗ wide) k (k + 1) n (t, v) refl p (pair_is w bit wide (k + 1) (k + 2) t v (omega arith) (unfold row_at in q) r)
+module _ (w : List ℕ) (k n : ℕ) (t : Bool) (v : ℕ) (p : n ≡ row_at any w k) (q : t ≡ row_at bool_row w (k + 1)) (r : v ≡ row_at wide w (k + 2)) where
+  row_is : (n, (row_at any w (k + 1), v)) ≡ row_at variable_row w k
+  row_is = pair_is w any (bit ⊗ wide) k (k + 1) n (row_at any w (k + 1), v) refl p (pair_is w bit wide (k + 1) (k + 2) (row_at any w (k + 1)) v (omega arith) (unfold row_at in refl) r)
 
-  pub variable-is : (x : VarValue) → x ≡ cond (is_one t) (Text (low_of v)) (Int v) → record { name = n; value = x } ≡ row_at variable_code_row w k
+  pub variable-is : (x : VarValue) → x ≡ cond t (Text (low_of v)) (Int v) → record { name = n; value = x } ≡ row_at variable_code_row w k
   unfolding row_at
-  variable-is x e = ap (λ (y : VarValue). record { name = n; value = y }) e ∙ ap short_variable_of row_is
+  variable-is x e =
+      ap (λ (y : VarValue). record { name = n; value = y }) (e ∙ ap (λ (b : Bool). cond b (Text (low_of v)) (Int v)) q) ∙ ap short_variable_of row_is
 
 -- where texts are numbers of one word, it is what the words say
 pub short-is : (r : ℕ × (ℕ × ℕ)) → text_short r ≡ true → short_variable_of r ≡ variable_of r

@@ -22,9 +22,9 @@ impl Row for Variable {
 
     fn at(s: &[u32], k: usize) -> Variable {
         let name = u32::at(s, k);
-        let tag = u32::at(s, k + 1);
+        let is_text = bool::at(s, k + 1);
         let bits = u64::at(s, k + 2);
-        let value = if tag == 1 {
+        let value = if is_text {
             VarValue::Text(words::low_word(bits))
         } else {
             VarValue::Int(bits)
@@ -36,11 +36,11 @@ impl Row for Variable {
         self.name.put(s, k);
         match self.value {
             VarValue::Int(bits) => {
-                0u32.put(s, k + 1);
+                false.put(s, k + 1);
                 bits.put(s, k + 2);
             }
             VarValue::Text(text) => {
-                1u32.put(s, k + 1);
+                true.put(s, k + 1);
                 (text as u64).put(s, k + 2);
             }
         }

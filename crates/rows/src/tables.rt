@@ -1,5 +1,5 @@
 // Tables of rows.
-ghost use Rattle.std.specs.Prelude.{◌≡◌, ◌≤◌, ◌<◌, ◌+◌, ◌*◌, ◌^◌, length};
+ghost use Rattle.std.specs.Prelude.{◌≡◌, ◌≤◌, ◌<◌, ◌+◌, ◌*◌, ◌^◌, length, get_or};
 ghost use Rattle.std.specs.Iterator.{YieldsFirst, item_count};
 ghost use Rattle.rows.specs.Places.{table_at};
 
@@ -40,6 +40,14 @@ impl<'a, T: Row> Rows<'a, T> {
         }
     }
 
+    // Those of a table: its count stands at k, and they stand behind it.
+    pub fn counted(words: &'a [u32], k: usize) -> Rows<'a, T>
+        requires { k < length words.now }
+        ensures { result ≡ table_at T.codec (get_or words.now k 0) words.now (k + 1) }
+    {
+        Rows::new(words, k + 1, words[k] as usize)
+    }
+
     // The same rows, for a loop or a chain over them.
     pub fn iter(&self) -> Rows<'a, T>
         ensures { result ≡ self.now }
@@ -78,7 +86,8 @@ impl<'a, T: Row> Iterator for Rows<'a, T> {
 }
 
 // The n rows that stand from k on.
-// kept: a loop that pushes: the library's `collect` into an `ArrayVec` takes an allocator, and answers a Result, as more rows could come than it holds.
+// kept: a loop that pushes: the library's `collect` into an `ArrayVec` takes an allocator, and answers a Result, as more rows could come than it holds; and by
+// their places, since `Rows` asks that they end below 2^64, where these may end at it.
 pub fn table_at<T: Row + Default, const N: usize>(s: &[u32], k: usize, n: usize) -> ArrayVec<T, N>
     requires { (n ≤ N) × (k + n * T.WORDS ≤ 2 ^ 64) }
     ensures { result.items ≡ table_at T.codec n s.now k }

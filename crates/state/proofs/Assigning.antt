@@ -1,5 +1,5 @@
 -- The records of a call get their numbers. Assumes nothing.
-use Prim.Native.Nat.{ℕ, zero, suc, ◌+◌, ◌-◌, ◌*◌, ◌≤◌, ◌<◌}
+use Prim.Native.Nat.{ℕ, zero, suc, ◌+◌, ◌-◌, ◌*◌, ◌^◌, ◌≤◌, ◌<◌}
 use native.Mathlib.Nat.{add-zero}
 use native.Mathlib.Numerals.{add-one}
 use native.Mathlib.Omega.{arith}
@@ -147,6 +147,10 @@ module _ (next stored : ℕ) (t₀ : List ℕ) (start : Counted 32 pending_row t
         let l₀ : take n (get t₀) ≡ get t₀ = take_all n (get t₀) (omega (arith, v.numbering.long)) in
         subst (Holds 32 pending_row t) (sym l ∙ e ∙ ap (numbered next stored) l₀) v.counted
 
+below-more : (a b : ℕ) (ps : List Pending) → a ≤ b → Below a ps → Below b ps
+below-more a b [] h x = tt
+below-more a b (p ∷ ps) h x = (omega (arith, x.0), below-more a b ps h x.1)
+
 -- ---- the words of a state
 module _ (w : List ℕ) (s : Sound w) (next acc : ℕ) (n : next ≡ row_at wide w (place_of next_part)) (a : acc ≡ row_at wide w (place_of accepted_part)) where
   abbrev lent : List ℕ
@@ -155,9 +159,13 @@ module _ (w : List ℕ) (s : Sound w) (next acc : ℕ) (n : next ≡ row_at wide
   pub next_small : leb (meaning w).next max64 ≡ true → next + acc ≤ max64
   next_small h = leb-true (next + acc) max64 (ap (λ (x : ℕ). leb x max64) (next-sum w acc next a n) ∙ h)
 
-  pub offsets-small : Below acc (drop (get_or w (place_of stored_part) 0) ((most 32 pending_row).get lent))
+  offsets-below : Below acc (drop (get_or w (place_of stored_part) 0) ((most 32 pending_row).get lent))
   unfolding records accepted
-  offsets-small = rw (a, accepted-at w, stored_at w s, records-are w s) s.parts.offsets
+  offsets-below = rw (a, accepted-at w, stored_at w s, records-are w s) s.parts.offsets
+
+  -- no number that is given wraps
+  pub offsets-small : leb (meaning w).next max64 ≡ true → Below (2 ^ 64 - next) (drop (get_or w (place_of stored_part) 0) ((most 32 pending_row).get lent))
+  offsets-small h = below-more acc (2 ^ 64 - next) _ (omega (arith, next_small h)) offsets-below
 
   module _ (fits : leb (meaning w).next max64 ≡ true) (last_Fits : (meaning w).last_number ≤ max64) (p w₁ w₂ w₃ w₄ : List ℕ) (count : ℕ)
       (h : Holds 32 pending_row p (numbered next (get_or w (place_of stored_part) 0) ((most 32 pending_row).get lent))) (e₁ : w₁ ≡ put_mid (place_of pending_part) (words_in pending_part) w p) where

@@ -350,6 +350,11 @@ records-read w s all n e =
     let few : length (records w) ≤ stored_in (cut part_sizes w) = omega (arith, all, records-count w s, part_at pending_part (omega arith) w 0 (omega arith)) in
     rows_same n (drop (place_of pending_part + 1) w) ∙ read ∙ sym (numbered-all (base_in (cut part_sizes w)) (stored_in (cut part_sizes w)) (records w) few)
 
+-- those that are counted in the words are those of the words
+pub rows-counted : (w : List ℕ) → table_at parts.pending_row (get_or w (place_of pending_part) 0) w (place_of pending_part + 1) ≡ records_at (pending_count w) w
+unfolding records_at pending_count
+rows-counted w = ap (λ (n : ℕ). table_at parts.pending_row n w (place_of pending_part + 1)) (sym (part_at pending_part (omega arith) w 0 (omega arith)))
+
 -- their numbers do not change their times
 times-offset : (b : ℕ) (ps : List Pending) → due_times (map (offset_from b) ps) ≡ due_times ps
 times-offset b [] = refl

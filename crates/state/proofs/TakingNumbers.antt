@@ -1,13 +1,15 @@
 -- The numbers of activations. Assumes nothing.
-use mathlib.Core.Path.{◌≡◌, refl, sym, ap, ◌∙◌}
+use mathlib.Core.Path.{◌≡◌, refl, sym, ap, subst, ◌∙◌}
 use mathlib.Core.Logic.{inl, inr}
 use mathlib.Core.Bool.{Bool, true, false}
 use mathlib.Core.List.{List}
-use Prim.Native.Nat.{ℕ, suc, ◌+◌, ◌≤◌, ◌<◌}
+use Prim.Native.Nat.{ℕ, suc, ◌+◌, ◌^◌, ◌≤◌, ◌<◌}
 use native.Mathlib.Omega.{arith}
-use lib.Dec.{leb, eqb}
+use lib.Dec.{leb, ltb, eqb}
 use lib.ListN.{drop}
-use borrow.Author.Tests.{ltb-true, le-leb, lt-leb, eqb-true, eqb-false}
+use borrow.Author.Tests.{ltb-true, ltb-false, le-leb, lt-leb, eqb-true, eqb-false}
+use Rattle.std.specs.Prelude.{Option, None, Some}
+use Rattle.std.specs.Option.{SomeIff}
 use Rattle.words.specs.Saturating.{saturating_add, max64}
 use Rattle.model.specs.Activate.{with_number}
 use Rattle.model.specs.Codec.{wide}
@@ -21,6 +23,17 @@ use Rattle.state.specs.Cuts.{cut}
 use Rattle.state.specs.Meaning.{part_sizes, last_part, beyond_part, place_of, part, meaning_of, base_in, last_in, beyond_in, OnlyBeyond, meaning, base, Sound, MeansSoundly}
 use Rattle.state.proofs.Frame.{shaped, Changed, changed-laid, across, sound-by, part-is}
 use Rattle.state.proofs.Records.{both_words, wide_fits}
+
+-- the sum of a number and one, where it is one of 64 bits
+pub one-more : (last number : ℕ) (o : Option ℕ) → o ≡ Some number → SomeIff o (last + 1 < 2 ^ 64) (last + 1) → (last < max64) × (number ≡ last + 1)
+one-more last number o is h = let k = subst (λ (p : Option ℕ). SomeIff p (last + 1 < 2 ^ 64) (last + 1)) is h in (omega (arith, k.0), k.1)
+
+pub no-more : (last : ℕ) (o : Option ℕ) → o ≡ None → SomeIff o (last + 1 < 2 ^ 64) (last + 1) → max64 ≤ last
+no-more last o is h = go (ltb (last + 1) (2 ^ 64)) refl
+  where
+    go : (t : Bool) → ltb (last + 1) (2 ^ 64) ≡ t → max64 ≤ last
+    go true e = absurd (subst (λ (p : Option ℕ). SomeIff p (last + 1 < 2 ^ 64) (last + 1)) is h (ltb-true (last + 1) (2 ^ 64) e))
+    go false e = let k = ltb-false (last + 1) (2 ^ 64) e in omega arith
 
 last-at : (w : List ℕ) → row_at wide w (place_of last_part) ≡ last_in (cut part_sizes w)
 unfolding row_at
@@ -67,7 +80,7 @@ module _ (w : List ℕ) (s : Sound w) where
     abbrev taken : ℕ → model.Volatile
     taken n = with_number n (meaning w)
 
-    -- below 2^64 - 1
+    -- below 2^64 - 1, and the number behind it
     whole : last < max64 → beyond_in (cut part_sizes w) ≡ 0
     whole h = by s.parts.beyond
       where
@@ -75,11 +88,11 @@ module _ (w : List ℕ) (s : Sound w) where
         by (inl z) = z
         by (inr f) = absurd (omega (arith, a ∙ last-at w, f))
 
-    pub next-below : last < max64 → last + 1 ≡ next_number (meaning w).last_number
+    pub next-below : (number : ℕ) → (last < max64) × (number ≡ last + 1) → number ≡ next_number (meaning w).last_number
     unfolding saturating_add
-    next-below h = omega (arith, a ∙ last-at w, last-is w, whole h)
+    next-below number h = omega (arith, h.1, a ∙ last-at w, last-is w, whole h.0)
 
-    pub takes-last : last < max64 → (w' : List ℕ) → w' ≡ laid w (place_of last_part) (wide.put (last + 1)) → MeansSoundly w' (base w) (with_number (suc (meaning w).last_number) (meaning w))
+    takes-last : last < max64 → (w' : List ℕ) → w' ≡ laid w (place_of last_part) (wide.put (last + 1)) → MeansSoundly w' (base w) (with_number (suc (meaning w).last_number) (meaning w))
     unfolding cut meaning base
     takes-last h w' e =
         let q = wide_fits (last + 1) (omega arith) in
@@ -90,6 +103,9 @@ module _ (w : List ℕ) (s : Sound w) where
         record { says = ap meaning_of c.cuts ∙ ap taken n; sound = sound-by w w' last_part (wide.put (last + 1)) c (o.0, o.1, o.2, o.3, o.4, o.5, inl (whole h)); based = ap base_in c.cuts }
 
     -- behind it
+    pub takes-number : (number : ℕ) → (last < max64) × (number ≡ last + 1) → (w' : List ℕ) → w' ≡ laid w (place_of last_part) (wide.put number) → MeansSoundly w' (base w) (with_number (suc (meaning w).last_number) (meaning w))
+    takes-number number h w' e = takes-last h.0 w' (e ∙ ap (λ (n : ℕ). laid w (place_of last_part) (wide.put n)) h.1)
+
     pub next-beyond : max64 ≤ last → max64 ≡ next_number (meaning w).last_number
     unfolding saturating_add
     next-beyond h = omega (arith, a ∙ last-at w, last-is w)

@@ -15,9 +15,6 @@ use Rattle.state.specs.Meaning.{rules_of}
 abbrev pub timer_has_name : ℕ → NamedTimer → Bool
 timer_has_name name t = eqb t.name name
 
-abbrev pub timer_has_other : ℕ → NamedTimer → Bool
-timer_has_other name t = not (eqb t.name name)
-
 abbrev pub timer_due : ℕ → NamedTimer → Bool
 timer_due now t = leb t.due now
 
@@ -58,7 +55,7 @@ abbrev pub no_row : ℕ → List (ℕ × (ℕ × ℕ)) → Bool
 no_row name l = not (present (find (has_name name) l)) && leb 16 (length l)
 
 unfoldable pub assign_row : ℕ → ℕ × (ℕ × ℕ) → List (ℕ × (ℕ × ℕ)) → List (ℕ × (ℕ × ℕ))
-assign_row name x l = cond (not (present (find (has_name name) l)) && leb 16 (length l)) l (put_row name x l)
+assign_row name x l = cond (no_row name l) l (put_row name x l)
 
 -- what a part with an option for each rule, of n words and a mark, says of rule i; and the words that say it otherwise
 unfoldable pub kept_for : {A : Type 0} → Row A → ℕ → List ℕ → ℕ → ℕ → Option A

@@ -1,5 +1,5 @@
 -- The continuations: what the contracts on them cite.
-use Rattle.std.specs.Prelude.{ℕ, suc, ◌+◌, ◌≡◌, Bool, not, List, [], ◌∷◌, ◌++◌, map, leb, eqb, length}
+use Rattle.std.specs.Prelude.{ℕ, suc, ◌+◌, ◌≡◌, Bool, not, List, [], ◌∷◌, ◌++◌, map, leb, length}
 use Rattle.model.specs.Actions.{Job}
 use Rattle.model.specs.Exec as model
 use Rattle.model.specs.Lists.{keep}
@@ -7,9 +7,6 @@ use Rattle.model.specs.State.{Env, Volatile, bump_by, continuations_dropped}
 use Rattle.model.specs.declared.Pending.{Pending}
 use Rattle.model.specs.declared.Point.{Point}
 use Rattle.state.specs.Meaning.{Means, MeansSoundly, meaning, base, offset_from, pending_row}
-
-abbrev pub of_other_rule : ℕ → Pending → Bool
-of_other_rule rule c = not (eqb c.rule rule)
 
 abbrev pub later_than : ℕ → Pending → Bool
 later_than now c = not (leb c.due now)

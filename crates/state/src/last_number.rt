@@ -14,10 +14,9 @@ impl State {
         requires { (meaning self.old).last_number < max64 + max64 }
         ensures { Means self.new (base self.old) (with_number (suc (meaning self.old).last_number) (meaning self.old)) × (result ≡ next_number (meaning self.old).last_number) }
     {
-        let last = u64::at(&self.words, place::LAST);
-        if last < u64::MAX {
-            (last + 1).put(&mut self.words, place::LAST);
-            return last + 1;
+        if let Some(number) = u64::at(&self.words, place::LAST).checked_add(1) {
+            number.put(&mut self.words, place::LAST);
+            return number;
         }
         let beyond = u64::at(&self.words, place::BEYOND);
         (beyond + 1).put(&mut self.words, place::BEYOND);

@@ -56,7 +56,8 @@ impl Model for State {
     ghost invariant = { λ s. Sound s.words };
 }
 
-// kept: document 01 wants the counters as one record, lent to a thin `bump`: so this reads each field by its name, and `put_counters` writes it.
+// kept: document 01 wants the counters as one record, lent to a thin `bump`: so this reads each field by its name, and `put_counters` writes it. No `Row`: the
+// specification's counters are a list of words, so that the record would stand in a codec which only these two and their callers could use.
 fn counters_at(s: &[u32], k: usize) -> Counters
     requires { k ≤ 16384 }
     ensures { counters_of result ≡ table_at any 12 s.now k }

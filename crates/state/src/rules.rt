@@ -45,10 +45,7 @@ impl State {
     pub fn is_enabled(&self, i: usize) -> bool
         ensures { result ≡ is_enabled (meaning self.now).rest i }
     {
-        if i < rule_count(&self.words) {
-            return bool::at(&self.words, place::BITS + i);
-        }
-        false
+        i < rule_count(&self.words) && bool::at(&self.words, place::BITS + i)
     }
 
     // The bit alone: `set_enabled` strikes the continuations too.

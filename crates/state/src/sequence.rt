@@ -1,5 +1,5 @@
 // The sequence numbers at the end of a call.
-ghost use Rattle.std.specs.Prelude.{true, ◌≡◌, ◌+◌, ◌≤◌, leb, get_or, drop};
+ghost use Rattle.std.specs.Prelude.{true, ◌≡◌, ◌-◌, ◌≤◌, ◌^◌, leb, get_or, drop};
 ghost use Rattle.words.specs.Saturating.{max64};
 ghost use Rattle.model.specs.Codec.{most};
 ghost use Rattle.state.specs.Meaning.{Sound, AllNumbered, Holds, Counted, Below, meaning, numbered, pending_row};
@@ -10,9 +10,9 @@ use rows::row::Row;
 
 // Each record behind the stored ones gets the number at its offset.
 // kept: not one map with `slots::move_all`: this adds to two words of the rows behind the stored ones, that writes whole slots, all of them. One map
-// would take the first row, the width, the word and a closure, where these are two loops of three lines.
-fn number_all(t: &mut [u32], stored: usize, next: u64, accepted: u64)
-    requires { Counted 32 pending_row t.old × (stored ≤ get_or t.old 0 0) × (next + accepted ≤ max64) × Below accepted (drop stored ((most 32 pending_row).get t.old)) }
+// would take the first row, the width, the word and a closure, where these are two loops of three lines. Nor `chunks_exact_mut`, for the reason given there.
+fn number_all(t: &mut [u32], stored: usize, next: u64)
+    requires { Counted 32 pending_row t.old × (stored ≤ get_or t.old 0 0) × Below (2 ^ 64 - next) (drop stored ((most 32 pending_row).get t.old)) }
     ensures { Holds 32 pending_row t.new (numbered next stored ((most 32 pending_row).get t.old)) }
 {
     let n = t[0] as usize;
@@ -41,12 +41,7 @@ impl State {
         let next = u64::at(&self.words, place::NEXT);
         let accepted = u64::at(&self.words, place::ACCEPTED);
         let stored = self.words[place::STORED] as usize;
-        number_all(
-            &mut self.words[place::PENDING..place::WEEK],
-            stored,
-            next,
-            accepted,
-        );
+        number_all(&mut self.words[place::PENDING..place::WEEK], stored, next);
         self.words[place::STORED] = self.words[place::PENDING];
         (next + accepted).put(&mut self.words, place::NEXT);
         0u64.put(&mut self.words, place::ACCEPTED);

@@ -29,6 +29,9 @@ fn move_on(x: EverySlot, time: u64) -> EverySlot
     }
 }
 
+// Each due slot of a table is due again a period from now.
+// kept: by the rows' places. Tried by `t[1..].chunks_exact_mut(SLOT_WORDS).take(n)`: what the function ensures does not close, since of a slice whose chunks were
+// lent nothing is known afterwards but its length.
 fn move_all(t: &mut [u32], time: u64)
     requires { Counted 64 slot_row t.old }
     ensures { Holds 64 slot_row t.new (map (moved time) ((most 64 slot_row).get t.old)) }
@@ -54,11 +57,7 @@ impl State {
     pub fn slots(&self) -> Rows<'_, EverySlot>
         ensures { result ≡ (meaning self.now).rest.every }
     {
-        Rows::new(
-            &self.words,
-            place::SLOTS + 1,
-            self.words[place::SLOTS] as usize,
-        )
+        Rows::counted(&self.words, place::SLOTS)
     }
 
     // Each due slot is due again a period from now.

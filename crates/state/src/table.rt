@@ -7,8 +7,8 @@ use rows::put::clear;
 use rows::row::Row;
 
 // Row i.
-// kept: a view that knows `Fits` would be made, and ask it, where these functions are called: by `State::close_up_pending`, and at each turn of `close_up`,
-// whose rows move before the count is written. Those that ask it are this, `count_kept` and `move_row`.
+// kept: a struct of table and width that knows `Fits` would be made anew at each turn of `close_up`, whose rows move before the count is written: so the clause
+// stands with the three that ask it, this, `count_kept` and `move_row`.
 fn row_of(t: &[u32], width: usize, i: usize) -> &[u32]
     requires { Fits width t.now × (i < get_or t.now 0 0) }
     ensures is { result.now ≡ get_or (rows_in width t.now) i [] }

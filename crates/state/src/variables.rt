@@ -20,7 +20,7 @@ fn place_of(t: &[u32], name: u32) -> Option<usize>
     requires { Counted 16 variable_row t.now }
     ensures { Finds (has_name name) ((most 16 variable_row).get t.now) result }
 {
-    Rows::<Variable>::new(t, 1, t[0] as usize).position(|x| x.name == name)
+    Rows::<Variable>::counted(t, 0).position(|x| x.name == name)
 }
 
 // The variable of the name holds the value; a new one goes behind the others, where there is room. Whether it holds it.
@@ -45,11 +45,7 @@ impl State {
     fn variables(&self) -> Rows<'_, Variable>
         ensures { result ≡ (meaning self.now).rest.vars }
     {
-        Rows::new(
-            &self.words,
-            place::VARIABLES + 1,
-            self.words[place::VARIABLES] as usize,
-        )
+        Rows::counted(&self.words, place::VARIABLES)
     }
 
     // What the variable of the name holds.
@@ -60,7 +56,7 @@ impl State {
         Some(x.value)
     }
 
-    // The variable of the name holds the value, unless the name is new and 16 variables stand: whether it does.
+    // The variable of the name holds the value, unless the name is new and 16 variables stand: whether it does. A bool, since where it does not there is one cause.
     pub fn try_set_variable(&mut self, name: u32, value: VarValue) -> bool
         ensures means { Means self.new (base self.old) (assigned name value (meaning self.old)) }
         ensures room { result ≡ not (lacks_room name (meaning self.old)) }

@@ -9,4 +9,4 @@ join_all-requires c = blank
 
 pub returns : goal.returns
 returns c =
-    c.same.ensures ∙ rw (c.new.ensures, table_holds c.join_all.new.t _ _ c.join_all.ensures refl, c.new-none.ensures, no_table [] 0)
+    c.same.ensures ∙ rw (c.counted.ensures, table_holds c.join_all.new.t _ _ c.join_all.ensures refl, c.new-none.ensures, no_table [] 0)

@@ -12,7 +12,7 @@ pub number_all-requires : goal.number_all-requires
 number_all-requires c =
     let n = c.at-next.ensures in
     let a = c.at-accepted.ensures in
-    (records-lent _ c.self.invariant, stored-within _ c.self.invariant, next_small _ c.self.invariant _ _ n a (rw (← c.self.view_is) at c.requires.0), offsets-small _ c.self.invariant _ _ n a)
+    (records-lent _ c.self.invariant, stored-within _ c.self.invariant, offsets-small _ c.self.invariant _ _ n a (rw (← c.self.view_is) at c.requires.0))
 
 pub overflow_add-next : goal.overflow_add-next
 overflow_add-next c = omega (arith, next_small _ c.self.invariant _ _ c.at-next.ensures c.at-accepted.ensures (rw (← c.self.view_is) at c.requires.0))

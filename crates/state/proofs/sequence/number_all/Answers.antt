@@ -22,7 +22,7 @@ loop-i-init c = record {
 pub overflow_add-next : goal.overflow_add-next
 overflow_add-next c =
     let v = c.loop-i.invariant in
-    omega (arith, offset-small _ _ _ c.requires.0 _ _ _ v.numbers v.count _ v.start c.loop-i-test.true c.at-offset.ensures _ c.requires.3, c.requires.2)
+    omega (arith, offset-small _ _ _ c.requires.0 _ _ _ v.numbers v.count _ v.start c.loop-i-test.true c.at-offset.ensures _ c.requires.2)
 
 pub put-requires : goal.put-requires
 put-requires c =

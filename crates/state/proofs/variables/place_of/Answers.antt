@@ -16,21 +16,18 @@ use Rattle.state.proofs.Typed.{holds-long, holds-count, holds-few}
 use Rattle.state.proofs.VariableRows.{code-table}
 use Rattle.state.proofs.variables.place_of.Goals as goal
 
-pub bounds-t-0 : goal.bounds-t-0
-bounds-t-0 c = omega (arith, holds-long variable_row variable-laws 16 _ _ c.requires)
-
-pub new-requires : goal.new-requires
-new-requires c = omega (arith, holds-count variable_row variable-laws 16 _ _ c.requires, holds-few variable_row variable-laws 16 _ _ c.requires)
+pub counted-requires : goal.counted-requires
+counted-requires c = omega (arith, holds-long variable_row variable-laws 16 _ _ c.requires)
 
 pub position-requires-clause-fits : goal.position-requires-clause-fits
 position-requires-clause-fits c =
     let few = holds-few variable_row variable-laws 16 _ _ c.requires in
     let count = holds-count variable_row variable-laws 16 _ _ c.requires in
-    inl (omega (arith, ap length c.new.ensures, table_long variable_code_row c.args.t.now (get_or c.args.t.now 0 0) 1, few, count))
+    inl (omega (arith, ap length c.counted.ensures, table_long variable_code_row c.args.t.now (get_or c.args.t.now 0 0) 1, few, count))
 
 pub returns : goal.returns
 returns c =
     let l = (most 16 variable_row).get c.args.t.now in
     let p = variable_has_name c.args.name in
     finds-first short_variable_of p l _
-    (IsFirst-from_position _ _ _ (λ y. p y ≡ true) (λ y. p y ≡ false) c.position.ensures.ran (YieldsList-from_first (λ x. x) (λ rest. rest) _ (c.new.ensures ∙ code-table _ l c.requires)) (λ x q h. search rules) (λ x q h. search rules))
+    (IsFirst-from_position _ _ _ (λ y. p y ≡ true) (λ y. p y ≡ false) c.position.ensures.ran (YieldsList-from_first (λ x. x) (λ rest. rest) _ (c.counted.ensures ∙ code-table _ l c.requires)) (λ x q h. search rules) (λ x q h. search rules))
