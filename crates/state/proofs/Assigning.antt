@@ -13,7 +13,6 @@ use borrow.Author.Tests.{leb-true, leb-false, le-leb, lt-leb}
 use borrow.Rule.Slice.PartMut.{put_mid}
 use Rattle.words.specs.Saturating.{max64}
 use Rattle.model.specs.Codec.{wide, most}
-use Rattle.model.specs.Parts.{any}
 use Rattle.model.specs.State as model
 use Rattle.model.specs.declared.Pending.{Pending}
 use Rattle.rows.specs.Places.{laid, row_at}

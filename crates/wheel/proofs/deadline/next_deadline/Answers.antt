@@ -24,6 +24,6 @@ returns c flat =
     let continuation =
     sym (option_map_id _)
     ∙ min_from_yields_List c.map-3.result _ c.min-record.ensures.ran (YieldsList-from_map _ (λ (x : Pending). x.due) (YieldsList-from_first (λ x. x) (λ rest. rest) _ c.map-3.ensures.source) c.map-3.ensures.closure (λ x r q k. search rules))
-    ∙ ap (reduce min) c.pending.ensures
+    ∙ ap (reduce min) c.pending.ensures.times
     in
     c.earliest_of.ensures ∙ next-is _ c.args.image c.args.last _ _ _ _ c.wall_poll-poll.ensures slot timer continuation flat
