@@ -32,8 +32,8 @@ pub fn accepted<'a>(img: &'a [u32], lists: &mut [u32]) -> Result<Image<'a>, Refu
 }
 
 // Nothing for an image that load accepts, else the lowest number of a check that fails: for every slice.
-// kept: a match, and no `?`: the wrong answer of must-fail/tables_after_steps.edit is one arm, which a fact refuses; with `?` there is no such arm, and the
-// check's search for the edited text gave up at a limit.
+// kept: a match, and no `?`: an edit is to be refused by a fact, and must-fail/tables_after_steps.edit is one arm; with `?` its text leaves the function at another place, where
+// what the proof names is gone
 pub fn refusal(img: &[u32]) -> Result<(), Refusal>
     ensures { refusal_number result ≡ image_refusal img.now }
 {

@@ -1,15 +1,13 @@
 -- Counting the triggers of a rule, one after the other: those so far, and those that are left.
 use mathlib.Core.Path.{◌≡◌, refl, ◌∙◌, ap}
-use Prim.Native.Nat.{ℕ, zero, suc, ◌+◌, ◌-◌, ◌*◌, min, max, ◌≤◌, ◌<◌}
+use Prim.Native.Nat.{ℕ, suc, ◌+◌, ◌-◌, ◌*◌, min, max, ◌≤◌}
 use native.Mathlib.Nat.{mul-le-mul_right}
 use native.Mathlib.Numerals.{add-one}
 use native.Mathlib.Omega.{arith}
 use mathlib.Core.Bool.{Bool, true, false, cond}
 use mathlib.Core.List.{List, [], ◌∷◌}
-use lib.ListN.{length, get_or, drop}
-use lib.Seq.{drop-cons}
+use lib.ListN.{length}
 use Rattle.model.specs.declared.Trigger.{Trigger}
-use Rattle.model.specs.declared.Trigger.TheVariants.{Other}
 use Rattle.model.specs.Wheel.{is_wall_trigger}
 use Rattle.model.specs.Lists.{total}
 use Rattle.model.specs.Image.{size_of}
@@ -18,35 +16,30 @@ use Rattle.room.specs.declared.Sums.{Sums}
 use Rattle.room.specs.Room.{count, greatest, is_timer_trigger, is_every_trigger, starts_by, starts_of, own_steps, body_steps, effects_of_start}
 use Rattle.room.specs.Needed.{Summed}
 
-pub record Counted (p : Trigger → Bool) (ts : List Trigger) (k x : ℕ) : Type 0 where
-  pub few : x ≤ k
-  pub whole : x + count p (drop k ts) ≡ count p ts
+-- x of the triggers so far, and those that are left
+pub record Counted (p : Trigger → Bool) (ts left : List Trigger) (x : ℕ) : Type 0 where
+  pub few : x + length left ≤ length ts
+  pub whole : x + count p left ≡ count p ts
 
 one_at_most : (b : Bool) → cond b 1 0 ≤ 1
 one_at_most true = omega arith
 one_at_most false = omega arith
 
 module _ (p : Trigger → Bool) (ts : List Trigger) where
-  pub begins : Counted p ts 0 0
-  begins = record { few = omega arith; whole = omega arith }
+  pub begins : (left : List Trigger) (x : ℕ) → left ≡ ts → x ≡ 0 → Counted p ts left x
+  begins left x e z = let a : count p left ≡ count p ts = rw e in record { few = omega (arith, ap length e); whole = omega arith }
 
-  pub goes : (k x y : ℕ) (t : Trigger) → k < length ts → t ≡ get_or ts k Other → y ≡ x + cond (p t) 1 0 → Counted p ts k x → Counted p ts (k + 1) y
-  goes k x y t lt e q h =
-      let a : count p (drop k ts) ≡ cond (p (get_or ts k Other)) 1 0 + count p (drop (suc k) ts) = rw (drop-cons ts k Other) in
-      let b = ap {B = ℕ} (λ u. cond (p u) 1 0) e in
+  pub goes : (left rest : List Trigger) (x y : ℕ) (t : Trigger) → left ≡ t ∷ rest → y ≡ x + cond (p t) 1 0 → Counted p ts left x → Counted p ts rest y
+  goes left rest x y t e q h =
+      let a : count p left ≡ cond (p t) 1 0 + count p rest = rw e in
+      let l : length left ≡ suc (length rest) = rw e in
       let c = one_at_most (p t) in
       let f = h.few in
       let g = h.whole in
-      record { few = omega arith; whole = rw add-one (omega arith) }
+      record { few = omega arith; whole = omega arith }
 
-  drop_all : (k : ℕ) (us : List Trigger) → length us ≤ k → count p (drop k us) ≡ 0
-  drop_all zero [] h = refl
-  drop_all (suc k) [] h = refl
-  drop_all zero (u ∷ us) h = absurd (omega arith)
-  drop_all (suc k) (u ∷ us) h = drop_all k us (omega arith)
-
-  pub ends : (k x : ℕ) → length ts ≤ k → Counted p ts k x → x ≡ count p ts
-  ends k x le h = let a = drop_all k ts le in let b = h.whole in omega arith
+  pub ends : (left : List Trigger) (x : ℕ) → left ≡ [] → Counted p ts left x → x ≡ count p ts
+  ends left x e h = let a : count p left ≡ 0 = rw e in let b = h.whole in omega arith
 
 swapped : (x y : ℕ) → min x y ≡ min y x
 swapped x y = omega arith

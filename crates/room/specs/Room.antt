@@ -11,7 +11,7 @@ use Rattle.model.specs.Rules.{triggers_of}
 use Rattle.model.specs.Flat.{flatten_rule}
 use Rattle.model.specs.Wheel.{is_wall_trigger}
 
--- how many pass
+-- how many pass; the laws in proofs/ take the first apart, where `count_by` of std folds from the left
 abbrev pub count : {A : Type 0} → (A → Bool) → List A → ℕ
 count p [] = 0
 count p (x ∷ xs) = cond (p x) 1 0 + count p xs

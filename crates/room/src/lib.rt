@@ -3,7 +3,6 @@
 #![tactic(auto)]
 
 ghost use Rattle.std.specs.Prelude.{◌≡◌, [], cond, true, ◌^◌, ◌+◌, ◌-◌, ◌*◌, ◌≤◌, ◌<◌, min, max};
-ghost use Rattle.model.specs.Image as image_specs;
 ghost use Rattle.model.specs.Image.{size_of};
 ghost use Rattle.model.specs.Rows.{rules};
 ghost use Rattle.model.specs.Wheel.{is_wall_trigger};
@@ -13,6 +12,13 @@ ghost use Rattle.room.specs.Needed.{room_for, numbers, Needs, begin_in, size_in,
 
 use image::layout::{Image, Table};
 use model::{Refusal, Trigger};
+
+// The most rules of a set, and the most timers and continuations that wait in a state.
+const MOST_RULES: usize = 64;
+
+const MOST_TIMERS: u64 = 16;
+
+const MOST_PENDING: u64 = 32;
 
 // The set of an image needs room for so many outcomes and so many effects.
 #[derive(Clone, Copy)]
@@ -67,42 +73,38 @@ impl Tally {
 fn starts(image: &Image, i: u32) -> u64
     ensures { (result ≡ starts_of image.now i) × (result ≤ 4294967312) }
 {
-    let n = image.trigger_count(i);
     let mut tally = Tally::default();
-    for k in 0..n {
-        tally = tally.counted(image.trigger_at(i, k));
+    for trigger in image.triggers(i) {
+        tally = tally.counted(trigger);
     }
-    tally.timers.min(16) + tally.everys + tally.walls.min(1)
+    tally.timers.min(MOST_TIMERS) + tally.everys + tally.walls.min(1)
 }
 
 // In the rows of the lists: behind how many steps the own list of rule i begins, and how many it has.
-fn begin_in(lists: &[u32], i: u32) -> u64
-    ensures { (result ≡ begin_in lists.now i) × (result ≤ 4294967295) }
+fn list_at(lists: &[u32], i: u32) -> (u64, u64)
+    ensures begin { (result.0 ≡ begin_in lists.now i) × (result.0 ≤ 4294967295) }
+    ensures size { (result.1 ≡ size_in lists.now i) × (result.1 ≤ 4294967295) }
 {
-    fields::word(lists, i as usize * 2) as u64
-}
-
-fn size_in(lists: &[u32], i: u32) -> u64
-    ensures { (result ≡ size_in lists.now i) × (result ≤ 4294967295) }
-{
-    fields::word(lists, i as usize * 2 + 1) as u64
+    let at = i as usize * 2;
+    let begin = fields::word(lists, at);
+    let size = fields::word(lists, at + 1);
+    (begin as u64, size as u64)
 }
 
 // A rule's bodies stand between the part of the rule before it and its own list.
 // kept: two sums and a maximum in one pass, and `end` goes from each rule to the next. The closure of a `fold` over the four would have to add to any sums, where
 // only those of this loop fit.
-fn sum_rules(image: &Image, lists: &[u32], b: u64) -> Sums
-    requires listed { Listed image.now lists.now }
-    requires b_value { b ≡ image_specs.budget image.now }
+fn sum_rules(image: &Image, lists: &[u32]) -> Sums
+    requires { Listed image.now lists.now }
     ensures { Summed image.now result }
 {
     let n = image.size_of(Table::Rules);
+    let b = image.budget() as u64;
     let mut sums = Sums::default();
     let mut end: u64 = 0;
     for i in 0..n {
         let s = starts(image, i);
-        let own = size_in(lists, i);
-        let begin = begin_in(lists, i);
+        let (begin, own) = list_at(lists, i);
         sums.starts += s;
         sums.effects += s * b.min(own);
         sums.longest = sums.longest.max(own.max(begin - end));
@@ -112,11 +114,12 @@ fn sum_rules(image: &Image, lists: &[u32], b: u64) -> Sums
 }
 
 // A tick's continuations and starts; or a run, where that gives more.
-fn most_effects(b: u64, longest: u64, starts: u64) -> u64
-    requires { (1 ≤ b) × (b ≤ 256) × (starts ≤ 70368744177664) }
-    ensures { result ≡ max (min b longest) (32 * min (b - 1) longest + starts) }
+fn most_effects(b: u64, longest: u64, of_starts: u64) -> u64
+    requires { (1 ≤ b) × (b ≤ 256) × (of_starts ≤ 70368744177664) }
+    ensures { result ≡ max (min b longest) (32 * min (b - 1) longest + of_starts) }
 {
-    b.min(longest).max(32 * (b - 1).min(longest) + starts)
+    b.min(longest)
+        .max(MOST_PENDING * (b - 1).min(longest) + of_starts)
 }
 
 // The room that the set needs, from the rows of its lists.
@@ -125,10 +128,10 @@ fn room(image: &Image, lists: &[u32]) -> Needed
     ensures { Needs image.now result }
 {
     let b = image.budget() as u64;
-    let s = sum_rules(image, lists, b);
+    let s = sum_rules(image, lists);
     let effects = most_effects(b, s.longest, s.effects);
     Needed {
-        outcomes: (32 + s.starts) as u32,
+        outcomes: (MOST_PENDING + s.starts) as u32,
         effects: effects as u32,
     }
 }
@@ -138,8 +141,7 @@ pub fn room_for(words: &[u32]) -> Result<Needed, Refusal>
     ensures { shown_result numbers result [] ≡ room_for words.now }
 {
     image::refusal(words)?;
-    // The rows of 64 lists.
-    let mut lists = [0u32; 128];
+    let mut lists = [0u32; 2 * MOST_RULES];
     let image = load::accepted(words, &mut lists)?;
     Ok(room(&image, &lists))
 }

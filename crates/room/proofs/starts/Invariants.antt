@@ -1,5 +1,4 @@
 -- `room::starts` meets its contract: the triggers so far, and those that are left. Assumes nothing.
-use mathlib.Core.Path.{◌≡◌}
 use Prim.Native.Nat.{◌<◌, ◌^◌}
 use lib.ListN.{length}
 use Rattle.model.specs.Rules.{triggers_of}
@@ -8,7 +7,8 @@ use Rattle.room.specs.Room.{is_timer_trigger, is_every_trigger}
 use Rattle.room.proofs.Counting.{Counted}
 use Rattle.room.proofs.starts.Given as goal
 
-abbrev pub invariant-loop-k : goal.invariant-loop-k
-invariant-loop-k l =
+abbrev pub invariant-loop-trigger : goal.invariant-loop-trigger
+invariant-loop-trigger l =
     let ts = triggers_of l.image l.i in
-    (l.n < 2 ^ 32) × (l.n ≡ length ts) × Counted is_timer_trigger ts l.k l.tally.timers × Counted is_every_trigger ts l.k l.tally.everys × Counted is_wall_trigger ts l.k l.tally.walls
+    let left = l.trigger-iterator in
+    (length ts < 2 ^ 32) × Counted is_timer_trigger ts left l.tally.timers × Counted is_every_trigger ts left l.tally.everys × Counted is_wall_trigger ts left l.tally.walls
