@@ -31,6 +31,11 @@ use Rattle.model.proofs.RefusalLaws.{refusal-code-suc}
 use Rattle.model.specs.Crontab.{field_fits, field_covers, field_free, starts, minutes, day_here, day_bit, days, of_the_form, every_date, has_room, refusal, trigger_words, table_words, crontab}
 use Rattle.crontab.specs.Scanned.{written, Marked, marked, marked_minutes, form_refusal}
 
+-- THE FORM
+pub form-fits : (line : List ℕ) (sunday : ℕ) {b : Bool} → sunday ≤ 6 → b ≡ every 5 (field_fits line) → b ≡ of_the_form line sunday
+unfolding of_the_form
+form-fits line sunday l e = rw (le-leb sunday 6 l) e
+
 -- MARKS
 -- what the library makes of calls at the numbers from i on, where each computes h
 module _ {F : Type 0} {g : Mut F (ℕ × Unit {0}) Bool} (f : F) (h : ℕ → Bool) (a : List Bool) (computes : (x : ℕ) (b : Bool) (q : F) → Called g f (x, tt) b q → (q ≡ f) × (b ≡ h x)) where

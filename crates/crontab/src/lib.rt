@@ -57,13 +57,12 @@ pub fn read(line: &[u8], sunday: u32, triggers: &mut [u32]) -> Result<u32, Refus
 {
     lent_words::clear(triggers);
     check_form(line, sunday)?;
-    let hours = table::marks::<24>(line, Field::Hour);
-    let minutes = table::marks::<60>(line, Field::Minute);
-    let n = table::count(&hours, &minutes);
-    if triggers.len() / 8 < n as usize {
+    let marks = table::Marks::of(line);
+    let n = marks.count();
+    if triggers.len() / table::TRIGGER_WORDS < n as usize {
         return Err(Refusal::TriggerStore);
     }
     let ds = table::days_of(line, sunday);
-    table::write(&hours, &minutes, ds, triggers);
+    marks.write(ds, triggers);
     Ok(n)
 }

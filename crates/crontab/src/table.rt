@@ -10,28 +10,24 @@ use crate::parts::Field;
 // The kind of an AtTime trigger, as an image numbers them.
 const AT_TIME: u32 = 2;
 
+// The words of a trigger.
+pub const TRIGGER_WORDS: usize = 8;
+
+const DAY_MINUTES: u32 = 1440;
+
+// The hours and the minutes of an hour that a line covers.
+#[derive(Drop)]
+pub struct Marks {
+    hours: [bool; 24],
+    minutes: [bool; 60],
+}
+
 // Which of the first N numbers a field of a line covers.
-pub fn marks<const N: usize>(line: &[u8], field: Field) -> [bool; N]
+fn covered<const N: usize>(line: &[u8], field: Field) -> [bool; N]
     requires { N ≤ 60 }
     ensures { Marked (field_covers line.now (number field)) N result }
 {
     std::array::from_fn(|v| field.covers(line, v as u32))
-}
-
-// Whether minute t of a day is marked.
-fn is_marked(hours: &[bool; 24], minutes: &[bool; 60], t: u32) -> bool
-    ensures { result ≡ marked hours.now minutes.now t }
-{
-    let hour = hours.get((t / 60) as usize).copied().unwrap_or(false);
-    hour && minutes[(t % 60) as usize]
-}
-
-// How many minutes of a day are marked.
-pub fn count(hours: &[bool; 24], minutes: &[bool; 60]) -> u32
-    ensures { (result ≡ length (marked_minutes hours.now minutes.now)) × (result ≤ 1440) }
-{
-    let marked = (0..1440).filter(|t| is_marked(hours, minutes, *t));
-    marked.count() as u32
 }
 
 // The bit that day d there has here.
@@ -58,17 +54,44 @@ fn put(store: &mut [u32], n: usize, t: u32, ds: u32)
     requires { 8 * n + 8 ≤ length store.old }
     ensures { store.new ≡ sets store.old (8 * n) (2 ∷ t / 60 ∷ t % 60 ∷ ds ∷ []) }
 {
-    let at = 8 * n;
+    let at = TRIGGER_WORDS * n;
     store[at..at + 4].copy_from_slice(&[AT_TIME, t / 60, t % 60, ds]);
 }
 
-// The triggers of the marked minutes, one behind the other.
-pub fn write(hours: &[bool; 24], minutes: &[bool; 60], ds: u32, store: &mut [u32])
-    requires { 8 * length (marked_minutes hours.now minutes.now) ≤ length store.old }
-    ensures { store.new ≡ written ds store.old 0 (marked_minutes hours.now minutes.now) }
-{
-    let marked = (0..1440).filter(|t| is_marked(hours, minutes, *t));
-    for (n, t) in marked.enumerate() {
-        put(store, n, t, ds);
+impl Marks {
+    pub fn of(line: &[u8]) -> Marks
+        ensures hours { Marked (field_covers line.now 1) 24 result.hours }
+        ensures minutes { Marked (field_covers line.now 0) 60 result.minutes }
+    {
+        let hours = covered::<24>(line, Field::Hour);
+        let minutes = covered::<60>(line, Field::Minute);
+        Marks { hours, minutes }
+    }
+
+    // Whether minute t of a day is marked.
+    fn has(&self, t: u32) -> bool
+        ensures { result ≡ marked self.now.hours self.now.minutes t }
+    {
+        let hour = self.hours.get((t / 60) as usize).copied().unwrap_or(false);
+        hour && self.minutes[(t % 60) as usize]
+    }
+
+    // How many minutes of a day are marked.
+    pub fn count(&self) -> u32
+        ensures { (result ≡ length (marked_minutes self.now.hours self.now.minutes)) × (result ≤ 1440) }
+    {
+        let marked = (0..DAY_MINUTES).filter(|t| self.has(*t));
+        marked.count() as u32
+    }
+
+    // The triggers of the marked minutes, one behind the other.
+    pub fn write(&self, ds: u32, store: &mut [u32])
+        requires { 8 * length (marked_minutes self.now.hours self.now.minutes) ≤ length store.old }
+        ensures { store.new ≡ written ds store.old 0 (marked_minutes self.now.hours self.now.minutes) }
+    {
+        let marked = (0..DAY_MINUTES).filter(|t| self.has(*t));
+        for (n, t) in marked.enumerate() {
+            put(store, n, t, ds);
+        }
     }
 }

@@ -11,7 +11,7 @@ use model::Effect;
 pub const EFFECT_WORDS: usize = 5;
 
 // Zeros in lent words.
-// kept: the one place that says what four crates ask of all words that are lent, so that one must-fail edit stands for all of them.
+// kept: it only hands on to `fill`, as it would be no plainer without: it is the one place that says what four crates ask of all words that are lent.
 pub fn clear(words: &mut [u32])
     ensures { words.new ≡ replicate (length words.old) 0 }
 {

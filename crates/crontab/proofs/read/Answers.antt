@@ -14,7 +14,7 @@ returns-in_err-check_form c =
 pub returns-then-triggers-n : goal.returns-then-triggers-n
 returns-then-triggers-n c =
     let s = c.args in
-    let e = marked-minutes s.line.now _ _ c.marks-hours.ensures c.marks-minutes.ensures in
+    let e = marked-minutes s.line.now _ _ c.of-marks.ensures.hours c.of-marks.ensures.minutes in
     refused-room s.line.now s.sunday (length s.triggers.now) c.in_ok-check_form.ensures
     _ (c.count-n.ensures.0 ∙ ap length e) c.if-triggers-n.true c.clear.ensures
 
@@ -24,6 +24,6 @@ days_of-ds-requires c = sunday-low c.args.line.now c.args.sunday c.in_ok-check_f
 pub returns : goal.returns
 returns c =
     let s = c.args in
-    let e = marked-minutes s.line.now _ _ c.marks-hours.ensures c.marks-minutes.ensures in
+    let e = marked-minutes s.line.now _ _ c.of-marks.ensures.hours c.of-marks.ensures.minutes in
     accepted-is s.line.now s.sunday (length s.triggers.now) c.in_ok-check_form.ensures
     _ (c.count-n.ensures.0 ∙ ap length e) _ _ c.if-triggers-n.false c.days_of-ds.ensures c.clear.ensures (written_as _ _ _ e c.write.ensures)
