@@ -40,6 +40,13 @@ wet-case : (e : Env) (j : actions.Job) (v : model-state.Volatile) (t : Bool) →
 wet-case e j v false h = refl
 wet-case e j v true h = absurd (true≢false h)
 
+-- ---- a wet run counts that it is partial, a dry one does not
+pub noted : (dry : Bool) (v u : List ℕ) → dry ≡ false → Changes v (bump model-state.partial_outcomes (meaning v).rest) u → NotesPartial dry v u
+noted dry v u e m = rw e m
+
+pub not-noted : (dry : Bool) (v : List ℕ) → dry ≡ true → NotesPartial dry v v
+not-noted dry v e = rw e (record { says = refl; based = refl })
+
 module _ (snapshot image part : List ℕ) (own : ℕ) (j : Job) (x : Carried) (w ow ew : List ℕ) (r : Carried) (ow' ew' : List ℕ) where
   abbrev rest_of : Rest
   rest_of = (meaning x.vol).rest

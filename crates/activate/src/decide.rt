@@ -7,7 +7,7 @@ use eval::conditions::conditions_hold;
 use exec::Env;
 use state::State;
 
-// kept: four ways to go on, of which three count something of their own; a Result with three errors would be matched in the same four arms
+// kept: four ways to go on, of which three count something of their own; a Result with three errors would be matched in the same four arms.
 #[derive(Clone, Copy)]
 pub enum Decision {
     Begins,

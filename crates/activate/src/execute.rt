@@ -6,7 +6,7 @@ ghost use Rattle.state.specs.Meaning.{meaning};
 ghost use Rattle.state.specs.Reasons.{reason_number};
 ghost use Rattle.activate.specs.Carried.{carried_by, Over};
 ghost use Rattle.activate.specs.Handled.{Room};
-ghost use Rattle.activate.specs.Executes.{RunRoom, NotesPartial, Starts, FinishesWet, RunsWet, RunsDry, Executes};
+ghost use Rattle.activate.specs.Executes.{RunRoom, Starts, FinishesWet, RunsWet, RunsDry, Executes};
 
 use crate::Lent;
 use counters::Counter;
@@ -24,14 +24,6 @@ const START: Point = Point {
     place: 0,
     jump: None,
 };
-
-pub fn note_wet_partial(v: &mut State, dry: bool)
-    ensures { NotesPartial dry v.old v.new }
-{
-    if !dry {
-        v.bump(Counter::PartialOutcomes, 1);
-    }
-}
 
 // A wet activation is counted, its time is kept before its steps run, and it takes the next number: its job under that.
 fn start(snapshot: &[u32], v: &mut State, job: Job) -> Job
@@ -60,10 +52,10 @@ pub fn run_wet(env: &Env, rule: &FlatRule, lent: &mut Lent, from: Point, most: u
     requires { (most ≤ 256) × RunRoom (carried_by lent.old) }
     ensures { Over (RunsWet env.now.snapshot.now env.now.image.now rule.now.part.now rule.now.own env.now.job from most) lent.old lent.new }
 {
-    let x = lent.handled;
-    let run = run_steps(env, rule, lent.effects, lent.state, from, most, x.effects);
-    finish_wet(lent.state, run.count - x.effects, run.reason);
-    lent.handled = x.push_outcome(lent.outcomes, env.job, run.reason, run.count);
+    let begun = lent.handled.effects;
+    let run = run_steps(env, rule, lent.effects, lent.state, from, most, begun);
+    finish_wet(lent.state, run.count - begun, run.reason);
+    lent.push_outcome(env.job, run.reason, run.count);
 }
 
 // A dry run of the whole rule, and its outcome.
@@ -71,14 +63,14 @@ fn run_dry(env: &Env, rule: &FlatRule, lent: &mut Lent)
     requires { Accepted env.now.image.now × (env.now.job.dry ≡ true) × Room 1 (carried_by lent.old) }
     ensures { Over (RunsDry env.now.snapshot.now env.now.image.now rule.now.part.now rule.now.own env.now.job) lent.old lent.new }
 {
-    let x = lent.handled;
+    let begun = lent.handled.effects;
     let most = env.image.budget();
-    let run = run_steps_dry(env, rule, lent.effects, lent.state, START, most, x.effects);
-    lent.handled = x.push_outcome(lent.outcomes, env.job, run.reason, run.count);
+    let run = run_steps_dry(env, rule, lent.effects, lent.state, START, most, begun);
+    lent.push_outcome(env.job, run.reason, run.count);
 }
 
 // kept: that the image is accepted is asked here, by `run_dry` and by `activate`, since it bounds the budget; `resume`, which takes the budget of its
-// `Pending`, makes an Env of any image
+// `Pending`, makes an Env of any image.
 pub fn execute(env: &Env, rule: &FlatRule, lent: &mut Lent)
     requires { Accepted env.now.image.now × Room 1 (carried_by lent.old) }
     ensures { Over (Executes env.now.snapshot.now env.now.image.now rule.now.part.now rule.now.own env.now.job) lent.old lent.new }

@@ -81,6 +81,8 @@ fn job_of(image: &Image, i: u32, trigger: u32, dry: bool, number: u64) -> Job
 }
 
 // Rule i, by a trigger kind of an outcome, with its part of the flat steps.
+// kept: snapshot, image, rule and i side by side, here and in `resume`: a struct of them would be made by each of the three callers, wheel's two and engine's, for this
+// one call, and be taken apart here for the `Env`. That is written out in both: a function of the two would take the six fields that differ.
 pub fn activate(
     snapshot: &[u32],
     image: &Image,
@@ -106,10 +108,11 @@ pub fn activate(
         Decision::InCooldown => lent.state.bump(Counter::SuppressedCooldown, 1),
         Decision::Rejected => lent.state.bump(Counter::ConditionsRejected, 1),
         Decision::Unevaluable => {
-            execute::note_wet_partial(lent.state, dry);
-            let x = lent.handled;
-            let reason = Some(Reason::ConditionUnevaluable);
-            lent.handled = x.push_outcome(lent.outcomes, job, reason, x.effects);
+            if !dry {
+                lent.state.bump(Counter::PartialOutcomes, 1);
+            }
+            let effects = lent.handled.effects;
+            lent.push_outcome(job, Some(Reason::ConditionUnevaluable), effects);
         }
     }
 }

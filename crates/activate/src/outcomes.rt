@@ -1,11 +1,12 @@
 // Outcomes go into words that the caller lends, in order. Where there is no room for one it is counted, and no
 // word is written.
-ghost use Rattle.std.specs.Prelude.{◌≤◌, ◌<◌};
+ghost use Rattle.std.specs.Prelude.{◌≡◌, ◌≤◌, ◌<◌};
 ghost use Rattle.words.specs.Saturating.{max32};
 ghost use Rattle.state.specs.Reasons.{reason_number};
+ghost use Rattle.activate.specs.Carried.{SameLent};
 ghost use Rattle.activate.specs.Outcomes.{Puts, Pushes};
 
-use crate::{Handled, OUTCOME_WORDS};
+use crate::{Handled, Lent, OUTCOME_WORDS};
 use exec::Job;
 use state::reasons::Reason;
 
@@ -30,23 +31,21 @@ fn put_outcome(lent: &mut [u32], n: u32, job: Job, reason: Option<Reason>, first
     }
 }
 
-impl Handled {
+impl Lent<'_> {
     // The next outcome: with it there are `effects` effects.
-    pub fn push_outcome(
-        self,
-        words: &mut [u32],
-        job: Job,
-        reason: Option<Reason>,
-        effects: u32,
-    ) -> Handled
-        requires { (self.outcomes < max32) × (self.effects ≤ effects) }
-        ensures { Pushes self words.old job (reason_number reason) effects result words.new }
+    pub fn push_outcome(&mut self, job: Job, reason: Option<Reason>, effects: u32)
+        requires { (self.old.handled.outcomes < max32) × (self.old.handled.effects ≤ effects) }
+        ensures pushed { Pushes self.old.handled self.old.outcomes.now job (reason_number reason) effects self.new.handled self.new.outcomes.now }
+        ensures same { SameLent self.old self.new × (self.new.effects.now ≡ self.old.effects.now) × (self.new.state.now ≡ self.old.state.now) }
     {
-        let count = effects - self.effects;
-        put_outcome(words, self.outcomes, job, reason, self.effects, count);
-        Handled {
-            outcomes: self.outcomes + 1,
+        let Handled {
+            outcomes: n,
+            effects: first,
+        } = self.handled;
+        put_outcome(self.outcomes, n, job, reason, first, effects - first);
+        self.handled = Handled {
+            outcomes: n + 1,
             effects,
-        }
+        };
     }
 }

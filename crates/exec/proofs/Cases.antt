@@ -20,6 +20,10 @@ use Rattle.model.specs.declared.Action.TheVariants.{VarAdd}
 use Rattle.model.specs.declared.VarValue.{VarValue}
 use Rattle.model.specs.declared.VarValue.TheVariants.{Int}
 
+-- value i is value j, where i is j
+pub value-of : (e : Env) (s : Rest) (i j : ℕ) (r : Option ℤ) → r ≡ value_at e s i → i ≡ j → r ≡ value_at e s j
+value-of e s i j r h k = rw k at h
+
 -- A signed local holds bits: a number that is read from one is the number that was put there.
 pub stored-bits : (z : ℤ) (n : ℕ) → SFits w64 z → n ≡ bits64 (signed64 (bits64 z)) → n ≡ bits64 z
 stored-bits z n f e = e ∙ ap bits64 (signed-bits z f)

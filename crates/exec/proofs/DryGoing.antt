@@ -6,8 +6,9 @@ use mathlib.Core.Path.{◌≡◌, refl, sym, ap, ◌∙◌}
 use mathlib.Core.Bool.{true, false}
 use mathlib.Core.Bool.{Bool}
 use mathlib.Core.List.{List, [], ◌∷◌}
-use Rattle.std.specs.Prelude.{Option, None, Some}
+use Rattle.std.specs.Prelude.{Option, None, Some, slice_get}
 use Rattle.std.specs.Option.{unwrap_or}
+use Rattle.std.specs.List.{remove}
 use lib.ListN.{length, get_or, length-append}
 use Rattle.model.specs.Actions as actions
 use Rattle.model.specs.Dry.{next_step, found, dry_step, dry_branch, dry_turn, run_steps_dry, unpaid_dry, DryStepResult, DryOutput}
@@ -28,7 +29,6 @@ use Rattle.eval.specs.Answers.{env_of}
 use Rattle.exec.specs.Results.{job_of}
 use Rattle.lent_words.specs.PutEffects.{put_effects}
 use Rattle.flat.specs.Near.{step_in}
-use Rattle.exec.specs.Queue.{first, rest}
 use Rattle.exec.specs.Runs.{Taken, unpaid_of}
 use Rattle.exec.specs.DryRuns.{body_point, bodies_of, queued_by, Queues, next_found, Moves, DrySteps, RunsDry}
 use Rattle.exec.specs.declared.Job.{Job}
@@ -84,10 +84,10 @@ module _ (part : List ℕ) (own : ℕ) (p : Point) (ns : List ℕ) (q : Point) (
       }
 
   module _ (none-here : None ≡ step_in part own q) where
-    pub empties : (us : List ℕ) → first rs ≡ None → us ≡ rest rs → Moves part own p ns us None
+    pub empties : (us : List ℕ) → slice_get rs 0 ≡ None → us ≡ rs → Moves part own p ns us None
     empties us h u = go rs h u inv
       where
-        go : (rs : List ℕ) → first rs ≡ None → us ≡ rest rs → Moving part own p ns q rs → Moves part own p ns us None
+        go : (rs : List ℕ) → slice_get rs 0 ≡ None → us ≡ rs → Moving part own p ns q rs → Moves part own p ns us None
         go [] h u m =
             record {
               says = λ e j s. m.says e j s ∙ next_none e j q (none-here ∙ is-step part own q e j s);
@@ -95,10 +95,10 @@ module _ (part : List ℕ) (own : ℕ) (p : Point) (ns : List ℕ) (q : Point) (
             }
         go (n ∷ rs) h u m = cc
 
-    pub pops : (n : ℕ) (us : List ℕ) → first rs ≡ Some n → us ≡ rest rs → Moving part own p ns (body_point n) us
+    pub pops : (n : ℕ) (us : List ℕ) → slice_get rs 0 ≡ Some n → us ≡ remove rs 0 → Moving part own p ns (body_point n) us
     pops n us h u = go rs h u inv
       where
-        go : (rs : List ℕ) → first rs ≡ Some n → us ≡ rest rs → Moving part own p ns q rs → Moving part own p ns (body_point n) us
+        go : (rs : List ℕ) → slice_get rs 0 ≡ Some n → us ≡ remove rs 0 → Moving part own p ns q rs → Moving part own p ns (body_point n) us
         go [] h u m = cc
         go (k ∷ rs) h u m =
             let same : k ≡ n = cc in

@@ -5,5 +5,4 @@ pub mod Stepped
 pub mod Bounds
 pub mod Going
 pub mod DryLaws
-pub mod Ring
 pub mod DryGoing

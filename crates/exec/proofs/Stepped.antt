@@ -1,7 +1,6 @@
 -- What each kind of step is, by what the code finds. At variables, so that the definitions open here and nowhere else.
 -- Assumes nothing.
-use Prim.Native.Nat.{ℕ, suc, ◌+◌, ◌≤◌}
-use Rattle.words.specs.Saturating.{max32}
+use Prim.Native.Nat.{ℕ, ◌+◌}
 use mathlib.Core.Path.{◌≡◌, refl, subst}
 use mathlib.Core.List.{List}
 use Rattle.std.specs.Prelude.{Option, None, Some}
@@ -11,11 +10,9 @@ use Rattle.model.specs.Exec as model
 use Rattle.model.specs.Exec.{after_prim, run_branch, exec, schedule, advance, enter_then, body_start}
 use Rattle.model.specs.State.{Env}
 use Rattle.model.specs.declared.Point.{Point}
-use Rattle.model.specs.declared.Step.{Step}
 use Rattle.model.specs.declared.Step.TheVariants.{Primitive, Branch, Fail}
 use Rattle.state.specs.Meaning.{meaning}
 use Rattle.exec.specs.Results.{Does}
-use Rattle.flat.specs.Near.{reach}
 use Rattle.exec.specs.Paid.{Steps}
 use Rattle.exec.specs.Done.{ActionDone, StepDone}
 
@@ -46,7 +43,3 @@ module _ (e : Env) (j : actions.Job) (b : ℕ) (sp to : Point) (v : List ℕ) wh
     pub neither-is : None ≡ condition_at e (meaning v).rest c → to ≡ advance sp (t + n) → (let a = actions.fails (meaning v).rest in after_prim a.disables a to (meaning v)) ≡ exec e j b sp (Branch c t n) (meaning v)
     unfolding exec run_branch actions.fails
     neither-is h p = rw (← h, p)
-
--- a step that is known leads as far as its constructor says
-pub reach-at : (x y : Step) (p : ℕ) → x ≡ y → suc p + reach x ≤ max32 → suc p + reach y ≤ max32
-reach-at x y p e h = rw e at h

@@ -2,6 +2,5 @@
 pub mod Done
 pub mod Results
 pub mod Paid
-pub mod Queue
 pub mod Runs
 pub mod DryRuns

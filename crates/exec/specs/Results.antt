@@ -3,12 +3,11 @@ use Rattle.std.specs.Prelude.{ℕ, ◌≡◌, Bool, List, ℤ}
 use Rattle.std.specs.Prelude.{Option, None, Some}
 use Rattle.model.specs.Actions as model
 use Rattle.model.specs.State as model-state
-use Rattle.model.specs.State.{Env, Rest, with_rest, strike}
+use Rattle.model.specs.State.{Env, Rest, with_rest, strike, var_named}
 use Rattle.model.specs.declared.Action.{Action}
 use Rattle.model.specs.Steps.{FlatStep}
 use Rattle.model.specs.declared.VarValue.{VarValue}
 use Rattle.model.specs.Eval.{value_at}
-use Rattle.model.specs.Rules.{rule_named}
 use Rattle.state.specs.Meaning.{Means, meaning, base}
 use Rattle.eval.specs.Answers.{env_of}
 use Rattle.exec.specs.declared.Job.{Job}
@@ -52,8 +51,11 @@ Arms snapshot j v name ms r =
 abbrev pub Assigns : Job → List ℕ → ℕ → VarValue → ActionDone → Type 0
 Assigns j v name value r = (e : Env) → Does v r (model.var_set e (job_of j) (meaning v).rest name value)
 
-abbrev pub Adds : Job → List ℕ → ℕ → Option ℤ → Option VarValue → ActionDone → Type 0
-Adds j v name step held r = (e : Env) → Does v r (model.var_add e (job_of j) (meaning v).rest name step held)
+abbrev pub Adds : Job → List ℕ → ℕ → ℤ → ActionDone → Type 0
+Adds j v name step r =
+    (e : Env) →
+    let s = (meaning v).rest in
+    Does v r (model.var_add e (job_of j) s name (Some step) (var_named s name))
 
 -- value i, and its level
 abbrev pub ValueAt : List ℕ → List ℕ → Rest → ℕ → Option ℤ → Type 0
@@ -62,6 +64,6 @@ ValueAt snapshot image s i r = (flat : List (List FlatStep)) → r ≡ value_at 
 abbrev pub LevelAt : List ℕ → List ℕ → Rest → ℕ → Option ℕ → Type 0
 LevelAt snapshot image s i r = (flat : List (List FlatStep)) → r ≡ model.level_at (value_at (env_of snapshot image flat) s i)
 
-abbrev pub SetsBit : List ℕ → List ℕ → Job → List ℕ → ℕ → Bool → ActionDone → Type 0
-SetsBit snapshot image j v rule on r =
-    (flat : List (List FlatStep)) → Does v r (model.set_rule_bit (env_of snapshot image flat) (job_of j) (meaning v).rest rule on (rule_named image rule))
+-- the rule's place is i, if it has one
+abbrev pub SetsBit : Job → List ℕ → ℕ → Bool → Option ℕ → ActionDone → Type 0
+SetsBit j v rule on i r = (e : Env) → Does v r (model.set_rule_bit e (job_of j) (meaning v).rest rule on i)

@@ -10,7 +10,7 @@ use model::{Action, EffectKind};
 use state::State;
 
 // One arm for each kind.
-// kept: one match over the 24 kinds, of an arm each; parts of it, as it had once, need a clause that says which kinds are left
+// kept: one match over the 24 kinds, of an arm each, and longer than 40 lines for that; parts of it, as it had once, need a clause that says which kinds are left.
 #[tactic(auto, unfolding(model::specs::Actions::run_prim))]
 pub fn run_prim(env: &Env, v: &mut State, action: Action) -> PrimResult
     ensures { PerformsIn env.now.snapshot.now env.now.image.now env.now.job v.old action (action_done v.new result) }

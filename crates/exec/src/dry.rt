@@ -4,9 +4,9 @@ ghost use Rattle.exec.specs.Done.{step_done, run_done};
 ghost use Rattle.exec.specs.DryRuns.{DryStepsIn, Queues, Moves, DryReady, RunsDry};
 
 use crate::places::advance;
-use crate::queue::Queue;
 use crate::runs::{note_partial, take_step, unpaid};
 use crate::{Env, RunResult, StepResult, steps};
+use arrayvec::ArrayVec;
 use flat::{FlatRule, Placed};
 use model::{Point, Step};
 use state::State;
@@ -27,10 +27,13 @@ fn exec_dry(env: &Env, v: &mut State, here: Placed) -> StepResult
     }
 }
 
+// The lists of the bodies that a dry run still has to run, the oldest first. A run queues one for a step at most, so that 256 have room.
+type Bodies = ArrayVec<u32, 256>;
+
 // The body of an after goes behind all that is queued.
-fn queue_body(bodies: &mut Queue, here: Placed)
-    requires { length bodies.old < 256 }
-    ensures { Queues bodies.old here.point here.step bodies.new }
+fn queue_body(bodies: &mut Bodies, here: Placed)
+    requires { length bodies.old.items < 256 }
+    ensures { Queues bodies.old.items here.point here.step bodies.new.items }
 {
     if let Step::After(_) = here.step {
         bodies.push(here.point.place + 1);
@@ -38,16 +41,16 @@ fn queue_body(bodies: &mut Queue, here: Placed)
 }
 
 // Where a list is at its end, the next body that has a step is begun.
-// kept: the loop counts nothing, it pops the queue until a list has a step; a queue is no iterator, and as one it would need a `next` beside `pop`
-fn next_step(rule: &FlatRule, from: Point, bodies: &mut Queue) -> Option<Placed>
-    ensures { Moves rule.now.part.now rule.now.own from bodies.old bodies.new result }
+// kept: the loop counts nothing, it takes the oldest list until one has a step: no iterator gives that, since what is left stays queued.
+fn next_step(rule: &FlatRule, from: Point, bodies: &mut Bodies) -> Option<Placed>
+    ensures { Moves rule.now.part.now rule.now.own from bodies.old.items bodies.new.items result }
 {
     let mut point = from;
     loop {
         if let Some(here) = rule.step_at(point) {
             return Some(here);
         }
-        let list = bodies.pop()?;
+        let list = bodies.pop_at(0)?;
         point = Point {
             list,
             place: 0,
@@ -75,7 +78,7 @@ pub fn run_steps_dry(
         count,
     };
     let mut point = from;
-    let mut bodies = Queue::new();
+    let mut bodies: Bodies = ArrayVec::new();
     for _ in 0..budget {
         let Some(here) = next_step(rule, point, &mut bodies) else {
             return run;

@@ -8,7 +8,6 @@ pub mod dry;
 mod effects;
 mod lights;
 mod places;
-mod queue;
 mod rules;
 pub mod runs;
 pub mod steps;
@@ -40,7 +39,9 @@ pub struct Job {
 
 // What a run is given: the words of the snapshot and of the image, and what it knows of its rule.
 // kept: the state stands beside it in each function, `env, v`: an Env with `&mut State` could not be copied, and would have to be lent again at each call, and taken
-// apart where conditions and values are evaluated, since `eval::Env` has the state shared.
+// apart where conditions and values are evaluated, since `eval::Env` has the state shared. A run has its rule's steps beside it too: only what finds the next step
+// reads them, and no action.
+// kept: functions that take it, and no methods: each stands in the module of what it does (`lights`, `timers`, `variables`), and what it changes is the state.
 #[derive(Clone, Copy)]
 pub struct Env<'a> {
     pub snapshot: &'a [u32],
@@ -84,6 +85,8 @@ pub struct StepResult {
 }
 
 // What came of a run so far: `count` effects are written, or would be.
+// kept: the words of the effects stand beside their count. `activate` has the count in `Handled`, beside that of the outcomes: a struct of words and count would be made
+// anew for each run, and the count be taken out of it for the outcome.
 #[derive(Clone, Copy)]
 pub struct RunResult {
     pub reason: Option<Reason>,

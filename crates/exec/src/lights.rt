@@ -80,10 +80,9 @@ pub fn prim_cycle(env: &Env, v: &mut State, first: u32, count: u32) -> PrimResul
     }
     let at = cycle_place(v, env.job.index, count);
     let scene = env.image.word_from(Table::Pool, first, at, 0);
-    if env.job.dry {
-        return emits(EffectKind::SceneRecall, scene, 0, 0, env.job.hold);
+    if !env.job.dry {
+        v.set_cycle_pos(env.job.index as usize, Some((at + 1) % count));
     }
-    v.set_cycle_pos(env.job.index as usize, Some((at + 1) % count));
     emits(EffectKind::SceneRecall, scene, 0, 0, env.job.hold)
 }
 

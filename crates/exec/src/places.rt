@@ -21,7 +21,7 @@ pub fn arrive(to: Point) -> Point
 }
 
 // The point behind a step, and n steps further on.
-// kept: the room behind a point is a fact of the step that stands there (`Placed`), not of every point, and each call has an n of its own below that step's reach
+// kept: the room behind a point is a fact of the step that stands there (`Placed`), not of every point, and each call has an n of its own below that step's reach.
 pub fn advance(sp: Point, n: u32) -> Point
     requires { suc sp.place + n ≤ max32 }
     ensures { result ≡ model_exec.advance sp n }

@@ -1,4 +1,5 @@
 // The bits of rules. Who disables a rule also strikes its continuations.
+ghost use Rattle.model.specs.Rules.{rule_named};
 ghost use Rattle.exec.specs.Done.{action_done};
 ghost use Rattle.exec.specs.Results.{SetsBit};
 
@@ -7,14 +8,13 @@ use crate::{Env, PrimResult};
 use state::State;
 
 pub fn set_rule_bit(env: &Env, v: &mut State, rule: u32, on: bool) -> PrimResult
-    ensures { SetsBit env.now.snapshot.now env.now.image.now env.now.job v.old rule on (action_done v.new result) }
+    ensures { SetsBit env.now.job v.old rule on (rule_named env.now.image.now rule) (action_done v.new result) }
 {
     let Some(i) = env.image.rule_named(rule) else {
         return fails(v);
     };
-    if env.job.dry {
-        return Ok(None);
+    if !env.job.dry {
+        v.set_enabled(rule, i as usize, on);
     }
-    v.set_enabled(rule, i as usize, on);
     Ok(None)
 }

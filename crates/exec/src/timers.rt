@@ -2,7 +2,7 @@
 ghost use Rattle.std.specs.Prelude.{List, ℕ};
 ghost use Rattle.model.specs.declared.Action.TheVariants.{TimerStart, TimerRestart, TimerCancel};
 ghost use Rattle.exec.specs.Done.{action_done};
-ghost use Rattle.exec.specs.Results.{PerformsIn, Arms};
+ghost use Rattle.exec.specs.Results.{Performs, PerformsIn, Arms};
 
 use crate::answers::fails;
 use crate::{Env, PrimResult};
@@ -45,11 +45,10 @@ pub fn timer_restart(env: &Env, v: &mut State, timer: u32, ms: u32) -> PrimResul
 
 #[tactic(auto, unfolding(model::specs::Actions::run_prim))]
 pub fn timer_cancel(env: &Env, v: &mut State, timer: u32) -> PrimResult
-    ensures { PerformsIn env.now.snapshot.now env.now.image.now env.now.job v.old (TimerCancel timer) (action_done v.new result) }
+    ensures { Performs env.now.job v.old (TimerCancel timer) (action_done v.new result) }
 {
-    if env.job.dry {
-        return Ok(None);
+    if !env.job.dry {
+        v.cancel_timer(timer);
     }
-    v.cancel_timer(timer);
     Ok(None)
 }

@@ -1,6 +1,5 @@
 // Variables, and the panel's selection: the actions that read a value. A dry run changes no variable, and does not notice that 16 stand.
 ghost use Rattle.std.specs.Prelude.{List, ℕ};
-ghost use Rattle.std.specs.Prelude.{Some};
 ghost use Rattle.model.specs.declared.Action.TheVariants.{VarSet, VarAdd, PanelSelect};
 ghost use Rattle.exec.specs.Done.{action_done};
 ghost use Rattle.exec.specs.Results.{PerformsIn, Assigns, Adds};
@@ -40,10 +39,10 @@ pub fn var_set(env: &Env, v: &mut State, name: u32, value: VarConstant) -> PrimR
 }
 
 // A number is added to what a variable holds: to 0 where there is none, to no text.
-fn add_to(env: &Env, v: &mut State, name: u32, step: i64, held: Option<VarValue>) -> PrimResult
-    ensures { Adds env.now.job v.old name (Some step) held (action_done v.new result) }
+fn add_to(env: &Env, v: &mut State, name: u32, step: i64) -> PrimResult
+    ensures { Adds env.now.job v.old name step (action_done v.new result) }
 {
-    match held {
+    match v.variable(name) {
         None => assign(env, v, name, VarValue::Int(step.cast_unsigned())),
         Some(VarValue::Int(n)) => {
             let sum = n.cast_signed().saturating_add(step);
@@ -58,10 +57,7 @@ pub fn var_add(env: &Env, v: &mut State, name: u32, delta: u32) -> PrimResult
     ensures { PerformsIn env.now.snapshot.now env.now.image.now env.now.job v.old (VarAdd name delta) (action_done v.new result) }
 {
     match env.value_at(v, delta) {
-        Some(step) => {
-            let held = v.variable(name);
-            add_to(env, v, name, step, held)
-        }
+        Some(step) => add_to(env, v, name, step),
         None => fails(v),
     }
 }

@@ -5,15 +5,15 @@ use Rattle.exec.proofs.actions.run_prim.Goals as goal
 
 pub returns-in-RuleEnable : goal.returns-in-RuleEnable
 unfolding run_prim
-returns-in-RuleEnable c flat = rw c.in-RuleEnable.is (c.set_rule_bit.ensures flat)
+returns-in-RuleEnable c flat = rw c.in-RuleEnable.is (c.set_rule_bit.ensures (env_of c.args.env.now.snapshot.now c.args.env.now.image.now flat))
 
 pub returns-in-RuleDisable : goal.returns-in-RuleDisable
 unfolding run_prim
-returns-in-RuleDisable c flat = rw c.in-RuleDisable.is (c.set_rule_bit-in-RuleDisable.ensures flat)
+returns-in-RuleDisable c flat = rw c.in-RuleDisable.is (c.set_rule_bit-in-RuleDisable.ensures (env_of c.args.env.now.snapshot.now c.args.env.now.image.now flat))
 
 pub returns-in-TimerCancel : goal.returns-in-TimerCancel
 unfolding run_prim
-returns-in-TimerCancel c flat = rw c.in-TimerCancel.is (c.timer_cancel.ensures flat)
+returns-in-TimerCancel c flat = rw c.in-TimerCancel.is (c.timer_cancel.ensures (env_of c.args.env.now.snapshot.now c.args.env.now.image.now flat))
 
 pub returns-in-Light : goal.returns-in-Light
 unfolding run_prim

@@ -4,7 +4,7 @@ use Rattle.exec.proofs.DryGoing.{Moving}
 use Rattle.exec.proofs.dry.next_step.Given as goal
 
 abbrev pub invariant-loop-here : goal.invariant-loop-here
-invariant-loop-here l = Moving l.rule.part.now l.rule.own l.initial.point l.initial.bodies l.point l.bodies
+invariant-loop-here l = Moving l.rule.part.now l.rule.own l.initial.point l.initial.bodies.items l.point l.bodies.items
 
 abbrev pub decreases-loop-here : goal.decreases-loop-here
-decreases-loop-here l = length l.bodies
+decreases-loop-here l = length l.bodies.items
