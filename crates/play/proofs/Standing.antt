@@ -55,11 +55,6 @@ pub obeys_by : (q : Parsed) (s r : Player) (l : Line) → l ≡ q.line
     → r.lent.settings ≡ settings_after l s.lent.settings → r.number ≡ s.number → Obeys q s r
 obeys_by q s r l e d t n = record { does = rw e at d; settings = rw e at t; number = n }
 
-pub obeys-call : (q : Parsed) (s r : Player) (c : Command) (list text : List ℕ) → Ok (Some c) ≡ q.line → list ≡ q.list → text ≡ q.text
-    → Does (doing 24576 327680 s.lent.settings list text (get_or c.numbers 0 0) (get_or c.numbers 1 0) c.call s.lent.store) r.lent.store s.output r.output
-    → r.lent.settings ≡ settings_of c.call (get_or c.numbers 0 0) (get_or c.numbers 1 0) s.lent.settings → r.number ≡ s.number → Obeys q s r
-obeys-call q s r c list text e f g d t n = obeys_by q s r (Ok (Some c)) e (rw (f, g) at d) t n
-
 pub line-ended : (s r : Player) (k : ℕ) (empty : ArrayVec ℕ) (p : Play) → Stands s p → k ≡ min (s.number + 1) max64 → empty.items ≡ []
     → Obeys (said room s.line.items) (record { number = k; line = s.line; list = s.list; lent = s.lent; output = s.output }) r
     → Stands (record { number = r.number; line = empty; list = r.list; lent = r.lent; output = r.output }) (line_ends room p)

@@ -1,4 +1,5 @@
--- Document 01's example as a script: rule 5 (B 8: Log 7, Wait 1000, Log 9), a wet run at 0, ticks at 999 and 1000; and the lines that it prints.
+-- Document 01's example as a script: rule 5 (B 8: Log 7, Wait 1000, Log 9), a wet run at 0, ticks at 999 and 1000; and the lines that it prints: the theorem `example` of
+-- proofs/Example.antt.
 use Rattle.std.specs.Prelude.{ℕ, List, replicate}
 use Rattle.model.specs.Calls.{new}
 use Rattle.model.specs.Text.{bytes_of}

@@ -14,7 +14,9 @@ ghost use Rattle.play.specs.Gathered.{Makes, Does, done, lent_after};
 
 use crate::answers;
 use crate::output::Output;
+use script::calls::{EFFECT_WORDS, OUTCOME_WORDS};
 use script::{Call, Command};
+use store::table;
 
 // The words of the store, of outcomes and of effects that later calls are lent.
 #[derive(Clone, Copy, PartialEq, Eq)]
@@ -24,13 +26,16 @@ pub struct Settings {
     pub effects: usize,
 }
 
+// A word more than a store has.
+const STORE_WORDS: usize = table::WORDS + 1;
+
 // What calls are lent. The store has a word to spare, so that a call on one that is too long can be tried. The words for effects also serve a call that
 // answers into a store of its own: nothing of them is kept from call to call.
 #[derive(Drop)]
 pub struct Lent {
-    store: [u32; 16385],
-    outcomes: [u32; 24576],
-    effects: [u32; 327680],
+    store: [u32; STORE_WORDS],
+    outcomes: [u32; OUTCOME_WORDS],
+    effects: [u32; EFFECT_WORDS],
     settings: Settings,
 }
 
@@ -56,8 +61,10 @@ fn accepted(number: u32) -> Result<(), Refused>
     }
 }
 
-// kept: `new`, `load` and `unload` are one call of the C interface each. Tried: as arms of `make`, where the store is lent as a field,
-// the clause `makes` did not close, which is of `self.new.store`.
+// kept: this and the eleven below are a call of the C interface each, with arguments and a printer of its own, as it would be no plainer: one function over
+// closures would need the contracts of both as `requires`. A function that cuts a store would save no line of them, and be two, for `&` and for `&mut`; a struct of the
+// three stores would be made by `make` for a tick and a run alone, and say besides that the stores that come back are those that were lent.
+// Tried: `new`, `load` and `unload` as arms of `make`, where the store is lent as a field: the clause `makes` did not close, which is of `self.new.store`.
 fn new(size: usize, time: u64, store: &mut [u32]) -> Result<(), Refused>
     ensures { (o : Output) → Makes (calling size (Calls.new time) store.old) Call.New store.new o o result }
 {
@@ -95,8 +102,6 @@ fn enable(
     Ok(())
 }
 
-// kept: this and `counters` differ in the call and the printer; one function over two closures would need the contracts of both as `requires`, and is
-// longer than the two.
 fn deadline(size: usize, store: &[u32], out: &mut Output) -> Result<(), Refused>
     ensures { Makes (calling size Calls.deadline store.now) Call.Deadline store.now out.old out.new result }
 {
@@ -117,8 +122,6 @@ fn counters(size: usize, store: &[u32], out: &mut Output) -> Result<(), Refused>
     Ok(())
 }
 
-// kept: this and `run` are two calls of the C interface, with two and four arguments of their own; one function over a closure would need the contracts
-// of both as `requires`, and is longer than the two.
 fn tick(
     most: Settings,
     snapshot: &[u32],
@@ -239,16 +242,16 @@ impl Lent {
         ensures store { result.store ≡ (calling 16384 (Calls.new 0) (replicate 16385 0)).store }
         ensures settings { result.settings ≡ beginning }
     {
-        let mut store = [0u32; 16385];
-        let _accepted = new(16384, 0, &mut store);
+        let mut store = [0u32; STORE_WORDS];
+        let _accepted = new(table::WORDS, 0, &mut store);
         Lent {
             store,
-            outcomes: [0; 24576],
-            effects: [0; 327680],
+            outcomes: [0; OUTCOME_WORDS],
+            effects: [0; EFFECT_WORDS],
             settings: Settings {
-                size: 16384,
-                outcomes: 24576,
-                effects: 327680,
+                size: table::WORDS,
+                outcomes: OUTCOME_WORDS,
+                effects: EFFECT_WORDS,
             },
         }
     }
@@ -261,26 +264,24 @@ impl Lent {
         ensures makes { Makes (done line.now self.old) line.now.command.call self.new.store out.old out.new result }
         ensures settings { self.new.settings ≡ lent_after line.now self.old.settings }
     {
-        let (list, text) = (line.list, line.text);
         let [a, b, _, _] = line.command.numbers;
         let (most, size) = (self.settings, self.settings.size);
         let (store, os, es) = (&mut self.store, &mut self.outcomes, &mut self.effects);
         match line.command.call {
             Call::New => new(size, a, store),
-            Call::Load => load(size, a, list, store),
+            Call::Load => load(size, a, line.list, store),
             Call::Unload => unload(size, a, store),
             Call::Enable => enable(size, a as u32, b == 1, store, out),
-            Call::Tick => tick(most, list, store, os, es, out),
-            Call::Run => run(most, a as u32, b == 1, list, store, os, es, out),
+            Call::Tick => tick(most, line.list, store, os, es, out),
+            Call::Run => run(most, a as u32, b == 1, line.list, store, os, es, out),
             Call::Deadline => deadline(size, store, out),
             Call::Counters => counters(size, store, out),
-            Call::Telegrams => telegrams(a as usize, list, es, out),
-            Call::Crontab => crontab(a as u32, b as usize, text, es, out),
-            Call::Start => start(size, list, store, out),
-            Call::RoomFor => room(list, out),
+            Call::Telegrams => telegrams(a as usize, line.list, es, out),
+            Call::Crontab => crontab(a as u32, b as usize, line.text, es, out),
+            Call::Start => start(size, line.list, store, out),
+            Call::RoomFor => room(line.list, out),
             Call::Lend => {
-                self.settings.outcomes = a as usize;
-                self.settings.effects = b as usize;
+                (self.settings.outcomes, self.settings.effects) = (a as usize, b as usize);
                 Ok(())
             }
             Call::Size => {

@@ -8,27 +8,33 @@ ghost use Rattle.play.specs.Played.{Stands, Obeys, Follows, Reads};
 use crate::calls::{Lent, Said};
 use crate::output::Output;
 use arrayvec::ArrayVec;
+use script::calls::LIST_WORDS;
 use script::{Command, Wrong, WrongLine};
 use std::io::{Read, Stdin, Stdout};
+
+// The bytes of the longest line, and of the buffer that tells a longer one.
+const LINE_BYTES: usize = 262144;
+
+const LINE_ROOM: usize = LINE_BYTES + 1;
 
 // Where a script stands: lines ended, the line that is being read, the list of the line before, what is lent, the output. Of a line its buffer has room
 // for one byte more than a line may have: a line that is longer has that byte too, and what follows is not kept.
 #[derive(Drop)]
 pub struct Player {
     number: u64,
-    line: ArrayVec<u8, 262145>,
-    list: [u32; 8192],
+    line: ArrayVec<u8, LINE_ROOM>,
+    list: [u32; LIST_WORDS],
     lent: Lent,
     output: Output,
 }
 
 // What a line says.
-fn say(line: &[u8], list: &mut [u32; 8192]) -> Result<Option<Command>, Wrong>
+fn say(line: &[u8], list: &mut [u32; LIST_WORDS]) -> Result<Option<Command>, Wrong>
     ensures parses { Parses (said room line.now) list.old list.new result }
     ensures finds { IfOk result (λ o. IfSome o (Finds (said room line.now) line.now list.new)) }
     ensures list { length list.new ≡ 8192 }
 {
-    if line.len() > 262144 {
+    if line.len() > LINE_BYTES {
         return Err(Wrong::LineTooLong);
     }
     script::parse(line, list)
@@ -41,7 +47,7 @@ impl Player {
         Player {
             number: 0,
             line: ArrayVec::new(),
-            list: [0; 8192],
+            list: [0; LIST_WORDS],
             lent: Lent::new(),
             output: Output::new(to),
         }
@@ -87,8 +93,8 @@ impl Player {
         let _fits = self.line.try_push(b);
     }
 
-    #[tactic(auto, using(crate::proofs::Standing::follows_none, crate::proofs::Standing::follows_all))]
     // Plays the lines that end in what was read; the rest of it is kept.
+    #[tactic(auto, using(crate::proofs::Standing::follows_none, crate::proofs::Standing::follows_all))]
     fn feed(&mut self, input: &[u8])
         ensures { Follows (bytes_come room input.now) self.old self.new }
     {
@@ -97,9 +103,9 @@ impl Player {
         }
     }
 
-    #[tactic(auto, using(crate::proofs::Standing::reads_end))]
     // Reads once, plays what came, and writes the answers out. The end of the input ends its last line, and so does a read that fails. Whether the
     // script goes on.
+    #[tactic(auto, using(crate::proofs::Standing::reads_end))]
     fn read_some(&mut self, from: &mut Stdin) -> bool
         ensures { Reads self.old self.new }
     {
@@ -115,8 +121,8 @@ impl Player {
         self.output.is_open()
     }
 
-    #[tactic(auto, using(crate::proofs::Standing::reads_none, crate::proofs::Standing::reads_then))]
     // kept: a `for` and no `loop`, since a proved loop has to end, and nothing says that the input does: it has a number of turns that no run uses up.
+    #[tactic(auto, using(crate::proofs::Standing::reads_none, crate::proofs::Standing::reads_then))]
     pub fn play(&mut self, mut from: Stdin)
         ensures { Reads self.old self.new }
     {
