@@ -110,9 +110,8 @@ impl Asked<'_> {
         if fields::word(self.bits, i as usize) != 1 {
             return None;
         }
-        (0..self.image.trigger_count(i))
-            .filter_map(|k| self.trigger_minutes(self.image.trigger_at(i, k)))
-            .min()
+        let triggers = self.image.triggers(i);
+        triggers.filter_map(|x| self.trigger_minutes(x)).min()
     }
 
     // The first start of rule i, with its name.

@@ -1,13 +1,8 @@
 -- `next::Asked::rule_minutes` meets its contract. Assumes nothing.
 use mathlib.Core.Path.{sym, ◌∙◌}
-use native.Mathlib.Nat.{sub-zero}
 use Rattle.std.proofs.Common.{rules}
-use Rattle.std.proofs.lemmas.Iterator.{YieldsList-from_range}
 use Rattle.std.proofs.lemmas.Iterator.Adapters.{option_map_id}
-use Rattle.std.proofs.lemmas.Iterator.Consumers.{YieldsList-from_filter_map, min_from_yields_List}
-use lib.ListN.{get_or}
-use Rattle.model.specs.Rules.{triggers_of}
-use Rattle.model.specs.declared.Trigger.TheVariants.{Other}
+use Rattle.std.proofs.lemmas.Iterator.Consumers.{YieldsList-from_first, YieldsList-from_filter_map, min_from_yields_List}
 use Rattle.next.proofs.Triggers.{minutes_to, off, on}
 use Rattle.next.proofs.Asked.rule_minutes.Goals as goal
 
@@ -19,7 +14,6 @@ returns-then-word-ne1 c =
 pub returns : goal.returns
 returns c =
     let s = c.args.self.now in
-    let n = c.trigger_count.result in
     sym (option_map_id _)
-    ∙ min_from_yields_List c.filter_map.result _ c.min.ensures.ran (YieldsList-from_filter_map _ (λ k. minutes_to s.sun s.t (get_or (triggers_of s.image.now c.args.i) k Other)) (YieldsList-from_range 0 n n c.filter_map.ensures.source (sub-zero n)) c.filter_map.ensures.closure (λ x r q k. search rules))
-    ∙ on s.sun s.t s.image.now s.bits.now c.args.i (sym c.word.ensures ∙ c.if-word-ne1.false) n c.trigger_count.ensures
+    ∙ min_from_yields_List c.filter_map.result _ c.min.ensures.ran (YieldsList-from_filter_map _ (minutes_to s.sun s.t) (YieldsList-from_first (λ x. x) (λ rest. rest) _ (c.filter_map.ensures.source ∙ c.triggers-triggers.ensures.0)) c.filter_map.ensures.closure (λ x r q k. search rules))
+    ∙ on s.sun s.t s.image.now s.bits.now c.args.i (sym c.word.ensures ∙ c.if-word-ne1.false)
