@@ -61,7 +61,7 @@ narrow outcomes effects = run 5 false (snapshot 0 absent absent) outcomes effect
 
 -- a store whose next sequence number is the last one
 unfoldable pub late : Store → Store
-late s = record { now = s.now; loaded = s.loaded; vol = record { rest = s.vol.rest; pending = s.vol.pending; next = 2 ^ 64 - 1; last_number = s.vol.last_number } }
+late s = record s { vol = record (s.vol) { next = 2 ^ 64 - 1 } }
 
 unfoldable pub examples : List Edge
 examples =

@@ -42,7 +42,7 @@ several =
 
 -- a store whose last number is n
 unfoldable pub given : ℕ → Store → Store
-given n s = record { now = s.now; loaded = s.loaded; vol = record { rest = s.vol.rest; pending = s.vol.pending; next = s.vol.next; last_number = n } }
+given n s = record s { vol = record (s.vol) { last_number = n } }
 
 -- a run of rule 6 with room for this many words
 unfoldable pub narrow : ℕ → ℕ → Call
@@ -59,13 +59,13 @@ handled_with next last =
 
 -- whether the rules hold of a store whose one pending record has number n, where 1 is the last
 unfoldable pub renumbered : ℕ → Pending → Pending
-renumbered n c = record { rule = c.rule; point = c.point; due = c.due; budget = c.budget; trigger = c.trigger; seq = c.seq; number = n }
+renumbered n c = record c { number = n }
 
 unfoldable pub holds_with : ℕ → List ℕ
 holds_with n =
     force presses (λ img.
     let s = (call (run_wet 5 0) (call (load 0 img) (fresh 0)).store).store in
-    bit_of (rules_hold (record { now = s.now; loaded = s.loaded; vol = record { rest = s.vol.rest; pending = map (renumbered n) s.vol.pending; next = s.vol.next; last_number = s.vol.last_number } })) ∷ [])
+    bit_of (rules_hold (record s { vol = record (s.vol) { pending = map (renumbered n) s.vol.pending } })) ∷ [])
 
 unfoldable pub table : List Edge
 table =

@@ -108,7 +108,7 @@ accept h s = cond (eqb (length s.postings) 32) s (record { postings = s.postings
 -- what a step reports, once it is paid; whether the engine says that it drops a wait or an after is not asked; the due time is the "call's time plus its milliseconds, saturating"
 unfoldable pub post_report : Report → ℕ → Payer → Standing → Standing
 post_report plain now u s = s
-post_report (disables q) now u s = record { postings = struck q s.postings; next = s.next; last_number = s.last_number }
+post_report (disables q) now u s = record s { postings = struck q s.postings }
 post_report (defers d ms sp) now u s =
     accept
     (record {
@@ -120,7 +120,7 @@ post_report (defers d ms sp) now u s =
 
 -- "A paid step takes one from the budget"
 abbrev pub pay : Payer → Payer
-pay u = record { rule = u.rule; left = pred u.left; number = u.number; origin = u.origin }
+pay u = record u { left = pred u.left }
 
 -- "and gives at most one effect": it is counted for its origin
 abbrev pub count_effect : Option Effect → Option Activation → List Activation → List Activation
@@ -143,7 +143,7 @@ post_item (started r) l =
     record {
       now = l.now;
       budget = l.budget;
-      standing = record { postings = l.standing.postings; next = l.standing.next; last_number = suc l.standing.last_number };
+      standing = record (l.standing) { last_number = suc l.standing.last_number };
       due = l.due;
       payer = record { rule = r; left = l.budget; number = next_number l.standing.last_number; origin = Some (record { number = l.count; budget = l.budget }) };
       count = suc l.count;
@@ -151,9 +151,9 @@ post_item (started r) l =
     }
 post_item (aborted r) l = l
 post_item (resumed c) l =
-    record { now = l.now; budget = l.budget; standing = l.standing; due = tail l.due; payer = resumed_payer c.rule l.due; count = l.count; effects = l.effects }
+    record l { due = tail l.due; payer = resumed_payer c.rule l.due }
 post_item (paid x s g) l =
-    record { now = l.now; budget = l.budget; standing = post_report s l.now (pay l.payer) l.standing; due = l.due; payer = pay l.payer; count = l.count; effects = count_effect g l.payer.origin l.effects }
+    record l { standing = post_report s l.now (pay l.payer) l.standing; payer = pay l.payer; effects = count_effect g l.payer.origin l.effects }
 
 abbrev pub post_items : List Item → Ledger → Ledger
 post_items [] l = l
@@ -164,13 +164,13 @@ unfoldable pub post : Event → Ledger → Ledger
 post made l =
     record { now = l.now; budget = 0; standing = record { postings = []; next = l.standing.next; last_number = 0 }; due = []; payer = nobody; count = l.count; effects = l.effects }
 post (cleared b) l =
-    record { now = l.now; budget = b; standing = record { postings = []; next = l.standing.next; last_number = l.standing.last_number }; due = []; payer = nobody; count = l.count; effects = l.effects }
+    record l { budget = b; standing = record (l.standing) { postings = [] }; due = []; payer = nobody }
 post (disabled q) l =
-    record { now = l.now; budget = l.budget; standing = record { postings = struck q l.standing.postings; next = l.standing.next; last_number = l.standing.last_number }; due = l.due; payer = l.payer; count = l.count; effects = l.effects }
+    record l { standing = record (l.standing) { postings = struck q l.standing.postings } }
 post (ticked t) l =
-    record { now = t; budget = l.budget; standing = record { postings = staying t l.standing.postings; next = l.standing.next; last_number = l.standing.last_number }; due = leaving t l.standing.postings; payer = l.payer; count = l.count; effects = l.effects }
+    record l { now = t; standing = record (l.standing) { postings = staying t l.standing.postings }; due = leaving t l.standing.postings }
 post (ran t) l =
-    record { now = t; budget = l.budget; standing = l.standing; due = []; payer = l.payer; count = l.count; effects = l.effects }
+    record l { now = t; due = [] }
 post (traced i) l = post_item i l
 
 abbrev pub post_all : List Event → Ledger → Ledger

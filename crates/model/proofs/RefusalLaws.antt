@@ -3,7 +3,7 @@ use mathlib.Core.Path.{◌≡◌, refl}
 use mathlib.Core.Bool.{true, false}
 use Rattle.std.specs.Prelude.{Result, Ok, Err}
 use Rattle.std.specs.Result.{is_err}
-use Prim.Native.Nat.{ℕ, suc, ◌-◌}
+use Prim.Native.Nat.{suc, ◌-◌}
 use native.Mathlib.Omega.{arith}
 use Rattle.model.specs.declared.Refusal.{Refusal}
 use Rattle.model.specs.declared.Refusal.TheVariants.{StoreLength, StoreRule, ImageLength, LimitRange, TablePlace, FieldRange, ListRange, RuleName, FlatSteps, TooMany, SnapshotLength, SnapshotRange, RowAddress, LentStores, SequenceNumber, ActivationNumber, LineForm, DayOrMonth, TriggerStore, EffectWords, TelegramStore}

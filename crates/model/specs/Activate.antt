@@ -45,10 +45,10 @@ unfoldable pub job_of : Env → ℕ → ℕ → ℕ → Bool → Job
 job_of e name i kind dry = record { rule = name; index = i; hold = hold_hcl_of e.set.image i; trigger = kind; dry = dry; number = 0 }
 
 unfoldable pub numbered : ℕ → Job → Job
-numbered n j = record { rule = j.rule; index = j.index; hold = j.hold; trigger = j.trigger; dry = j.dry; number = n }
+numbered n j = record j { number = n }
 
 abbrev pub with_number : ℕ → Volatile → Volatile
-with_number n v = record { rest = v.rest; pending = v.pending; next = v.next; last_number = n }
+with_number n v = record v { last_number = n }
 
 -- `in_cooldown`
 abbrev pub within : ℕ → ℕ → Option ℕ → Bool

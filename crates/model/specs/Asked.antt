@@ -1,5 +1,5 @@
 -- What is seen of a call that asks: it is given words, answers, and changes no store of a house.
-use Rattle.std.specs.Prelude.{cond, List, [], ℕ, eqb, replicate, Result, Ok, Err}
+use Rattle.std.specs.Prelude.{List, [], ℕ, replicate, Result, Ok, Err}
 use Rattle.model.specs.declared.Refusal.{Refusal}
 use Rattle.model.specs.Refusals.{refusal_code}
 
@@ -13,11 +13,7 @@ pub record Asked : Type 0 where
 unfoldable pub declined : ℕ → ℕ → Asked
 declined n number = record { number = number; values = []; lent = replicate n 0 }
 
--- what code that answers a number and values shows, with the lent words after it
-unfoldable pub shown_asked : ℕ → List ℕ → List ℕ → Asked
-shown_asked number values lent = record { number = number; values = cond (eqb number 0) values []; lent = lent }
-
--- the same of code that answers a refusal or a value
+-- what code that answers a refusal or a value shows, with the lent words after it
 unfoldable pub shown_result : {A : Type 0} → (A → List ℕ) → Result A Refusal → List ℕ → Asked
 shown_result values (Ok a) lent = record { number = 0; values = values a; lent = lent }
 shown_result values (Err r) lent = record { number = refusal_code r; values = []; lent = lent }

@@ -44,7 +44,7 @@ due_indices now ps =
 
 -- the store without what is due
 unfoldable pub not_due : ℕ → Volatile → Volatile
-not_due now v = record { rest = v.rest; pending = keep (λ (c : Pending). not (leb c.due now)) v.pending; next = v.next; last_number = v.last_number }
+not_due now v = record v { pending = keep (λ (c : Pending). not (leb c.due now)) v.pending }
 
 unfoldable pub resume_all : Env → List Pending → Volatile → Handled
 resume_all e [] v = no_outcome v
@@ -97,7 +97,7 @@ timers_due e s =
 -- `fire_every`: each due slot fires once, and is due again a period from now
 abbrev pub moved : ℕ → EverySlot → EverySlot
 moved now x =
-    cond (leb x.due now) (record { rule = x.rule; place = x.place; period = x.period; due = saturating_add max64 now x.period }) x
+    cond (leb x.due now) (record x { due = saturating_add max64 now x.period }) x
 
 unfoldable pub every_due : Env → Rest → Plan
 every_due e s =

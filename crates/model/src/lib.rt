@@ -1,6 +1,6 @@
 // The data types that the specification and the code share, and no logic but a refusal's number. Names and fields are the Rust's; a field that is an index
 // leads into a table of the image, and a nested list is its first record and its count.
-// One file, though it has more than 400 lines: the specification names each type by `model::specs::declared`, and a module would stand in each of those names.
+// kept: one file, though it has more than 400 lines: the specification names each type by `model::specs::declared`, and a module would stand in each of those names.
 
 #![tactic(auto)]
 
@@ -9,8 +9,8 @@ ghost use Rattle.model.specs.Kinds.{trigger_number};
 ghost use Rattle.model.specs.Refusals.{refusal_code, refusal_number};
 
 // What a word of a record may be: document 01, refusals 13, 14 and 21.
-// kept: a table is a number here. Images and snapshots have an enum of their tables each, `image::layout::Table` and `world::table::Table`; this type is of the
-// fields of both, and stands below either.
+// kept: a table is a number here, as in the specification, whose definitions number the tables of an image and take a snapshot's fields for the same type; the code's enum of
+// tables, `image::layout::Table`, stands above this crate.
 #[derive(Clone, Copy)]
 pub enum Field {
     // Any word.
@@ -480,6 +480,7 @@ pub struct EverySlot {
 }
 
 // A continuation: where it goes on, when, with what budget, and under which trigger, sequence number and activation number.
+// kept: the trigger is a word and no `TriggerKind`: it is read from the words of a state, where it may be any while a call runs, and is carried on as it is.
 #[derive(Clone, Copy, Default)]
 pub struct Pending {
     pub rule: u32,

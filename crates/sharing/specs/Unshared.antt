@@ -22,7 +22,7 @@ copies (suc t) body n m =
 abbrev pub flatten_repeat : ℕ → (ℕ → Flattened) → ℕ → ℕ → Flattened
 flatten_repeat t body n m =
     let r = copies t body n m in
-    record { steps = r.steps; rows = r.rows; bodies = r.bodies; taken = (body m).taken }
+    record r { taken = (body m).taken }
 
 abbrev pub flatten_action : (ℕ → Flattening) → ℕ → List Flattening → FlowAction → Flattening
 flatten_action call i behind Plain c n m = one_step (step.Primitive i)
