@@ -31,7 +31,7 @@ NotesPartial dry w r = let s = (meaning w).rest in Changes w (cond dry s (bump p
 
 -- a job under another number
 abbrev pub numbered_job : ℕ → Job → Job
-numbered_job n j = record { rule = j.rule; index = j.index; hold = j.hold; trigger = j.trigger; dry = j.dry; number = n }
+numbered_job n j = record j { number = n }
 
 -- the activation is counted, its time is kept, and it takes the next number
 abbrev pub begun_in : List ℕ → Job → model-state.Volatile → model-state.Volatile

@@ -7,7 +7,7 @@ use Rattle.model.specs.Calls.{kept}
 
 -- another rest, and no continuation
 abbrev pub cleared : Rest → Volatile → Volatile
-cleared rest v = record { rest = rest; pending = []; next = v.next; last_number = v.last_number }
+cleared rest v = record v { rest = rest; pending = [] }
 
 module _ (img : List ℕ) (s : Store) where
   -- what store s keeps for the name of the image's rule i

@@ -58,7 +58,7 @@ Behinds list n rows after n' = n' * 4 ≤ length list → take (n' * 4) after �
 
 -- one step more in the list
 abbrev pub one_more : Progress → Progress
-one_more p = record { n = p.n + 1; left = p.left }
+one_more p = record p { n = p.n + 1 }
 
 -- these rows stand in `seen` behind m steps
 abbrev pub holds_at : List ℕ → ℕ → List Row → Bool

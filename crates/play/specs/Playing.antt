@@ -73,8 +73,8 @@ obeyed os es k (Err wrong) list text t w = record { store = w; lines = wrong_lin
 
 -- `lend` and `size` are for later calls
 abbrev pub settings_of : Call → ℕ → ℕ → Settings → Settings
-settings_of Lend a b t = record { size = t.size; outcomes = a; effects = b }
-settings_of Size a b t = record { size = a; outcomes = t.outcomes; effects = t.effects }
+settings_of Lend a b t = record t { outcomes = a; effects = b }
+settings_of Size a b t = record t { size = a }
 settings_of call a b t = t
 
 abbrev pub settings_after : Line → Settings → Settings
@@ -113,7 +113,7 @@ line_ends m p =
 unfoldable pub byte_comes : Room → ℕ → Play → Play
 byte_comes m b p =
     if b == 10 then line_ends m p
-    else record { number = p.number; text = p.text ++ b ∷ []; settings = p.settings; store = p.store; printed = p.printed }
+    else record p { text = p.text ++ b ∷ [] }
 
 unfoldable pub bytes_come : Room → List ℕ → Play → Play
 bytes_come m [] p = p

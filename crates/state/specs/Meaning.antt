@@ -102,7 +102,7 @@ part t w = get_or (cut part_sizes w) t []
 -- RECORDS ---------------------------------------------------------------------------------------------------------------------------------
 -- a record with the number that stands at the offset that it holds
 abbrev pub offset_from : ℕ → Pending → Pending
-offset_from base p = record { rule = p.rule; point = p.point; due = p.due; budget = p.budget; trigger = p.trigger; seq = base + p.seq; number = p.number }
+offset_from base p = record p { seq = base + p.seq }
 
 -- the first so many hold numbers, the others offsets from the base
 unfoldable pub numbered : ℕ → ℕ → List Pending → List Pending

@@ -16,17 +16,17 @@ due_times = map (λ (c : Pending). c.due)
 
 -- one number is given; and a record that holds its offset joins
 abbrev pub with_next : Volatile → Volatile
-with_next v = record { rest = v.rest; pending = v.pending; next = suc v.next; last_number = v.last_number }
+with_next v = record v { next = suc v.next }
 
 abbrev pub with_record : ℕ → Pending → Volatile → Volatile
-with_record b p v = record { rest = v.rest; pending = v.pending ++ (offset_from b p ∷ []); next = v.next; last_number = v.last_number }
+with_record b p v = record v { pending = v.pending ++ (offset_from b p ∷ []) }
 
 -- the records that pass are kept, by the words of their rows
 abbrev pub kept_by : (List ℕ → Bool) → Pending → Bool
 kept_by test c = test (pending_row.put c)
 
 abbrev pub closed_up : (List ℕ → Bool) → Volatile → Volatile
-closed_up test v = record { rest = v.rest; pending = keep (kept_by test) v.pending; next = v.next; last_number = v.last_number }
+closed_up test v = record v { pending = keep (kept_by test) v.pending }
 
 -- and so many left
 abbrev pub ClosesUp : (List ℕ → Bool) → List ℕ → List ℕ → ℕ → Type 0
@@ -35,7 +35,7 @@ ClosesUp test w w' gone =
 
 -- all records leave, and are counted
 abbrev pub emptied : Volatile → Volatile
-emptied v = record { rest = bump_by continuations_dropped (length v.pending) v.rest; pending = []; next = v.next; last_number = v.last_number }
+emptied v = record v { rest = bump_by continuations_dropped (length v.pending) v.rest; pending = [] }
 
 -- the specification's `schedule`, in every environment of this time and of every run of this rule under this trigger and number
 abbrev pub Schedules : List ℕ → ℕ → ℕ → ℕ → ℕ → ℕ → ℕ → Point → List ℕ → ℕ → Type 0

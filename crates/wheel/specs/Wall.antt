@@ -34,7 +34,7 @@ wall_kind w = record { kind = number_if w.kind; unsynced = w.unsynced }
 
 -- a sun was missed before, or is now
 abbrev pub missed_too : Bool → model.WallKind → model.WallKind
-missed_too missed w = record { kind = w.kind; unsynced = missed || w.unsynced }
+missed_too missed w = record w { unsynced = missed || w.unsynced }
 
 -- what these triggers give, in every environment; and in every one of a snapshot
 abbrev pub KindAnywhere : ℕ → ℕ → Bool → List Trigger → WallKind → Type 0
