@@ -1,14 +1,15 @@
 -- What the functions do in a turn, over lists and numbers. Assumes nothing.
 use mathlib.Core.Path.{◌≡◌, refl, sym, ap, ◌∙◌}
 use mathlib.Core.Bool.{Bool, true, false}
-use mathlib.Core.List.{List, [], ◌∷◌, ◌++◌}
+use mathlib.Core.List.{List, [], ◌∷◌, ◌++◌, map}
 use Prim.Native.Nat.{ℕ, zero, suc, ◌+◌, ◌*◌, ◌-◌, ◌/◌, ◌%◌, ◌≤◌, ◌<◌}
 use native.Mathlib.Omega.{arith}
 use native.Mathlib.Numerals.{add-one}
 use lib.Dec.{leb, eqb}
-use lib.ListN.{length, replicate, length-replicate, length-append}
+use lib.ListN.{length, take, drop, replicate, length-replicate, length-append, length-drop}
+use lib.Seq.{get_or-drop, take_all}
 use borrow.Author.Tests.{le-leb, lt-leb, eq-eqb, ne_eqb}
-use Rattle.model.specs.Lists.{every}
+use Rattle.model.specs.Lists.{every, up_from}
 use Rattle.model.specs.Answers.{words_of_effects, lent}
 use Rattle.model.specs.declared.Effect.{Effect}
 use Rattle.std.specs.Prelude.{Ok, Err}
@@ -35,6 +36,31 @@ module _ (ws : List ℕ) (k : ℕ) where
 pub from_zero : (ws : List ℕ) → effects_from zero ws ≡ effects_in ws
 unfolding effects_from effects_in
 from_zero ws = let e : length ws / 5 - zero ≡ length ws / 5 = omega arith in rw e
+
+-- records behind n of them
+module _ (ws : List ℕ) (n : ℕ) where
+  effect-behind : (i : ℕ) → effect_at (drop (n * 5) ws) i ≡ effect_at ws (n + i)
+  unfolding effect_at
+  effect-behind i =
+      let e0 : n * 5 + i * 5 ≡ (n + i) * 5 = omega arith in
+      let e1 : n * 5 + (i * 5 + 1) ≡ (n + i) * 5 + 1 = omega arith in
+      let e2 : n * 5 + (i * 5 + 2) ≡ (n + i) * 5 + 2 = omega arith in
+      let e3 : n * 5 + (i * 5 + 3) ≡ (n + i) * 5 + 3 = omega arith in
+      let e4 : n * 5 + (i * 5 + 4) ≡ (n + i) * 5 + 4 = omega arith in
+      rw (get_or-drop (n * 5) ws (i * 5) 0, get_or-drop (n * 5) ws (i * 5 + 1) 0, get_or-drop (n * 5) ws (i * 5 + 2) 0, get_or-drop (n * 5) ws (i * 5 + 3) 0, get_or-drop (n * 5) ws (i * 5 + 4) 0, e0, e1, e2, e3, e4)
+
+  effects_behind : (m i : ℕ) → map (effect_at (drop (n * 5) ws)) (up_from i m) ≡ map (effect_at ws) (up_from (n + i) m)
+  effects_behind zero i = refl
+  effects_behind (suc m) i =
+      let e : n + suc i ≡ suc (n + i) = omega arith in
+      rw (effect-behind i, effects_behind m (suc i), e)
+
+  pub behind : effects_from zero (drop (n * 5) ws) ≡ effects_from n ws
+  unfolding effects_from
+  behind =
+      let e : (length ws - n * 5) / 5 - zero ≡ length ws / 5 - n = omega arith in
+      let z : n + zero ≡ n = omega arith in
+      rw (length-drop (n * 5) ws, e) (effects_behind (length ws / 5 - n) zero ∙ rw z)
 
 -- A LAMP IS SET FROM RECORD k ON
 
@@ -131,9 +157,11 @@ module _ (x : Effect) (xs : List Effect) (r : Bool) (e : r ≡ is_level x) where
   unfolding set_again
   level-again q s p = rw (← e, q) p
 
--- of record k, read before
-pub again-here : (ws : List ℕ) (k : ℕ) (x : Effect) → x ≡ effect_at ws k → (r : Bool) → r ≡ set_again x (effects_from (k + 1) ws) → r ≡ set_again (effect_at ws k) (effects_from (suc k) ws)
-again-here ws k x h r e = rw (← h) (rw (add-one k) at e)
+-- of record k, read before, by the words behind it
+pub again-here : (ws : List ℕ) (k : ℕ) (x : Effect) → x ≡ effect_at ws k → (r : Bool) → r ≡ set_again x (effects_from zero (take (length ws - (k + 1) * 5) (drop ((k + 1) * 5) ws))) → r ≡ set_again (effect_at ws k) (effects_from (suc k) ws)
+again-here ws k x h r q =
+    let rest : take (length ws - (k + 1) * 5) (drop ((k + 1) * 5) ws) ≡ drop ((k + 1) * 5) ws = take_all _ _ (omega (arith, length-drop ((k + 1) * 5) ws)) in
+    rw (← h, ← behind ws (suc k)) (rw (rest, add-one k) at q)
 
 -- THE ANSWER
 

@@ -6,4 +6,4 @@ use Rattle.telegrams.specs.Recursion.{is_set, effects_from}
 use Rattle.telegrams.proofs.is_set_from.Given as goal
 
 abbrev pub invariant-loop-j : goal.invariant-loop-j
-invariant-loop-j l = (l.n ≡ length l.effects / 5) × (l.j ≤ l.n) × (is_set zero l.lamp (effects_from l.j l.effects) ≡ is_set zero l.lamp (effects_from l.k l.effects))
+invariant-loop-j l = (l.n ≡ length l.effects / 5) × (l.j ≤ l.n) × (is_set zero l.lamp (effects_from l.j l.effects) ≡ is_set zero l.lamp (effects_from zero l.effects))
