@@ -38,7 +38,7 @@ fn begin(snapshot: &[u32], image: &[u32], store: &[u32], v: &mut State)
     ensures { AllNumbered v.new (volatile_in (size_of image.now rules) (changing_in store.now)) }
 {
     let count = Image::new(image).size_of(Table::Rules) as usize;
-    store::volatile::begin(store, count, v);
+    store::volatile::begin(store, count, &mut v.words);
 }
 
 fn verdict_code(v: Option<bool>) -> u32

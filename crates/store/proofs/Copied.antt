@@ -207,8 +207,5 @@ module _ (w : List ℕ) (n : ℕ) (same : n ≡ state_words) (a b k m : ℕ) (up
 
 -- the first m words of a list, and zeros behind them
 module _ (v v₁ v₂ p : List ℕ) (k m : ℕ) (room : k + length p ≤ length v) (few : m ≤ length p) where
-  pub first_fits : k + length (take m p) ≤ length v
-  first_fits = rw (length-take-le m p few) (omega arith)
-
   pub first-put : v₁ ≡ laid v k (take m p) → v₂ ≡ laid v₁ (k + m) (replicate (length p - m) 0) → v₂ ≡ laid v k (first_of m p)
   first-put e f = lays v v₁ v₂ k (k + m) (take m p) (replicate (length p - m) 0) (omega arith) (rw (length-take-le m p few)) e f

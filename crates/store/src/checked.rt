@@ -49,7 +49,7 @@ impl<'a> Checked<'a> {
         Ok(Checked { words })
     }
 
-    // The words themselves.
+    // Words that say this store.
     pub fn words(&self) -> &'a [u32]
         ensures { read result.now ≡ Some self.now }
     {
@@ -98,6 +98,6 @@ impl<'a> Checked<'a> {
     pub fn begin(&self, v: &mut State)
         ensures { AllNumbered v.new self.now.vol }
     {
-        volatile::begin(self.words, self.rule_count(), v);
+        volatile::begin(self.words, self.rule_count(), &mut v.words);
     }
 }

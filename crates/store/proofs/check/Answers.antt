@@ -2,11 +2,8 @@
 use Rattle.std.proofs.Common.{arith}
 use Rattle.std.proofs.lemmas.Grind.{common_steps}
 use Rattle.store.proofs.Holding.{reads-by}
-use Rattle.store.proofs.SetRules.{fits, readable}
+use Rattle.store.proofs.SetRules.{readable}
 use Rattle.store.proofs.check.Goals as goal
-
-pub tables_hold-requires : goal.tables_hold-requires
-tables_hold-requires c = grind (arith, common_steps, fits)
 
 pub set_holds-requires : goal.set_holds-requires
 set_holds-requires c = grind (arith, common_steps, readable)

@@ -13,3 +13,6 @@ begin-requires c =
 
 pub returns : goal.returns
 returns c = rw (← (rw c.new.ensures at c.size_of-count.ensures)) c.begin.ensures
+
+pub invariant_of-v : goal.invariant_of-v
+invariant_of-v c = c.begin.ensures.sound

@@ -1,11 +1,8 @@
 -- `store::points::names_list` meets its contract. Assumes nothing.
 use Prim.Native.Nat.{◌-◌}
 use borrow.Author.Tests.{le-ltb}
-use Rattle.store.proofs.StepPlaces.{next-list, own-list, no-list, after_list}
+use Rattle.store.proofs.StepPlaces.{next-list, no-list, after_list}
 use Rattle.store.proofs.points.names_list.Goals as goal
-
-pub returns-then-list-eq0 : goal.returns-then-list-eq0
-returns-then-list-eq0 c = λ xs s. own-list _ c.args.rule.now.own xs s c.args.list c.if-list-eq0.true
 
 pub returns-then-i-steps : goal.returns-then-i-steps
 returns-then-i-steps c = λ xs s. after_list _ c.args.rule.now.own xs s _ c.list_of-steps.ensures (c.args.list - 1) c.args.list (next-list _ c.if-list-eq0.false) _ c.if-i-steps.true c.is_after.ensures

@@ -13,8 +13,8 @@ flatten_rules-requires c = record {
   words_len_bound = search rules;
 }
 
-pub returns-in_default : goal.returns-in_default
-returns-in_default c = absurd (over-never (flatten_rules c.words.result.now) _ _ (loads c.words.result.now c.words.ensures.accepted).few c.flatten_rules.ensures.value c.in_default.is)
+pub unreachable-requires : goal.unreachable-requires
+unreachable-requires c = absurd (over-never (flatten_rules c.words.result.now) _ _ (loads c.words.result.now c.words.ensures.accepted).few c.flatten_rules.ensures.value c.in_default.is)
 
 pub overflow_cast-s : goal.overflow_cast-s
 overflow_cast-s c =

@@ -1,10 +1,12 @@
 -- `store::set::image_in` meets its contract. Assumes nothing.
-use mathlib.Core.Path.{refl}
+use native.Mathlib.Omega.{arith}
+use mathlib.Core.Path.{refl, ap, ◌∙◌}
 use Rattle.store.proofs.Parts.{image-part, image-inside}
+use Rattle.store.proofs.Ranges.{found}
 use Rattle.store.proofs.set.image_in.Goals as goal
 
-pub returns-then-store-to : goal.returns-then-store-to
-returns-then-store-to c = λ r. absurd (image-inside c.args.store.now r c.at.result _ c.at.ensures refl c.if-store-to.true)
-
 pub returns : goal.returns
-returns c = λ r. image-part c.args.store.now r c.at.result _ c.at.ensures refl
+returns c = λ r.
+    ap (λ x. x.now) c.unwrap_or.ensures
+    ∙ found c.args.store.now _ _ c.get.result _ c.get.ensures.lookup (omega arith) (image-inside c.args.store.now r c.at.result _ c.at.ensures refl)
+    ∙ image-part c.args.store.now r c.at.result _ c.at.ensures refl

@@ -1,9 +1,9 @@
 -- `store::checks::Rows::seqs_below` meets its contract. Assumes nothing.
-use Rattle.std.proofs.Common.{refl, rules, ltb}
-use Rattle.model.specs.Parts.{pending_row}
+use Rattle.std.proofs.Common.{rules, ltb}
+use Rattle.std.proofs.lemmas.Iterator.Consumers.{YieldsList-from_first}
+use Rattle.fields.proofs.Chains.{computes-all}
 use Rattle.model.specs.declared.Pending.{Pending}
-use Rattle.store.proofs.Rules.{all_rows, seq-is}
 use Rattle.store.proofs.checks.Rows.seqs_below.Goals as goal
 
 pub returns : goal.returns
-returns c = all_rows (λ (p : Pending). ltb p.seq c.args.next) pending_row _ _ refl _ _ _ _ _ c.all.ensures.ran (λ i a q h. search (rules, seq-is))
+returns c = computes-all _ _ (λ (p : Pending). ltb p.seq c.args.next) _ c.all.ensures.ran (YieldsList-from_first (λ x. x) (λ rest. rest) _ c.pending.ensures) (λ x b q k. search rules)

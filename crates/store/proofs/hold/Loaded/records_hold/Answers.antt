@@ -3,9 +3,6 @@ use Rattle.model.specs.Flat.{flatten_rules, set_of}
 use Rattle.store.proofs.SetRules.{records-are}
 use Rattle.store.proofs.hold.Loaded.records_hold.Goals as goal
 
-pub records_fit-requires : goal.records_fit-requires
-records_fit-requires c = (c.args.self.now.accepted, rw c.counted.ensures.words c.requires.flat)
-
 pub returns : goal.returns
 returns c =
     let r = c.counted in

@@ -24,8 +24,8 @@ returns-then-not-few_enough-clause-holds c =
     laws.counts-refused c.args.self.now.words.now c.args.image.now (sym c.refusal.ensures ∙ zero-of c.refusal.result (sym c.is_err.ensures.value ∙ c.if-is_err.false))
     (sym (rw c.new.ensures at c.few_enough.ensures) ∙ not-true c.few_enough.result c.if-not-few_enough.true-raw)
 
-pub slice_bounds-same_flat-end-2 : goal.slice_bounds-same_flat-end-2
-slice_bounds-same_flat-end-2 c =
+pub slice_bounds-same_flat-end : goal.slice_bounds-same_flat-end
+slice_bounds-same_flat-end c =
     let r = c.args.self.now.readable in
     omega (arith, (counted-set c.args.self.now.words.now r).steps, c.at.ensures, r.long)
 
