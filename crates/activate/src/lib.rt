@@ -31,6 +31,12 @@ pub struct Handled {
     pub effects: u32,
 }
 
+// Nothing is done yet.
+pub const NOTHING: Handled = Handled {
+    outcomes: 0,
+    effects: 0,
+};
+
 // What a call lends for it: the words of the outcomes and of the effects, and the state; and what was done so far.
 #[derive(Drop)]
 pub struct Lent<'a> {

@@ -18,7 +18,8 @@ use Rattle.activate.specs.declared.Handled.{Handled}
 use Rattle.engine.specs.Seen.{Seen, seen}
 use Rattle.engine.specs.Asked.{lowest_of}
 use Rattle.engine.specs.Answers.{handled_values, shown}
-use Rattle.engine.specs.Handling.{begun, Commits}
+use Rattle.wheel.specs.Tick.{start}
+use Rattle.engine.specs.Handling.{Commits}
 use Rattle.engine.specs.Inputs.{call_of, dispatched_in}
 use Rattle.engine.specs.declared.handle.EngineInput.{EngineInput}
 use Rattle.engine.specs.declared.handle.EngineInput.TheVariants.{Tick, RunRule}
@@ -32,7 +33,7 @@ input-declined f (RunRule name dry) snap os es w ow ew r q g h = run-declined f 
 
 pub input-ends : (input : EngineInput) (snap w : List ℕ) (os es : ℕ) (s : Store) (v ow ew ow₁ ew₁ w' ow' ew' : List ℕ) (x : Carried) (r : Result Handled Refusal) (t : ℕ)
     → read w ≡ Some s → snapshot_refusal snap ≡ 0 → ow ≡ replicate os 0 → ew ≡ replicate es 0 → AllNumbered v s.vol → t ≡ (world_of snap).now
-    → Continues (begun v) ow ew (dispatched_in input s.loaded snap (meaning v)) x ow₁ ew₁ → length ow₁ ≡ length ow → length ew₁ ≡ length ew
+    → Continues (start v) ow ew (dispatched_in input s.loaded snap (meaning v)) x ow₁ ew₁ → length ow₁ ≡ length ow → length ew₁ ≡ length ew
     → Commits x t w ow₁ ew₁ r w' ow' ew' → shown handled_values r w' ow' ew' ≡ seen (call_on (call_of input snap os es) w)
 input-ends Tick snap w os es s v ow ew ow₁ ew₁ w' ow' ew' x r t e z o f a u c l m k =
     tick-ends snap w os es s v ow ew ow₁ ew₁ w' ow' ew' x r t e z o f a u c l m k

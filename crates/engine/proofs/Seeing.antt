@@ -91,22 +91,6 @@ unless-positive : (b : Bool) → unless b 1 2 ≡ 0 → ⊥
 unless-positive true e = omega arith
 unless-positive false e = omega arith
 
--- 0 is said of a store, and of a store alone
-pub no-refusal : (w : List ℕ) → present (read w) ≡ true → 0 ≡ refusal_of (read w) w
-no-refusal w p = go (read w) p
-  where
-    go : (o : Option Store) → present o ≡ true → 0 ≡ refusal_of o w
-    go None q = absurd (false≢true q)
-    go (Some s) q = refl
-
-pub is_store : (w : List ℕ) → 0 ≡ refusal_of (read w) w → present (read w) ≡ true
-unfolding store_refusal
-is_store w z = go (read w) (sym z)
-  where
-    go : (o : Option Store) → refusal_of o w ≡ 0 → present o ≡ true
-    go None e = absurd (unless-positive (eqb (length w) 16384) e)
-    go (Some s) e = refl
-
 module _ (w : List ℕ) (r : Refusal) (q : refusal_code r ≡ refusal_of (read w) w) where
   record NoStore : Type 0 where
     is : read w ≡ None

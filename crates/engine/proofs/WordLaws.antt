@@ -41,11 +41,6 @@ said w p = go (read w) refl p
     go None e p = absurd (false≢true p)
     go (Some s) e p = saying w s e
 
--- the value that is read is the store's
-pub value_read : (w : List ℕ) (s : Store) → read w ≡ Some s → (n : ℕ) (v : List ℕ) → n ≡ rule_count s.loaded → AllNumbered v (volatile_in n (changing_in w)) → AllNumbered v s.vol
-value_read w s e n v q a =
-    subst (λ (m : Volatile). AllNumbered v m) (ap (λ (k : ℕ). volatile_in k (changing_in w)) q ∙ volatile-read w s (from-read w s e)) a
-
 -- its Every slots
 pub old-slots : (w : List ℕ) (s : Store) (n : ℕ) → read w ≡ Some s → n ≡ row_at any w slots_place → table_at slot_row n w (slots_place + 1) ≡ s.vol.rest.every
 old-slots w s n e q = ap (λ (m : ℕ). table_at slot_row m w (slots_place + 1)) q ∙ sym (slots_at w) ∙ ap (λ (v : Volatile). v.rest.every) (volatile-read w s (from-read w s e))

@@ -10,8 +10,8 @@ use model::Refusal;
 use store::checked::Checked;
 
 // The store that the words say.
-// kept: it only hands on to `Checked::of`, as it would be no plainer without: five calls and `opened_with` open a store by it, and the edit
-// refuses_every_store makes all of them wrong at this one place.
+// kept: it only hands on to `Checked::of`, for the edit refuses_every_store of this crate, whose name stays: its one place is here, where all calls
+// open a store, since a `Checked` is made in store alone.
 pub fn opened(words: &[u32]) -> Result<Checked<'_>, Refusal>
     ensures number { refusal_number result ≡ refusal_of (read words.now) words.now }
     ensures value { IfOk result (λ store. read words.now ≡ Some store) }

@@ -15,7 +15,7 @@ ghost use Rattle.engine.specs.Handling.{ran_in, ticked_in, over_of, Comes, Commi
 ghost use Rattle.engine.specs.Inputs.{dispatched_in, call_of};
 
 use crate::asked::opened_with;
-use activate::{Handled, Lent, Mode};
+use activate::{Handled, Lent, Mode, NOTHING};
 use counters::Counter;
 use model::{Refusal, TriggerKind};
 use state::State;
@@ -29,12 +29,6 @@ pub enum EngineInput {
     Tick,
     RunRule { name: u32, dry: bool },
 }
-
-// Nothing is written yet.
-const NOTHING: Handled = Handled {
-    outcomes: 0,
-    effects: 0,
-};
 
 // The lowest refusal of a call that has come so far, where there is one: there is no room for it, or no number.
 fn fits(lent: &Lent) -> Result<(), Refusal>

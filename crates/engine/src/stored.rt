@@ -5,6 +5,7 @@ ghost use Rattle.model.specs.Wheel.{next_deadline};
 
 use rows::row::Row;
 use state::State;
+use state::place::COUNTER_WORDS;
 use store::checked::Checked;
 use store::table;
 
@@ -29,8 +30,8 @@ pub fn counters(store: &Checked) -> [u32; 16]
         u32::at(words, table::VARIABLES),
     ];
     let mut values = [0; 16];
-    let (first, last) = values.split_at_mut(12);
-    first.copy_from_slice(&words[table::COUNTERS..table::COUNTERS + 12]);
+    let (first, last) = values.split_at_mut(COUNTER_WORDS);
+    first.copy_from_slice(&words[table::COUNTERS..table::STATE_END]);
     last.copy_from_slice(&gauges);
     values
 }

@@ -54,6 +54,10 @@ pub record Fires (n : ℕ) (h : model-state.Volatile → model.Handled) (x : Car
   pub says : Continues x ow ew (h (meaning x.vol)) r ow' ew'
   pub within : Within n x r
 
+-- where a tick or a run begins: nothing is done yet
+abbrev pub start : List ℕ → Carried
+start v = record { vol = v; outcomes = 0; effects = 0 }
+
 -- what a tick asks for: an accepted snapshot, a loaded image with its flat steps, and a state as the store is read
 pub record Ready (snapshot image store : List ℕ) (v : List ℕ) : Type 0 where
   pub world : snapshot_refusal snapshot ≡ 0

@@ -21,7 +21,7 @@ use image::layout::Image;
 // What a tick is given: the words of the snapshot, of the image and of the store that has its flat steps, and the image's rules in the order of
 // their names.
 // What a call lends, activate's `Lent`, goes beside it: it is changed, and this is only read, and copied into each `Rule`.
-// kept: `Room n` is asked by each function that is lent it, since n is what that function may start: 1, 32, 64 or 1024
+// kept: `Room n` is asked by each function that is lent it, since n is what that function may start: 1, 32, 64 or 1024.
 #[derive(Clone, Copy)]
 pub struct Env<'a> {
     pub snapshot: &'a [u32],

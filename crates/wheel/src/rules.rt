@@ -12,29 +12,31 @@ use activate::{Lent, Mode, activate};
 use model::TriggerKind;
 use store::flat_part::rule_flat;
 
-pub fn activate_rule(rule: &Rule, lent: &mut Lent, kind: TriggerKind)
-    requires { Room 1 (carried_by lent.old) }
-    ensures { Over (Fires 1 (model.activate (env_of rule.now.env.now) rule.now.i (trigger_number kind) model.Auto)) lent.old lent.new }
-{
-    let env = rule.env;
-    let steps = rule_flat(env.store, rule.i);
-    activate(
-        env.snapshot,
-        env.image,
-        &steps,
-        lent,
-        rule.i,
-        kind,
-        Mode::Auto,
-    );
-}
+impl Rule<'_, '_> {
+    pub fn activate(&self, lent: &mut Lent, kind: TriggerKind)
+        requires { Room 1 (carried_by lent.old) }
+        ensures { Over (Fires 1 (model.activate (env_of self.now.env.now) self.now.i (trigger_number kind) model.Auto)) lent.old lent.new }
+    {
+        let env = self.env;
+        let steps = rule_flat(env.store, self.i);
+        activate(
+            env.snapshot,
+            env.image,
+            &steps,
+            lent,
+            self.i,
+            kind,
+            Mode::Auto,
+        );
+    }
 
-// Whether a rule is enabled is asked when its turn comes.
-pub fn activate_if_enabled(rule: &Rule, lent: &mut Lent, kind: TriggerKind)
-    requires { Room 1 (carried_by lent.old) }
-    ensures { Over (Fires 1 (activate_if_enabled (env_of rule.now.env.now) (trigger_number kind) rule.now.i)) lent.old lent.new }
-{
-    if lent.state.is_enabled(rule.i as usize) {
-        activate_rule(rule, lent, kind);
+    // Whether a rule is enabled is asked when its turn comes.
+    pub fn activate_if_enabled(&self, lent: &mut Lent, kind: TriggerKind)
+        requires { Room 1 (carried_by lent.old) }
+        ensures { Over (Fires 1 (activate_if_enabled (env_of self.now.env.now) (trigger_number kind) self.now.i)) lent.old lent.new }
+    {
+        if lent.state.is_enabled(self.i as usize) {
+            self.activate(lent, kind);
+        }
     }
 }

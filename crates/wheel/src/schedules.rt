@@ -10,12 +10,11 @@ ghost use Rattle.world.specs.Ranges.{WallInRange};
 ghost use Rattle.activate.specs.Carried.{carried_by, Over};
 ghost use Rattle.activate.specs.Handled.{Room};
 ghost use Rattle.wheel.specs.Given.{env_of};
-ghost use Rattle.wheel.specs.Tick.{Fires, count_missed, remembering, without_wall};
+ghost use Rattle.wheel.specs.Tick.{Fires, count_missed, without_wall};
 ghost use Rattle.wheel.specs.Wall.{number_if};
 ghost use Rattle.wheel.specs.Turns.{Turns};
 
 use crate::minutes::{WEEK_MINUTES, Window, cyclic_dist, week_minute};
-use crate::rules::activate_rule;
 use crate::wall::{due_wall_kind, has_wall_triggers};
 use crate::{Env, Rule};
 use activate::Lent;
@@ -29,30 +28,6 @@ const CATCH_UP_MINUTES: u64 = 60;
 // A clock set back by so many minutes at most starts nothing.
 const SET_BACK_MINUTES: u64 = 120;
 
-// A rule starts, where a trigger of it is due.
-fn start_wall(rule: &Rule, lent: &mut Lent, kind: Option<TriggerKind>)
-    requires { Room 1 (carried_by lent.old) }
-    ensures { Over (Fires 1 (start_wall (number_if kind) (env_of rule.now.env.now) rule.now.i)) lent.old lent.new }
-{
-    if let Some(kind) = kind {
-        activate_rule(rule, lent, kind);
-    }
-}
-
-// A rule's turn: whether a sun was missed so far.
-fn wall_turn(rule: &Rule, lent: &mut Lent, window: Window, missed: bool) -> bool
-    requires { Room 1 (carried_by lent.old) }
-    ensures { Over (Turns (env_of rule.now.env.now) window.base window.window rule.now.i missed result) lent.old lent.new }
-{
-    if !lent.state.is_enabled(rule.i as usize) {
-        return missed;
-    }
-    let env = rule.env;
-    let w = due_wall_kind(env.snapshot, env.image, window, rule.i, missed);
-    start_wall(rule, lent, w.kind);
-    w.unsynced
-}
-
 // A tick without the time that it was asked for is counted.
 fn count_missed(v: &mut State, missed: bool)
     ensures { Means v.new (base v.old) (count_missed missed (meaning v.old)) }
@@ -60,18 +35,6 @@ fn count_missed(v: &mut State, missed: bool)
     if missed {
         v.bump(Counter::TicksTimeUnsynced, 1);
     }
-}
-
-fn fire_due_wall_rules(env: &Env, lent: &mut Lent, window: Window)
-    requires { Room 64 (carried_by lent.old) }
-    ensures { Over (Fires 64 (fire_due_wall_rules (env_of env.now) window.base window.window false (name_order env.now.image.now))) lent.old lent.new }
-{
-    let mut missed = false;
-    for i in env.order {
-        let rule = Rule { env, i: *i };
-        missed = wall_turn(&rule, lent, window, missed);
-    }
-    count_missed(lent.state, missed);
 }
 
 fn window_of(prev: u64, minute: u64) -> u64
@@ -92,58 +55,92 @@ fn is_set_back(prev: u32, minute: u64) -> bool
     behind.in_window(prev as u64)
 }
 
-fn fire_window(env: &Env, lent: &mut Lent, minute: u64, window: u64)
-    requires { Room 64 (carried_by lent.old) × (minute < 10080) × (window ≤ 60) }
-    ensures { Over (Fires 64 (fire_window (env_of env.now) minute window)) lent.old lent.new }
-{
-    if !has_wall_triggers(env.image, lent.state) {
-        return;
+impl Rule<'_, '_> {
+    // A rule starts, where a trigger of it is due.
+    fn start_wall(&self, lent: &mut Lent, kind: Option<TriggerKind>)
+        requires { Room 1 (carried_by lent.old) }
+        ensures { Over (Fires 1 (start_wall (number_if kind) (env_of self.now.env.now) self.now.i)) lent.old lent.new }
+    {
+        if let Some(kind) = kind {
+            self.activate(lent, kind);
+        }
     }
-    if window == 0 {
-        return;
+
+    // A rule's turn: whether a sun was missed so far.
+    fn wall_turn(&self, lent: &mut Lent, window: Window, missed: bool) -> bool
+        requires { Room 1 (carried_by lent.old) }
+        ensures { Over (Turns (env_of self.now.env.now) window.base window.window self.now.i missed result) lent.old lent.new }
+    {
+        if !lent.state.is_enabled(self.i as usize) {
+            return missed;
+        }
+        let env = self.env;
+        let w = due_wall_kind(env.snapshot, env.image, window, self.i, missed);
+        self.start_wall(lent, w.kind);
+        w.unsynced
     }
-    let base = (minute + WEEK_MINUTES - window) % WEEK_MINUTES;
-    fire_due_wall_rules(env, lent, Window { base, window });
 }
 
-fn remember(v: &mut State, minute: u32)
-    ensures { Means v.new (base v.old) (remembering minute (meaning v.old)) }
-{
-    v.set_prev_week_min(Some(minute));
-}
-
-// The minute of this tick is remembered, and what has become due since the one before starts, unless the clock was set back.
-fn fire_wall_at(env: &Env, lent: &mut Lent, w: WallTime)
-    requires { Room 64 (carried_by lent.old) × WallInRange w }
-    ensures { Over (Fires 64 (fire_wall_at (Some w) (env_of env.now))) lent.old lent.new }
-{
-    let prev = lent.state.prev_week_min();
-    let minute = week_minute(w);
-    remember(lent.state, minute);
-    let Some(before) = prev else { return };
-    let to = minute as u64;
-    if is_set_back(before, to) {
-        return;
+impl Env<'_> {
+    fn fire_due_wall_rules(&self, lent: &mut Lent, window: Window)
+        requires { Room 64 (carried_by lent.old) }
+        ensures { Over (Fires 64 (fire_due_wall_rules (env_of self.now) window.base window.window false (name_order self.now.image.now))) lent.old lent.new }
+    {
+        let mut missed = false;
+        for i in self.order {
+            let rule = Rule { env: self, i: *i };
+            missed = rule.wall_turn(lent, window, missed);
+        }
+        count_missed(lent.state, missed);
     }
-    let window = window_of(before as u64, to);
-    fire_window(env, lent, to, window);
-}
 
-// Without a wall clock the minute before is forgotten.
-fn without_clock(env: &Env, v: &mut State)
-    ensures { Means v.new (base v.old) (without_wall env.now.image.now (meaning v.old)) }
-{
-    let missed = has_wall_triggers(env.image, v);
-    count_missed(v, missed);
-    v.set_prev_week_min(None);
-}
+    fn fire_window(&self, lent: &mut Lent, minute: u64, window: u64)
+        requires { Room 64 (carried_by lent.old) × (minute < 10080) × (window ≤ 60) }
+        ensures { Over (Fires 64 (fire_window (env_of self.now) minute window)) lent.old lent.new }
+    {
+        if !has_wall_triggers(self.image, lent.state) {
+            return;
+        }
+        if window == 0 {
+            return;
+        }
+        let base = (minute + WEEK_MINUTES - window) % WEEK_MINUTES;
+        self.fire_due_wall_rules(lent, Window { base, window });
+    }
 
-pub fn fire_wall_schedules(env: &Env, lent: &mut Lent)
-    requires { Room 64 (carried_by lent.old) × (snapshot_refusal env.now.snapshot.now ≡ 0) }
-    ensures { Over (Fires 64 (fire_wall_schedules (env_of env.now))) lent.old lent.new }
-{
-    match world::wall(env.snapshot) {
-        Some(w) => fire_wall_at(env, lent, w),
-        None => without_clock(env, lent.state),
+    // The minute of this tick is remembered, and what has become due since the one before starts, unless the clock was set back.
+    fn fire_wall_at(&self, lent: &mut Lent, w: WallTime)
+        requires { Room 64 (carried_by lent.old) × WallInRange w }
+        ensures { Over (Fires 64 (fire_wall_at (Some w) (env_of self.now))) lent.old lent.new }
+    {
+        let prev = lent.state.prev_week_min();
+        let minute = week_minute(w);
+        lent.state.set_prev_week_min(Some(minute));
+        let Some(before) = prev else { return };
+        let to = minute as u64;
+        if is_set_back(before, to) {
+            return;
+        }
+        let window = window_of(before as u64, to);
+        self.fire_window(lent, to, window);
+    }
+
+    // Without a wall clock the minute before is forgotten.
+    fn without_clock(&self, v: &mut State)
+        ensures { Means v.new (base v.old) (without_wall self.now.image.now (meaning v.old)) }
+    {
+        let missed = has_wall_triggers(self.image, v);
+        count_missed(v, missed);
+        v.set_prev_week_min(None);
+    }
+
+    pub fn fire_wall_schedules(&self, lent: &mut Lent)
+        requires { Room 64 (carried_by lent.old) × (snapshot_refusal self.now.snapshot.now ≡ 0) }
+        ensures { Over (Fires 64 (fire_wall_schedules (env_of self.now))) lent.old lent.new }
+    {
+        match world::wall(self.snapshot) {
+            Some(w) => self.fire_wall_at(lent, w),
+            None => self.without_clock(lent.state),
+        }
     }
 }

@@ -8,7 +8,6 @@ ghost use Rattle.activate.specs.Handled.{Room};
 ghost use Rattle.wheel.specs.Given.{env_of};
 ghost use Rattle.wheel.specs.Tick.{Fires, on_timer, rules_of_timers};
 
-use crate::rules::activate_if_enabled;
 use crate::{Env, Rule};
 use activate::Lent;
 use model::{NamedTimer, Trigger, TriggerKind};
@@ -19,52 +18,55 @@ fn is_timer(trigger: Trigger, timer: u32) -> bool
     matches!(trigger, Trigger::TimerFires { timer: name } if name == timer)
 }
 
-// A trigger of the rule is this timer.
-fn fires_on(rule: &Rule, timer: u32) -> bool
-    ensures { result ≡ any (fires_on timer) (triggers_of rule.now.env.now.image.now rule.now.i) }
-{
-    let image = rule.env.image;
-    let i = rule.i;
-    (0..image.trigger_count(i)).any(|k| is_timer(image.trigger_at(i, k), timer))
-}
+impl Rule<'_, '_> {
+    // A trigger of the rule is this timer.
+    fn fires_on(&self, timer: u32) -> bool
+        ensures { result ≡ any (fires_on timer) (triggers_of self.now.env.now.image.now self.now.i) }
+    {
+        let mut triggers = self.env.image.triggers(self.i);
+        triggers.any(|trigger| is_timer(trigger, timer))
+    }
 
-// The rule, where it has the timer as a trigger.
-fn fire_rule(rule: &Rule, lent: &mut Lent, timer: u32)
-    requires { Room 1 (carried_by lent.old) }
-    ensures { Over (Fires 1 (activate_each (env_of rule.now.env.now) by_timer (keep (on_timer rule.now.env.now.image.now timer) (rule.now.i ∷ [])))) lent.old lent.new }
-{
-    if fires_on(rule, timer) {
-        activate_if_enabled(rule, lent, TriggerKind::TimerFires);
+    // The rule, where it has the timer as a trigger.
+    fn fire_on_timer(&self, lent: &mut Lent, timer: u32)
+        requires { Room 1 (carried_by lent.old) }
+        ensures { Over (Fires 1 (activate_each (env_of self.now.env.now) by_timer (keep (on_timer self.now.env.now.image.now timer) (self.now.i ∷ [])))) lent.old lent.new }
+    {
+        if self.fires_on(timer) {
+            self.activate_if_enabled(lent, TriggerKind::TimerFires);
+        }
     }
 }
 
-fn fire_one_timer(env: &Env, lent: &mut Lent, timer: u32)
-    requires { Room 64 (carried_by lent.old) }
-    ensures { Over (Fires 64 (activate_each (env_of env.now) by_timer (rules_on_timer env.now.image.now timer))) lent.old lent.new }
-{
-    for i in env.order {
-        let rule = Rule { env, i: *i };
-        fire_rule(&rule, lent, timer);
+impl Env<'_> {
+    fn fire_one_timer(&self, lent: &mut Lent, timer: u32)
+        requires { Room 64 (carried_by lent.old) }
+        ensures { Over (Fires 64 (activate_each (env_of self.now) by_timer (rules_on_timer self.now.image.now timer))) lent.old lent.new }
+    {
+        for i in self.order {
+            let rule = Rule { env: self, i: *i };
+            rule.fire_on_timer(lent, timer);
+        }
     }
-}
 
-fn fire_due_timers(env: &Env, lent: &mut Lent, due: &[NamedTimer])
-    requires few { length due.now ≤ 16 }
-    requires room { Room 1024 (carried_by lent.old) }
-    ensures { Over (Fires 1024 (activate_each (env_of env.now) by_timer (rules_of_timers env.now.image.now due.now))) lent.old lent.new }
-{
-    for t in due {
-        fire_one_timer(env, lent, t.name);
+    fn fire_due_timers(&self, lent: &mut Lent, due: &[NamedTimer])
+        requires few { length due.now ≤ 16 }
+        requires room { Room 1024 (carried_by lent.old) }
+        ensures { Over (Fires 1024 (activate_each (env_of self.now) by_timer (rules_of_timers self.now.image.now due.now))) lent.old lent.new }
+    {
+        for t in due {
+            self.fire_one_timer(lent, t.name);
+        }
     }
-}
 
-// kept: see `fire_continuations`.
-pub fn fire_timers(env: &Env, lent: &mut Lent)
-    requires { Room 1024 (carried_by lent.old) }
-    ensures { Over (Fires 1024 (fire_timers (env_of env.now))) lent.old lent.new }
-{
-    let time = world::now_ms(env.snapshot);
-    let due = lent.state.due_timers(time);
-    lent.state.without_due_timers(time);
-    fire_due_timers(env, lent, due.as_slice());
+    // kept: see `fire_continuations`.
+    pub fn fire_timers(&self, lent: &mut Lent)
+        requires { Room 1024 (carried_by lent.old) }
+        ensures { Over (Fires 1024 (fire_timers (env_of self.now))) lent.old lent.new }
+    {
+        let time = world::now_ms(self.snapshot);
+        let due = lent.state.due_timers(time);
+        lent.state.without_due_timers(time);
+        self.fire_due_timers(lent, due.as_slice());
+    }
 }

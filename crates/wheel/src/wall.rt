@@ -11,6 +11,9 @@ use image::layout::{Image, Table};
 use model::{SolarEvent, Trigger, TriggerKind};
 use state::State;
 
+// The days of a week, a bit each.
+const EVERY_DAY: u32 = 127;
+
 // The kind of the first due trigger, and whether a sun was asked for that is not known.
 // kept: no Option or Result says both: a trigger can be due where one before it missed the sun. The specification's record has the same two fields.
 #[derive(Clone, Copy)]
@@ -51,7 +54,11 @@ fn solar_kind(
     match world::sun(snapshot) {
         Some(t) => {
             let minute = eval::time::solar_minute(t, event, offset_ms) as u64;
-            kind_if(window.minute_due(127, minute), TriggerKind::AtSolar, missed)
+            kind_if(
+                window.minute_due(EVERY_DAY, minute),
+                TriggerKind::AtSolar,
+                missed,
+            )
         }
         None => no_kind(true),
     }
@@ -78,6 +85,7 @@ fn trigger_kind(snapshot: &[u32], window: Window, trigger: Trigger, missed: bool
 }
 
 // What the triggers of rule i give.
+// kept: the words and the place, which a `Rule` has. It is public, and a `Rule` would ask more of its callers than these do.
 // kept: a sun that one trigger misses goes into what the next one gives, so that this is no `find_map`, whose turns know nothing of each other.
 pub fn due_wall_kind(
     snapshot: &[u32],
@@ -110,8 +118,7 @@ fn is_wall_trigger(trigger: Trigger) -> bool
 fn enabled_wall(image: &Image, v: &State, i: u32) -> bool
     ensures { result ≡ enabled_wall image.now (meaning v.now).rest i }
 {
-    v.is_enabled(i as usize)
-        && (0..image.trigger_count(i)).any(|k| is_wall_trigger(image.trigger_at(i, k)))
+    v.is_enabled(i as usize) && image.triggers(i).any(|trigger| is_wall_trigger(trigger))
 }
 
 // An enabled rule has a wall trigger.

@@ -6,6 +6,7 @@ use Rattle.state.specs.Meaning.{meaning}
 use Rattle.store.proofs.Stored.{from-read}
 use Rattle.activate.proofs.Continues.{nothing-done}
 use Rattle.activate.specs.Carried.{carried_by}
+use Rattle.wheel.specs.Tick.{start}
 use Rattle.engine.specs.Handling.{ticked_in}
 use Rattle.engine.proofs.LoadedLaws.{none-given, image-given}
 use Rattle.engine.proofs.HandlingLaws.{continues-as}
@@ -21,8 +22,8 @@ returns-in_default c =
       same = (refl, refl, refl);
     }
 
-pub service_tick-requires-clause-ready : goal.service_tick-requires-clause-ready
-service_tick-requires-clause-ready c =
+pub service_tick-requires : goal.service_tick-requires
+service_tick-requires c =
     let e = c.words.ensures in
     let l = image-given _ _ c.args.store.now e c.in-Some.ensures.value in
     tick-ready _ _ c.args.snapshot.now c.args.store.now l c.args.lent.now.state.now c.requires.ready.1 (from-read _ _ e) c.requires.ready.0
@@ -31,6 +32,6 @@ pub returns-in-Some : goal.returns-in-Some
 returns-in-Some c =
     let l = image-given _ _ c.args.store.now c.words.ensures c.in-Some.ensures.value in
     record {
-      does = ticked _ _ c.args.snapshot.now c.args.store.now l c.args.lent.now.state.now c.requires.ready.1 (carried_by c.args.lent.now) _ _ _ _ _ c.service_tick.ensures.does.says;
+      does = rw c.requires.nothing (ticked _ _ c.args.snapshot.now c.args.store.now l c.args.lent.now.state.now c.requires.ready.1 (start c.args.lent.now.state.now) _ _ _ _ _ c.service_tick.ensures.does.says);
       same = c.service_tick.ensures.same;
     }

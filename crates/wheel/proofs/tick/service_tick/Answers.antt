@@ -4,13 +4,6 @@ use Rattle.wheel.specs.Tick.{tick_env}
 use Rattle.wheel.proofs.Ticks.{whole-tick}
 use Rattle.wheel.proofs.tick.service_tick.Goals as goal
 
-pub invariant_of-env : goal.invariant_of-env
-invariant_of-env c =
-    record {
-      holds = c.requires.ready.holds;
-      ordered = c.as_slice.ensures.value ∙ c.name_order-order.ensures;
-    }
-
 pub returns : goal.returns
 returns c =
     let a = c.fire_continuations.ensures.same in

@@ -1,9 +1,0 @@
--- `wheel::continuations::resume_all` meets its contract. Assumes nothing.
-use Rattle.activate.specs.Carried.{Over}
-use Rattle.wheel.specs.Tick.{records_in, tick_env}
-use Rattle.wheel.proofs.Loops.{Resuming}
-use Rattle.wheel.proofs.continuations.resume_all.Given as goal
-
-abbrev pub invariant-loop-i : goal.invariant-loop-i
-invariant-loop-i l =
-    Over (λ x ow ew. Resuming (tick_env l.env.snapshot.now l.env.image.now) (records_in l.env.store.now l.due) x ow ew l.i-index) l.initial.lent l.lent
