@@ -6,15 +6,6 @@ use Rattle.flat.proofs.rules.flatten_image.Goals as goal
 pub new-tables-requires : goal.new-tables-requires
 new-tables-requires c = (long c.args.image.now c.requires.checked, short c.args.image.now c.requires.checked)
 
-pub table-acts-requires : goal.table-acts-requires
-table-acts-requires c = rw c.new-tables.ensures c.requires.checked.placed
-
-pub table-blocks-requires : goal.table-blocks-requires
-table-blocks-requires c = rw c.new-tables.ensures c.requires.checked.placed
-
-pub table-rules-requires : goal.table-rules-requires
-table-rules-requires c = rw c.new-tables.ensures c.requires.checked.placed
-
 pub find_calls-requires : goal.find_calls-requires
 find_calls-requires c =
     let acts = rw c.new-tables.ensures at c.table-acts.ensures in

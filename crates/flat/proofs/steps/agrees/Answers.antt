@@ -1,5 +1,5 @@
 -- `flat::steps::agrees` meets its contract. Assumes nothing.
-use Rattle.std.proofs.Common.{◌≡◌, ℕ, Bool, true, false, List, length}
+use Rattle.std.proofs.Common.{◌≡◌, ℕ, Bool, true, List, length}
 use mathlib.Core.Bool.{◌&&◌}
 use lib.Dec.{eqb}
 use Rattle.std.specs.List.{starts_with}
@@ -11,9 +11,6 @@ use Rattle.flat.proofs.Words.{tail_of, same-start}
 use Rattle.flat.proofs.RuleLists.{same-tail}
 use Rattle.flat.proofs.steps.agrees.Goals as goal
 
-differed : (seen : List ℕ) (n : ℕ) (same : Bool) (rs : List Row) → same ≡ false → same ≡ same && holds_at seen n rs
-differed seen n same rs e = rw e
-
 compared : (seen steps : List ℕ) (k n : ℕ) (same r : Bool) (rs : List Row) → Placed n (length seen) k → same ≡ true → r ≡ starts_with eqb (tail_of seen k) steps
     → steps ≡ layout rs → r ≡ same && holds_at seen n rs
 compared seen steps k n same r rs p t e q = rw (e, t, same-start (tail_of seen k) steps, same-tail seen k n steps p, q)
@@ -23,6 +20,3 @@ returns-then-same c = λ rs e.
     let a = c.args in
     let p = c.place.ensures in
     compared a.seen.now a.steps.now _ a.n a.same _ rs (record { inside = p.0; there = p.1; past = p.2 }) c.if-same.true c.starts_with.ensures.value e
-
-pub returns-else-same : goal.returns-else-same
-returns-else-same c = λ rs e. let a = c.args in differed a.seen.now a.n a.same rs c.if-same.false

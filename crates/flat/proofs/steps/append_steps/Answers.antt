@@ -1,6 +1,6 @@
 -- `flat::steps::append_steps` meets its contract: words pasted, and words compared. Assumes nothing.
 use Rattle.std.proofs.Common.{arith}
-use Rattle.flat.proofs.Rows.{rows-behind, front-of}
+use Rattle.flat.proofs.Rows.{rows-behind}
 use Rattle.flat.proofs.steps.append_steps.Goals as goal
 
 pub returns-clause-behinds : goal.returns-clause-behinds
@@ -10,9 +10,3 @@ returns-clause-behinds c = λ rs e.
       rows-behind a.b.now.words.now _ a.steps.now a.b.now.count rs e (λ h. let z = p.1 (omega arith) in rw z at c.put_words.ensures.words_after h),
       c.agrees-b.ensures rs e,
     )
-
-pub returns-clause-words_unchanged : goal.returns-clause-words_unchanged
-returns-clause-words_unchanged c =
-    let a = c.args in
-    let p = c.place-at.ensures in
-    front-of a.b.now.words.now _ a.b.now.count _ c.put_words.auto.words p.1 p.2 c.put_words.ensures.words_unchanged
