@@ -8,7 +8,7 @@ use mathlib.Core.Path.{◌≡◌, refl, sym, ap, subst, ◌∙◌}
 use mathlib.Core.List.{List, [], ◌∷◌, ◌++◌}
 use lib.Dec.{leb}
 use lib.ListN.{length, take, drop, get_or, set, length-set, length-take, length-drop, drop_of_length-le}
-use lib.Seq.{take-suc, take_all, drop-set-lt, get_or-drop, length-take-le}
+use lib.Seq.{take-suc, drop-set-lt, get_or-drop, length-take-le}
 use borrow.Author.Tests.{leb-true, leb-false, le-leb, lt-leb}
 use borrow.Rule.Slice.PartMut.{put_mid}
 use Rattle.words.specs.Saturating.{max64}
@@ -136,15 +136,6 @@ module _ (next stored : ℕ) (t₀ : List ℕ) (start : Counted 32 pending_row t
             counted = subst (Holds 32 pending_row t₁) (sym g) h;
             numbering = subst (λ (l : List Pending). Numbering next stored (get t₀) l (i + 1)) (sym g) (numbering-more next stored (get t₀) (get t) i (row_at pending_row t k) v.numbering from within);
           }
-
-    pub numbers-all : i ≤ n → n ≤ i → Holds 32 pending_row t (numbered next stored (get t₀))
-    numbers-all a b =
-        let all : i ≡ n = omega arith in
-        let e : take n (get t) ≡ numbered next stored (take n (get t₀)) = rw all at v.numbering.done in
-        let long = numbers-length in
-        let l : take n (get t) ≡ get t = take_all n (get t) (omega arith) in
-        let l₀ : take n (get t₀) ≡ get t₀ = take_all n (get t₀) (omega (arith, v.numbering.long)) in
-        subst (Holds 32 pending_row t) (sym l ∙ e ∙ ap (numbered next stored) l₀) v.counted
 
 below-more : (a b : ℕ) (ps : List Pending) → a ≤ b → Below a ps → Below b ps
 below-more a b [] h x = tt

@@ -1,17 +1,17 @@
 -- One part of a state changes, and what the words mean with it. Assumes nothing.
 use mathlib.Core.Path.{◌≡◌, refl, sym, ap, subst, ◌∙◌}
 use mathlib.Core.Bool.{Bool, true, false}
-use mathlib.Core.List.{List, [], ◌∷◌, ◌++◌, map, append_assoc}
-use Prim.Native.Nat.{ℕ, ◌+◌, ◌-◌, ◌*◌, ◌≤◌, ◌<◌}
+use mathlib.Core.List.{List, [], map}
+use Prim.Native.Nat.{ℕ, ◌+◌, ◌*◌, ◌≤◌, ◌<◌}
 use native.Mathlib.Nat.{add-zero}
 use native.Mathlib.Omega.{arith}
-use lib.Dec.{eqb, leb}
-use lib.ListN.{length, get_or, take, drop, set, replicate, take-append-drop, get_or-map}
-use lib.Seq.{get_or-set_same, get_or-set_other, get_or-take, get_or-drop, drop-drop}
+use lib.Dec.{eqb}
+use lib.ListN.{length, get_or, take, drop, set, get_or-map}
+use lib.Seq.{get_or-set_same, get_or-set_other, get_or-take, get_or-drop}
 use borrow.Author.Tests.{eqb-true, eqb-false}
 use borrow.Rule.Slice.PartMut.{put_mid}
 use Rattle.model.specs.Layout.{Part, fixed, counted, size_of, part_fits}
-use Rattle.model.specs.Codec.{Row, wide, maybe, most, rows_at, words_of, all_good}
+use Rattle.model.specs.Codec.{Row, wide, maybe, most, rows_at}
 use Rattle.model.specs.Lists.{all}
 use Rattle.model.specs.Parts.{any, variable_row, timer_row, slot_row}
 use Rattle.model.specs.State.{with_rest, with_enabled, with_last_activation, with_cycle_pos, with_vars, with_timers, with_every, with_prev_week_min, with_counters}
@@ -19,15 +19,14 @@ use Rattle.model.specs.Store.{variable_of, text_short}
 use Rattle.model.specs.World.{is_one}
 use Rattle.model.specs.declared.NamedTimer.{NamedTimer}
 use Rattle.model.specs.declared.EverySlot.{EverySlot}
-use Rattle.model.proofs.Bools.{both}
 use Rattle.model.proofs.PartsLaws.{variable-laws, timer-laws, slot_laws}
 use Rattle.model.proofs.RowLaws.{RowLaws}
-use Rattle.rows.specs.Places.{laid, row_at}
+use Rattle.rows.specs.Places.{laid}
 use Rattle.rows.proofs.Writing.{laid-long}
 use Rattle.state.specs.Cuts.{cut}
 use Rattle.state.specs.Meaning.{state_parts, part_sizes, place_of, words_in, state_words, part, bits_part, activations_part, positions_part, variables_part, timers_part, slots_part, pending_part, week_part, counters_part, rules_in, stored_in, accepted_in, base_in, records_in, meaning_of, SoundOf, OnlyBeyond, unset_from, Below, meaning, base, rules_of, Sound, MeansSoundly, Holds, Counted}
 use Rattle.state.proofs.Cutting.{cut-long, cut_at, cut-laid, piece-end, piece-long, part-laid, laid-within}
-use Rattle.state.proofs.Typed.{holds-get, holds-fit, holds-long, holds-count, holds-few, fit-holds, row_read}
+use Rattle.state.proofs.Typed.{holds-get, holds-fit, holds-long, holds-count, holds-few, fit-holds}
 
 pub part-word : (a k : ℕ) (w : List ℕ) (i : ℕ) → i < k → get_or (take k (drop a w)) i 0 ≡ get_or w (a + i) 0
 part-word a k w i h = get_or-take k (drop a w) i 0 h ∙ get_or-drop a w i 0
@@ -116,19 +115,6 @@ module _ {A : Type 0} (r : Row A) (laws : RowLaws r) (t n : ℕ) (h : t < 15) (i
 
   pub table-few : (w : List ℕ) → Sound w → length ((most n r).get (part t w)) ≤ n
   table-few w s = holds-few r laws n (part t w) ((most n r).get (part t w)) (table-part w s)
-
-  pub table-row : (w : List ℕ) (i : ℕ) (d : A) → Sound w → i < length ((most n r).get (part t w)) → row_at r w (place_of t + 1 + i * length r.cells) ≡ get_or ((most n r).get (part t w)) i d
-  unfolding row_at
-  table-row w i d s b =
-      let l : List A = (most n r).get (part t w) in
-      let f = length r.cells in
-      let c = table-part w s in
-      let zs : List ℕ = replicate ((n - length l) * f) 0 in
-      let rest : List ℕ = drop (words_in t) (drop (place_of t) w) in
-      let whole : drop (place_of t) w ≡ (length l ∷ (words_of r l ++ zs)) ++ rest =
-      sym (take-append-drop (words_in t) (drop (place_of t) w)) ∙ ap (λ (x : List ℕ). x ++ rest) (sym (part-is t h w) ∙ c.words) in
-      ap r.get (sym (drop-drop (i * f) (place_of t + 1) w) ∙ ap (drop (i * f)) (sym (drop-drop 1 (place_of t) w) ∙ ap (drop 1) whole ∙ append_assoc (words_of r l) zs rest))
-      ∙ row_read r laws l (zs ++ rest) i d (both (leb (length l) n) (all_good r l) c.good).1 b
 
   -- and come back
   pub table-back : (w p : List ℕ) (l : List A) → Sound w → Holds n r p l → Changed w (put_mid (place_of t) (words_in t) w p) t p

@@ -22,7 +22,6 @@ use Rattle.rows.specs.Places.{laid, row_at}
 use Rattle.rows.specs.Rows.{bool_row}
 use Rattle.state.specs.Meaning.{state_parts, place_of, part, bits_part, activations_part, positions_part, rules_part, unset_from, meaning, base, rules_of, Sound, MeansSoundly}
 use Rattle.state.specs.Named.{kept_for, kept_laid}
-use Rattle.state.proofs.Cutting.{row-end}
 use Rattle.state.proofs.Frame.{Changed, part-long, bits-changed, activations-changed, positions-changed}
 use Rattle.state.proofs.Good.{maybe-roomy, wide-roomy, any-roomy, words-laid, are_words}
 use Rattle.state.proofs.Fixed.{fixed-at, fixed-set, rows_set, set_long, set-rows, set-behind, one_at}
@@ -274,7 +273,3 @@ module _ (w : List ℕ) (s : Sound w) (i : ℕ) where
       by : (b : Bool) → ltb i (rules_of w) ≡ b → w' ≡ cond b (laid w (place_of positions_part + i * 2) ((maybe any).put x)) w → MeansSoundly w' (base w) (with_rest (with_cycle_pos (set (meaning w).rest.cycle_pos i x) (meaning w).rest) (meaning w))
       by true f e = position-put w' x (ltb-true i (rules_of w) f) words e
       by false f e = subst (λ (u : List ℕ). MeansSoundly u (base w) (with_rest (with_cycle_pos (set (meaning w).rest.cycle_pos i x) (meaning w).rest) (meaning w))) (sym e) (position_past x (ltb-false i (rules_of w) f))
-
--- where the words of a rule stand
-pub kept-within : (i n : ℕ) → i < 64 → i * (1 + n) + (1 + n) ≤ 64 * (1 + n)
-kept-within i n h = row-end i 64 (1 + n) h

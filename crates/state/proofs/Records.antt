@@ -93,9 +93,6 @@ module _ (w : List ℕ) (s : Sound w) where
   pub stored-within : get_or w (place_of stored_part) 0 ≤ get_or lent 0 0
   stored-within = omega (arith, stored_at, stored-few, records-count, lent-count)
 
-  pub stored-small : get_or w (place_of stored_part) 0 ≤ 32
-  stored-small = omega (arith, stored-within, lent-count, records-few)
-
   -- other records
   pub records-changed : (w' p : List ℕ) (l : List Pending) → Changed w w' pending_part p → Holds 32 pending_row p l → stored_in (cut part_sizes w) ≤ length l
       → Below (accepted_in (cut part_sizes w)) (drop (stored_in (cut part_sizes w)) l)

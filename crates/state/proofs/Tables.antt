@@ -1,22 +1,21 @@
 -- Tables of rows in words. Assumes nothing.
 use mathlib.Core.Path.{◌≡◌, refl, sym, ap, subst, ◌∙◌}
 use mathlib.Core.Bool.{Bool, true, false, not}
-use mathlib.Core.List.{List, [], ◌∷◌, ◌++◌, append_assoc, append-nil}
+use mathlib.Core.List.{List, [], ◌∷◌, ◌++◌, append_assoc}
 use Rattle.std.specs.List.{copy_within}
 use Prim.Native.Nat.{ℕ, suc, ◌+◌, ◌-◌, ◌*◌, ◌≤◌, ◌<◌}
 use native.Mathlib.Nat.{zero-mul, suc-mul, mul-le-mul_right}
-use native.Mathlib.Numerals.{add-one}
 use native.Mathlib.Omega.{arith}
 use lib.Dec.{leb, ltb}
 use lib.ListN.{length, get_or, take, drop, set, replicate, length-append, length-drop, length-replicate, replicate-append-replicate}
-use lib.Seq.{drop_at, drop-drop, take-suc, length-take-le, set_split, take_all}
+use lib.Seq.{drop_at, drop-drop, length-take-le, set_split, take_all}
 use borrow.Author.Tests.{leb-true, leb-false, lt-ltb, le-ltb}
 use Rattle.model.specs.Lists.{flatten, keep}
 use Rattle.model.proofs.CodecLaws.{rest_of}
 use Rattle.rows.specs.Places.{laid}
 use Rattle.rows.proofs.Writing.{laid-long}
 use Rattle.state.specs.Cuts.{cut, sum, rows_in, table_of, Fits, Table, RowSet}
-use Rattle.state.proofs.Closing.{Keeps, Closing, keep_append, starts, keeps, skips, done}
+use Rattle.state.proofs.Closing.{Keeps, Closing, starts, keeps, skips, done}
 use Rattle.state.proofs.Cutting.{laid-drop, laid-behind, word-before, cut-long, cut_at, cut-laid, cut-first, sum_same, sum_first, size_same, row-end}
 
 module _ (f : ℕ) (p : List ℕ) (h : Fits f p) where
@@ -200,20 +199,3 @@ module _ (f : ℕ) (p : List ℕ) (h : Table f p) where
         let words : drop 1 t₁ ≡ flatten kept ++ replicate (length p - 1 - length (flatten kept)) 0 =
         body ∙ rw (kept-words, rest, ← both) (append_assoc (flatten kept) zs (replicate (length p - 1 - get_or p 0 0 * f) 0)) in
         first ∙ ap (λ (l : List ℕ). j ∷ l) words ∙ ap (λ (k : ℕ). k ∷ (flatten kept ++ replicate (length p - 1 - length (flatten kept)) 0)) closed-count
-
--- COUNTING --------------------------------------------------------------------------------------------------------------------------------
-module _ (f : ℕ) (test : List ℕ → Bool) (p : List ℕ) (h : Fits f p) (i k : ℕ) (kept : Bool) (l : i < get_or p 0 0) (e : kept ≡ test (get_or (rows_in f p) i [])) (c : k ≡ length (keep test (take i (rows_in f p)))) where
-  one_more : keep test (take (i + 1) (rows_in f p)) ≡ keep test (take i (rows_in f p)) ++ keep test (get_or (rows_in f p) i [] ∷ [])
-  one_more =
-      let m : i < length (rows_in f p) = rw (rows_long f p h) l in
-      rw add-one (ap (keep test) (take-suc (rows_in f p) i [] m) ∙ keep_append test (take i (rows_in f p)) (get_or (rows_in f p) i [] ∷ []))
-
-  pub counts-on : kept ≡ true → k + 1 ≡ length (keep test (take (i + 1) (rows_in f p)))
-  counts-on d =
-      let q : test (get_or (rows_in f p) i []) ≡ true = sym e ∙ d in
-      rw (one_more, q, length-append) (ap (λ (n : ℕ). n + 1) c)
-
-  pub counts_past : kept ≡ false → k ≡ length (keep test (take (i + 1) (rows_in f p)))
-  counts_past d =
-      let q : test (get_or (rows_in f p) i []) ≡ false = sym e ∙ d in
-      rw (one_more, q, append-nil) c

@@ -248,6 +248,3 @@ module _ {A : Type 0} (r : Row A) (laws : RowLaws r) where
     -- behind the others, where there is room
     pub joined-room : (p p₁ : List ℕ) (l : List A) (x : A) → Holds n r p l → length l < n → r.good x ≡ true → p₁ ≡ with_row f (r.put x) p → Holds n r p₁ (joined n x l)
     joined-room p p₁ l x h k g e = rw (lt-leb n (length l) k) (holds-push p p₁ l x h k g e)
-
-    pub joined-full : (p : List ℕ) (l : List A) (x : A) → Holds n r p l → n ≤ length l → Holds n r p (joined n x l)
-    joined-full p l x h k = rw (le-leb n (length l) k) h

@@ -6,7 +6,7 @@ use Rattle.std.specs.Prelude.{None}
 use Prim.Native.Nat.{ℕ, zero, suc, ◌+◌, ◌-◌, ◌*◌, ◌≤◌}
 use native.Mathlib.Omega.{arith}
 use lib.Dec.{eqb}
-use lib.ListN.{length, take, drop, set, replicate, length-replicate, replicate-append-replicate}
+use lib.ListN.{take, drop, set, replicate, length-replicate, replicate-append-replicate}
 use lib.Seq.{drop_at}
 use borrow.Author.Tests.{le-leb}
 use Rattle.model.specs.Layout.{row_fits, rows_fit, zeros, up_to}
@@ -18,7 +18,7 @@ use Rattle.model.proofs.Bools.{join}
 use Rattle.model.proofs.CodecLaws.{rest_of}
 use Rattle.model.proofs.RowLaws.{zeros-written}
 use Rattle.rows.specs.Places.{laid}
-use Rattle.rows.proofs.Writing.{laid-long, and-then, lays, one_set}
+use Rattle.rows.proofs.Writing.{and-then, lays, one_set}
 use Rattle.state.specs.Cuts.{cut}
 use Rattle.state.specs.Meaning.{part_sizes, place_of, words_in, bits_part, activations_part, positions_part, variables_part, rules_part, meaning_of, base_in, unset_from, meaning, base, Sound, MeansSoundly}
 use Rattle.state.specs.Named.{unset_rules}
@@ -115,7 +115,3 @@ module _ (w w₁ w₂ : List ℕ) (n : ℕ) (s : Sound w) (few : n ≤ 64) where
         sound = sound-of w₂ _ cuts c₄.shape (a.0, a.1, a.2, unset-zeros n 1 few, unset-zeros n 3 few, unset-zeros n 2 few, a.6);
         based = ap base_in cuts;
       }
-
-pub unset-long : (w w₁ : List ℕ) → Sound w → w₁ ≡ laid w (place_of bits_part) (replicate (place_of variables_part - place_of bits_part) 0) → length w₁ ≡ length w
-unset-long w w₁ s e =
-    ap length e ∙ laid-long w (place_of bits_part) (replicate (place_of variables_part - place_of bits_part) 0) (omega (arith, s.long, length-replicate {A = ℕ} (place_of variables_part - place_of bits_part) 0))

@@ -35,7 +35,7 @@ use Rattle.state.specs.Tables.{First, Finds}
 use Rattle.state.proofs.Found.{found, not_found, passed_over}
 use Rattle.state.proofs.Typed.{holds-get, holds-set, holds-push}
 use Rattle.state.proofs.Held.{table-read}
-use Rattle.state.proofs.Frame.{part-is, table-lent, table-back, table-count, table-few, variables-changed}
+use Rattle.state.proofs.Frame.{part-is, table-lent, table-back, variables-changed}
 
 abbrev R : Type 0
 R = ℕ × (ℕ × ℕ)
@@ -69,9 +69,6 @@ module _ (name : ℕ) (x : R) where
     -- whether there is a row of the name, or room for one
     pub row-there : i < length l → true ≡ not (no_row name l)
     row-there h = rw (found (has_name name) l i first x h) refl
-
-    pub row-new : length l ≤ i → length l < 16 → true ≡ not (no_row name l)
-    row-new h k = rw (not_found (has_name name) l i first h, lt-leb 16 (length l) k) refl
 
     pub row-none : length l ≤ i → 16 ≤ length l → false ≡ not (no_row name l)
     row-none h k = rw (not_found (has_name name) l i first h, le-leb 16 (length l) k) refl
@@ -139,9 +136,6 @@ module _ (w : List ℕ) (s : Sound w) where
 
   pub variables-lent : Counted 16 variable_row (take (words_in variables_part) (drop (place_of variables_part) w))
   variables-lent = table-lent variable_row variable-laws variables_part 16 (omega arith) refl w s
-
-  pub variables-few : get_or w (place_of variables_part) 0 ≤ 16
-  variables-few = rw (table-count variable_row variable-laws variables_part 16 (omega arith) refl w s) (table-few variable_row variable-laws variables_part 16 (omega arith) refl w s)
 
   variables-hold : Holds 16 variable_row (take (words_in variables_part) (drop (place_of variables_part) w)) rows
   variables-hold = rw (ap (most 16 variable_row).get (sym (part-is variables_part (omega arith) w))) at variables-lent

@@ -3,9 +3,6 @@ use native.Mathlib.Omega.{arith}
 use Rattle.state.proofs.CounterWords.{week-set}
 use Rattle.state.proofs.put_minute.Goals as goal
 
-pub put_option-requires : goal.put_option-requires
-put_option-requires c = omega (arith, c.requires.long)
-
 pub returns : goal.returns
 returns c =
     week-set _ c.requires _ c.args.minute (λ j. omega (arith, c.slice_known-2-1.given j)) c.put_option.ensures

@@ -1,12 +1,9 @@
 -- `state::State::assign_numbers` meets its contract: its callees' contracts, put together. Assumes nothing.
 use mathlib.Core.Path.{refl}
 use native.Mathlib.Omega.{arith}
-use Rattle.state.proofs.Records.{records-lent, stored-within, stored-small}
+use Rattle.state.proofs.Records.{records-lent, stored-within}
 use Rattle.state.proofs.Assigning.{next_small, offsets-small, all-numbered}
 use Rattle.state.proofs.State.assign_numbers.Goals as goal
-
-pub overflow_cast-stored : goal.overflow_cast-stored
-overflow_cast-stored c = omega (arith, stored-small _ c.self.invariant)
 
 pub number_all-requires : goal.number_all-requires
 number_all-requires c =

@@ -7,26 +7,7 @@ use Rattle.model.specs.Codec.{maybe}
 use Rattle.rows.specs.Places.{row_at}
 use Rattle.state.specs.Meaning.{rules_of}
 use Rattle.state.specs.Named.{kept_for}
-use Rattle.state.proofs.KeptForRules.{kept-within}
 use Rattle.state.proofs.State.kept.Goals as goal
-
-pub overflow_mul-i : goal.overflow_mul-i
-overflow_mul-i g c =
-    let w = kept-within c.args.i g.T.Row.WORDS (omega (arith, c.rule_count.ensures, c.if-i-rule_count.true)) in
-    let e = ap (λ (n : ℕ). c.args.i * (1 + n)) c.WORDS.ensures in
-    omega (arith, w, e, c.WORDS.ensures, c.requires, g.met.T.Row.takes.most)
-
-pub overflow_add-part : goal.overflow_add-part
-overflow_add-part g c =
-    let w = kept-within c.args.i g.T.Row.WORDS (omega (arith, c.rule_count.ensures, c.if-i-rule_count.true)) in
-    let e = ap (λ (n : ℕ). c.args.i * (1 + n)) c.WORDS.ensures in
-    omega (arith, w, e, c.WORDS.ensures, c.requires, g.met.T.Row.takes.most)
-
-pub option_at-requires : goal.option_at-requires
-option_at-requires g c =
-    let w = kept-within c.args.i g.T.Row.WORDS (omega (arith, c.rule_count.ensures, c.if-i-rule_count.true)) in
-    let e = ap (λ (n : ℕ). c.args.i * (1 + n)) c.WORDS.ensures in
-    omega (arith, w, e, c.WORDS.ensures, c.requires, g.met.T.Row.takes.most)
 
 pub returns-then-i-rule_count : goal.returns-then-i-rule_count
 unfolding kept_for

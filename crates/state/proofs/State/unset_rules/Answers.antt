@@ -1,12 +1,8 @@
 -- `state::State::unset_rules` meets its contract. Assumes nothing.
 use mathlib.Core.Path.{refl}
-use native.Mathlib.Omega.{arith}
-use Rattle.state.proofs.Unsetting.{rules-unset, unset-long}
+use Rattle.state.proofs.Unsetting.{rules-unset}
 use Rattle.state.proofs.Follows.{means}
 use Rattle.state.proofs.State.unset_rules.Goals as goal
-
-pub bounds-self-inside-1323 : goal.bounds-self-inside-1323
-bounds-self-inside-1323 c = omega (arith, unset-long _ _ c.self.invariant c.clear.ensures)
 
 pub returns : goal.returns
 returns c =

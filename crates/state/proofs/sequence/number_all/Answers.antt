@@ -2,14 +2,11 @@
 use native.Mathlib.Omega.{arith}
 use mathlib.Core.Path.{refl}
 use Rattle.state.specs.Meaning.{pending_row}
-use Rattle.state.proofs.Typed.{holds-long, holds-count, holds-few}
+use Rattle.state.proofs.Typed.{holds-count, holds-few}
 use Rattle.state.proofs.Good.{are_words}
 use Rattle.state.proofs.Records.{pending-laws}
-use Rattle.state.proofs.Assigning.{numbers-none, numbers-long, offset-small, numbers_more, numbers-all}
+use Rattle.state.proofs.Assigning.{numbers-none, numbers-long, offset-small, numbers_more}
 use Rattle.state.proofs.sequence.number_all.Goals as goal
-
-pub bounds-t-0 : goal.bounds-t-0
-bounds-t-0 c = omega (arith, holds-long pending_row pending-laws 32 _ _ c.requires.0)
 
 pub loop-i-init : goal.loop-i-init
 loop-i-init c = record {
@@ -39,13 +36,3 @@ loop-i-preserved c =
       count = v.count;
       numbers = numbers_more _ _ _ c.requires.0 _ _ _ v.numbers v.count _ v.start c.loop-i-test.true c.at-offset.ensures _ c.put.ensures words;
     }
-
-pub shape_of-t : goal.shape_of-t
-shape_of-t c =
-    let v = c.loop-i.invariant in
-    omega (arith, numbers-long _ _ _ c.requires.0 _ _ _ v.numbers v.count, holds-long pending_row pending-laws 32 _ _ c.requires.0)
-
-pub returns : goal.returns
-returns c =
-    let v = c.loop-i.invariant in
-    numbers-all _ _ _ c.requires.0 _ _ _ v.numbers v.count (omega arith) (omega arith)

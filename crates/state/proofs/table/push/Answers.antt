@@ -3,17 +3,10 @@ use native.Mathlib.Omega.{arith}
 use mathlib.Core.Path.{ap, ◌∙◌}
 use mathlib.Core.List.{List}
 use Prim.Native.Nat.{ℕ, ◌+◌, ◌*◌}
-use lib.ListN.{get_or, set, length}
+use lib.ListN.{get_or, set}
 use Rattle.rows.specs.Places.{laid}
-use Rattle.rows.proofs.Writing.{laid-long}
 use Rattle.state.proofs.Good.{words-laid, are_words}
 use Rattle.state.proofs.table.push.Goals as goal
-
-pub bounds-t-0-2 : goal.bounds-t-0-2
-bounds-t-0-2 g c =
-    let e = ap (λ (m : ℕ). get_or c.args.t.now 0 0 * m) c.WORDS.ensures in
-    let long = g.met.R.Row.takes.long c.args.x in
-    omega (arith, c.requires.room, ap length c.put.ensures ∙ laid-long _ _ _ (rw long (omega (arith, e, c.requires.room))))
 
 pub returns : goal.returns
 returns g c =

@@ -5,14 +5,8 @@ use Rattle.model.specs.Store.{variable_row_of}
 use Rattle.model.proofs.PartsLaws.{variable-laws}
 use Rattle.state.proofs.Typed.{has-room, holds-long, holds-count, holds-few}
 use Rattle.state.proofs.Good.{variable-good, words-laid, are_words}
-use Rattle.state.proofs.VariableRows.{assigned-again, assigned-new, assigned-not, row-there, row-new, row-none}
+use Rattle.state.proofs.VariableRows.{assigned-again, assigned-new, assigned-not, row-there, row-none}
 use Rattle.state.proofs.variables.assign.Goals as goal
-
-pub overflow_mul-i : goal.overflow_mul-i
-overflow_mul-i c = omega (arith, c.in-Some.ensures.1, holds-few variable_row variable-laws 16 _ _ c.requires)
-
-pub overflow_add-i : goal.overflow_add-i
-overflow_add-i c = omega (arith, c.in-Some.ensures.1, holds-few variable_row variable-laws 16 _ _ c.requires)
 
 pub put-requires : goal.put-requires
 put-requires c = omega (arith, c.in-Some.ensures.1, holds-long variable_row variable-laws 16 _ _ c.requires, holds-few variable_row variable-laws 16 _ _ c.requires)
@@ -23,9 +17,6 @@ returns-in-Some-clause-holds c =
     let good = variable-good c.args.x (words-laid _ _ _ put.new.s put.ensures (are_words put.new.s (λ i. omega (arith, c.type_inv.t i)))) in
     assigned-again _ _ _ _ c.requires _ c.in-Some.ensures good _ put.ensures
 
-pub bounds-t-0 : goal.bounds-t-0
-bounds-t-0 c = omega (arith, holds-long variable_row variable-laws 16 _ _ c.requires)
-
 pub push-requires : goal.push-requires
 push-requires c = has-room variable_row variable-laws 16 _ _ c.requires (omega arith) (omega arith) (omega (arith, holds-count variable_row variable-laws 16 _ _ c.requires, c.if-t-lt-MAX_VARIABLES.true))
 
@@ -35,10 +26,6 @@ returns-in-Some-clause-room c = row-there _ (variable_row_of c.args.x) _ _ c.in-
 pub returns-then-t-lt-MAX_VARIABLES-clause-holds : goal.returns-then-t-lt-MAX_VARIABLES-clause-holds
 returns-then-t-lt-MAX_VARIABLES-clause-holds c =
     assigned-new _ _ _ _ c.requires c.in_default.ensures (variable-good c.args.x c.push.ensures.words) _ (omega (arith, holds-count variable_row variable-laws 16 _ _ c.requires, c.if-t-lt-MAX_VARIABLES.true)) c.push.ensures.rows
-
-pub returns-then-t-lt-MAX_VARIABLES-clause-room : goal.returns-then-t-lt-MAX_VARIABLES-clause-room
-returns-then-t-lt-MAX_VARIABLES-clause-room c =
-    row-new _ (variable_row_of c.args.x) _ _ c.in_default.ensures (omega arith) (omega (arith, holds-count variable_row variable-laws 16 _ _ c.requires, c.if-t-lt-MAX_VARIABLES.true))
 
 pub returns-clause-holds : goal.returns-clause-holds
 returns-clause-holds c =

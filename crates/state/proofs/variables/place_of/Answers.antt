@@ -12,12 +12,9 @@ use Rattle.rows.specs.Rows.{short_variable_of, variable_code_row}
 use Rattle.rows.proofs.Reading.{table_long}
 use Rattle.state.specs.Named.{variable_has_name}
 use Rattle.state.proofs.Found.{finds-first}
-use Rattle.state.proofs.Typed.{holds-long, holds-count, holds-few}
+use Rattle.state.proofs.Typed.{holds-count, holds-few}
 use Rattle.state.proofs.VariableRows.{code-table}
 use Rattle.state.proofs.variables.place_of.Goals as goal
-
-pub counted-requires : goal.counted-requires
-counted-requires c = omega (arith, holds-long variable_row variable-laws 16 _ _ c.requires)
 
 pub position-requires-clause-fits : goal.position-requires-clause-fits
 position-requires-clause-fits c =
