@@ -1,10 +1,10 @@
 -- What a C caller sees of a call that asks: the number that it returns, the words of the answer, and those of the store that it answers into.
-use Rattle.std.specs.Prelude.{List, [], ◌∷◌, ℕ, Result, Ok, Err}
+use Rattle.std.specs.Prelude.{List, [], ◌∷◌, ℕ}
 use Rattle.words.specs.Pairs.{low_of, high_of}
 use Rattle.model.specs.Telegrams as telegrams
-use Rattle.model.specs.declared.Refusal.{Refusal}
 use Rattle.model.specs.Refusals.{refusal_number}
 use Rattle.model.specs.Asked.{Asked}
+use Rattle.engine.specs.Answers.{values_of}
 use Rattle.cerambiu.specs.Called.{lent_answer}
 
 pub record Told : Type 0 where
@@ -28,12 +28,8 @@ trigger_values n = n ∷ []
 abbrev pub count_values : ℕ → List ℕ
 count_values n = low_of n ∷ high_of n ∷ []
 
-unfoldable pub telegram_values : Result ℕ Refusal → List ℕ
-telegram_values (Err r) = []
-telegram_values (Ok n) = count_values n
-
 -- the kept list of the effects `ws` in `room` lent words
 unfoldable pub sending : ℕ → List ℕ → Asked
 sending room ws =
     let a = telegrams.answer room ws in
-    record { number = refusal_number a; values = telegram_values a; lent = telegrams.kept_store room ws }
+    record { number = refusal_number a; values = values_of count_values a; lent = telegrams.kept_store room ws }

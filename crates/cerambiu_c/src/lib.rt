@@ -1,5 +1,6 @@
 // The C interface as a static library: the functions of crate `cerambiu` under their C names, as include/cerambiu.h describes them. Each calls the function of its
 // name there, and its contract is that function's.
+// kept: each is the twin of that function, since a crate is a library or a static library, and not both: `play` uses the library.
 #![tactic(auto)]
 
 ghost use Rattle.std.specs.Prelude.{◌≡◌, [], length};
