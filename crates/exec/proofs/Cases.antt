@@ -1,21 +1,16 @@
 -- What each action is, by the tests that the code makes. At variables, so that the definitions open here and nowhere else.
 -- Assumes nothing.
-use Prim.Native.Nat.{ℕ, ◌≤◌, ◌<◌, ◌^◌}
-use native.Mathlib.Omega.{arith}
-use mathlib.Core.Path.{◌≡◌, refl, ap, ◌∙◌}
+use Prim.Native.Nat.{ℕ}
+use mathlib.Core.Path.{◌≡◌, ap, ◌∙◌}
 use Rattle.std.specs.Prelude.{None, Option, Some}
-use lib.IntN.{ℤ, pos, negsuc, nat_abs}
-use Rattle.std.specs.Int.{FitsUnsignedBits}
-use native.Mathlib.Decide.{dec_le}
-use borrow.Author.Tests.{le-leb, lt-leb}
+use lib.IntN.{ℤ}
 use mir.Syntax.{w64}
 use mir.Val.{SFits}
 use Rattle.words.proofs.Laws.{signed-bits}
 use Rattle.words.specs.Signed.{signed64, bits64, saturating_add_i64}
-use Rattle.model.specs.Image.{group_limit}
 use Rattle.model.specs.State.{Env, Rest, var_named}
 use Rattle.model.specs.Eval.{value_at}
-use Rattle.model.specs.Actions.{Job, emits, fails, selects, var_set, var_add, run_prim}
+use Rattle.model.specs.Actions.{Job, var_set, var_add, run_prim}
 use Rattle.model.specs.declared.Action.TheVariants.{VarAdd}
 use Rattle.model.specs.declared.VarValue.{VarValue}
 use Rattle.model.specs.declared.VarValue.TheVariants.{Int}
@@ -49,30 +44,3 @@ module _ (e : Env) (j : Job) (s : Rest) where
 
     pub add-first : (n : ℕ) → held ≡ None → n ≡ bits64 step → var_set e j s name (Int n) ≡ var_add e j s name (Some step) held
     add-first n h b = rw (h, b)
-
-  -- from 0 to the group limit
-  module _ (adapter group limit : ℕ) (y : ℤ) (o : Option ℤ) (read : Some y ≡ o) (l : limit ≡ group_limit e.set.image) where
-    pub selects-within : (n : ℕ) → FitsUnsignedBits 32 y × (n ≡ nat_abs y) → n ≤ limit → emits s 7 adapter group n 0 ≡ selects e j s adapter group o
-    selects-within n f h = rw (← read) (within y f)
-      where
-        within : (y : ℤ) → FitsUnsignedBits 32 y × (n ≡ nat_abs y) → emits s 7 adapter group n 0 ≡ selects e j s adapter group (Some y)
-        within (pos k) f = rw (← l, f.1, le-leb k limit (omega (arith, f.1)))
-        within (negsuc k) f = absurd f.0
-
-    pub selects-beyond : (n : ℕ) → FitsUnsignedBits 32 y × (n ≡ nat_abs y) → limit < n → fails s ≡ selects e j s adapter group o
-    selects-beyond n f h = rw (← read) (beyond y f)
-      where
-        beyond : (y : ℤ) → FitsUnsignedBits 32 y × (n ≡ nat_abs y) → fails s ≡ selects e j s adapter group (Some y)
-        beyond (pos k) f = rw (← l, lt-leb k limit (omega (arith, f.1)))
-        beyond (negsuc k) f = absurd f.0
-
-    pub selects-none : limit < 2 ^ 32 → (FitsUnsignedBits 32 y → ⊥) → fails s ≡ selects e j s adapter group o
-    selects-none small f = rw (← read) (outside y f)
-      where
-        outside : (y : ℤ) → (FitsUnsignedBits 32 y → ⊥) → fails s ≡ selects e j s adapter group (Some y)
-        outside (pos k) f = rw (← l, lt-leb k limit (above (dec_le (2 ^ 32) k)))
-          where
-            above : Dec (2 ^ 32 ≤ k) → limit < k
-            above (yes h) = omega arith
-            above (no h) = absurd (f (omega arith))
-        outside (negsuc k) f = refl

@@ -1,15 +1,14 @@
 -- An action's answer, and an action that changes the state and then answers. Assumes nothing.
 use Prim.Native.Nat.{ℕ}
 use mathlib.Core.Path.{◌≡◌, refl, sym, ap, subst, ◌∙◌}
-use mathlib.Core.Bool.{Bool, true, false, cond, not, true≢false}
+use mathlib.Core.Bool.{Bool, true, false, not, true≢false}
 use mathlib.Core.List.{List}
-use Rattle.std.specs.Prelude.{None, Some, Ok}
+use Rattle.std.specs.Prelude.{None, Ok}
 use lib.Dec.{leb}
-use lib.ListN.{length, set}
+use lib.ListN.{length}
 use Rattle.words.specs.Saturating.{saturating_add, max64}
 use Rattle.model.specs.Actions as model
 use Rattle.model.specs.State as model-state
-use Rattle.model.specs.Calls.{flipped}
 use Rattle.model.specs.State.{Rest, with_rest, with_enabled, add_timer, with_vars, put_var}
 use Rattle.model.specs.declared.VarValue.{VarValue}
 use Rattle.state.specs.Meaning.{Means, meaning, base}
@@ -67,9 +66,3 @@ no-room r false e f = absurd (true≢false (sym e ∙ f))
 -- a time that is a number of milliseconds from now
 pub due-is : (due now n ms : ℕ) → due ≡ saturating_add max64 now ms → now ≡ n → due ≡ saturating_add max64 n ms
 due-is due now n ms d h = rw h at d
-
--- a bit that is set; who disables also strikes
-pub bit-flipped : (on : Bool) (rule i : ℕ) (v : model-state.Volatile)
-    → flipped rule i on v ≡ struck (cond on None (Some rule)) (with_rest (with_enabled (set v.rest.enabled i on) v.rest) v)
-bit-flipped true rule i v = refl
-bit-flipped false rule i v = refl

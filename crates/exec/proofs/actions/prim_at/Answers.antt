@@ -3,6 +3,3 @@ use Rattle.exec.proofs.actions.prim_at.Goals as goal
 
 pub returns-in-Some : goal.returns-in-Some
 returns-in-Some c flat = rw (← c.record_at.ensures, ← c.action_of.ensures, c.in-Some.is) (c.run_prim.ensures flat)
-
-pub returns-in-None : goal.returns-in-None
-returns-in-None c flat = rw (← c.record_at.ensures, ← c.action_of.ensures, c.in-None.is) c.fails.ensures

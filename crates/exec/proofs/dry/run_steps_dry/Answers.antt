@@ -1,17 +1,9 @@
 -- `exec::dry::run_steps_dry` meets its contract. Assumes nothing.
 use Prim.Native.Nat.{◌+◌, ◌-◌}
 use native.Mathlib.Omega.{arith}
-use mathlib.Core.Path.{◌≡◌, refl, ap, ◌∙◌}
-use lib.ListN.{length}
+use mathlib.Core.Path.{◌≡◌, refl, ◌∙◌}
 use Rattle.exec.proofs.DryGoing.{runs-past, runs-spent, goes-on}
 use Rattle.exec.proofs.dry.run_steps_dry.Goals as goal
-
-pub loop-init : goal.loop-init
-loop-init c =
-    let p = c.requires.dry_ready in
-    let e = c.new-bodies.ensures in
-    let all : c.args.budget - 0 ≡ c.args.budget = omega arith in
-    record { says = λ flat s. rw (all, e); based = refl; accepts = refl; grows = omega arith; counts = omega arith; last = refl; queue = omega (arith, p.most, ap length e); long = refl }
 
 pub returns-in_default : goal.returns-in_default
 returns-in_default c = runs-past _ _ _ _ _ _ _ _ _ _ _ _ _ _ _ _ c.loop.invariant _ _ c.next_step.ensures c.in_default.is
