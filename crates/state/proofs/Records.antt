@@ -23,7 +23,7 @@ use Rattle.model.specs.Lists.{keep}
 use Rattle.model.specs.Exec as exec
 use Rattle.model.specs.Wheel.{not_due}
 use Rattle.model.specs.declared.Pending.{Pending}
-use Rattle.model.specs.declared.Point.{Point}
+use Rattle.state.specs.declared.pending.Continuation.{Continuation}
 use Rattle.model.proofs.RowLaws.{RowLaws, wide_laws, ⊗-laws, as_row_laws, pad-laws}
 use Rattle.model.proofs.Bools.{join}
 use Rattle.model.proofs.PartsLaws.{any_laws, jump-laws}
@@ -162,34 +162,34 @@ accepts-one w w' k s e less b =
       ap accepted_in c.cuts ∙ r,
     )
 
-module _ (w : List ℕ) (s : Sound w) (time rule trigger number budget ms : ℕ) (point : Point) where
+module _ (w : List ℕ) (s : Sound w) (time : ℕ) (x : Continuation) where
   full_is : is_full (meaning w) ≡ leb 32 (get_or w (place_of pending_part) 0)
   unfolding is_full
   full_is = ap (leb 32) (pending-length w s)
 
-  pub scheduled : (w₁ w₂ w₃ : List ℕ) (seq due : ℕ) → get_or w (place_of pending_part) 0 < 32 → due ≡ saturating_add max64 time ms → Means w₁ (base w) (with_next (meaning w)) → seq ≡ accepted w
-      → let p : Pending = record { rule = rule; point = point; due = due; budget = budget; trigger = trigger; seq = seq; number = number } in
-      Means w₂ (base w₁) (with_record (base w₁) p (meaning w₁)) → Means w₃ (base w₂) (with_rest (bump_by continuations_scheduled 1 (meaning w₂).rest) (meaning w₂)) → Schedules w time rule trigger number budget ms point w₃ 0
+  pub scheduled : (w₁ w₂ w₃ : List ℕ) (seq due : ℕ) → get_or w (place_of pending_part) 0 < 32 → due ≡ saturating_add max64 time x.ms → Means w₁ (base w) (with_next (meaning w)) → seq ≡ accepted w
+      → let p : Pending = record { rule = x.rule; point = x.point; due = due; budget = x.budget; trigger = x.trigger; seq = seq; number = x.number } in
+      Means w₂ (base w₁) (with_record (base w₁) p (meaning w₁)) → Means w₃ (base w₂) (with_rest (bump_by continuations_scheduled 1 (meaning w₂).rest) (meaning w₂)) → Schedules w time x w₃ 0
   unfolding exec.schedule exec.accepted
   scheduled w₁ w₂ w₃ seq due h d m₁ q m₂ m₃ e j t r k n =
-      let p : Pending = record { rule = rule; point = point; due = due; budget = budget; trigger = trigger; seq = seq; number = number } in
+      let p : Pending = record { rule = x.rule; point = x.point; due = due; budget = x.budget; trigger = x.trigger; seq = seq; number = x.number } in
       let room : is_full (meaning w) ≡ false = full_is ∙ lt-leb 32 (get_or w (place_of pending_part) 0) h in
       let b : base w₁ ≡ base w = m₁.based in
-      let m₂' : Means w₂ (base w₁) (with_record (base w) p (meaning w₁)) = subst (λ (x : ℕ). Means w₂ (base w₁) (with_record x p (meaning w₁))) b m₂ in
+      let m₂' : Means w₂ (base w₁) (with_record (base w) p (meaning w₁)) = subst (λ (a : ℕ). Means w₂ (base w₁) (with_record a p (meaning w₁))) b m₂ in
       let two = follows (with_record (base w) p) w₁ w₂ (base w) (with_next (meaning w)) m₁ m₂' in
       let three = follows (λ v. with_rest (bump_by continuations_scheduled 1 v.rest) v) w₂ w₃ (base w) _ two m₃ in
       let numbers : base w + seq ≡ (meaning w).next = rw q (next-is w) in
-      let f : ℕ → ℕ → model.Volatile = λ x n. record {
+      let f : ℕ → ℕ → model.Volatile = λ d n. record {
         rest = bump_by continuations_scheduled 1 (meaning w).rest;
-        pending = (meaning w).pending ++ (record { rule = rule; point = point; due = x; budget = budget; trigger = trigger; seq = n; number = number } ∷ []);
+        pending = (meaning w).pending ++ (record { rule = x.rule; point = x.point; due = d; budget = x.budget; trigger = x.trigger; seq = n; number = x.number } ∷ []);
         next = suc (meaning w).next;
         last_number = (meaning w).last_number;
       } in
-      let four : Means w₃ (base w) (f (saturating_add max64 time ms) (meaning w).next) =
-      subst (λ (n : ℕ). Means w₃ (base w) (f (saturating_add max64 time ms) n)) numbers (subst (λ (x : ℕ). Means w₃ (base w) (f x (base w + seq))) d three) in
+      let four : Means w₃ (base w) (f (saturating_add max64 time x.ms) (meaning w).next) =
+      subst (λ (n : ℕ). Means w₃ (base w) (f (saturating_add max64 time x.ms) n)) numbers (subst (λ (a : ℕ). Means w₃ (base w) (f a (base w + seq))) d three) in
       rw (room, t, r, k, n) (four, refl)
 
-  pub dropped-one : (w₁ : List ℕ) → 32 ≤ get_or w (place_of pending_part) 0 → Means w₁ (base w) (with_rest (bump_by continuations_dropped 1 (meaning w).rest) (meaning w)) → Schedules w time rule trigger number budget ms point w₁ 2
+  pub dropped-one : (w₁ : List ℕ) → 32 ≤ get_or w (place_of pending_part) 0 → Means w₁ (base w) (with_rest (bump_by continuations_dropped 1 (meaning w).rest) (meaning w)) → Schedules w time x w₁ 2
   unfolding exec.schedule exec.dropped
   dropped-one w₁ h m e j t r k n =
       let room : is_full (meaning w) ≡ true = full_is ∙ le-leb 32 (get_or w (place_of pending_part) 0) h in

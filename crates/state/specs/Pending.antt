@@ -5,8 +5,8 @@ use Rattle.model.specs.Exec as model
 use Rattle.model.specs.Lists.{keep}
 use Rattle.model.specs.State.{Env, Volatile, bump_by, continuations_dropped}
 use Rattle.model.specs.declared.Pending.{Pending}
-use Rattle.model.specs.declared.Point.{Point}
 use Rattle.state.specs.Meaning.{Means, MeansSoundly, meaning, base, offset_from, pending_row}
+use Rattle.state.specs.declared.pending.Continuation.{Continuation}
 
 abbrev pub later_than : ℕ → Pending → Bool
 later_than now c = not (leb c.due now)
@@ -37,9 +37,9 @@ ClosesUp test w w' gone =
 abbrev pub emptied : Volatile → Volatile
 emptied v = record v { rest = bump_by continuations_dropped (length v.pending) v.rest; pending = [] }
 
--- the specification's `schedule`, in every environment of this time and of every run of this rule under this trigger and number
-abbrev pub Schedules : List ℕ → ℕ → ℕ → ℕ → ℕ → ℕ → ℕ → Point → List ℕ → ℕ → Type 0
-Schedules w now rule trigger number budget ms point w' reason =
-    (e : Env) (j : Job) → e.world.now ≡ now → j.rule ≡ rule → j.trigger ≡ trigger → j.number ≡ number →
-    let s = model.schedule e j budget ms point (meaning w) in
+-- the specification's `schedule`, in every environment of this time and of every run of x's rule under its trigger and number
+abbrev pub Schedules : List ℕ → ℕ → Continuation → List ℕ → ℕ → Type 0
+Schedules w now x w' reason =
+    (e : Env) (j : Job) → e.world.now ≡ now → j.rule ≡ x.rule → j.trigger ≡ x.trigger → j.number ≡ x.number →
+    let s = model.schedule e j x.budget x.ms x.point (meaning w) in
     Means w' (base w) s.vol × (reason ≡ s.reason)
