@@ -22,7 +22,7 @@ use Rattle.state.specs.Meaning.{Sound, Holds, Counted, Means, meaning, base, slo
 use Rattle.state.proofs.Typed.{holds-get, holds-count}
 use Rattle.state.proofs.EverySlots.{slots-hold, slots-back}
 use Rattle.state.proofs.Follows.{follows, means}
-use Rattle.every.specs.Joined.{HasRoom, Joined}
+use Rattle.every.specs.Joined.{HasRoomFor, Joined}
 
 -- SLOTS THAT JOIN ------------------------------------------------------------------------------------------------------------------------------
 abbrev pub get : List ℕ → List EverySlot
@@ -36,7 +36,7 @@ pub record Partial (t : List ℕ) (left all : List EverySlot) : Type 0 where
 table-count : (t : List ℕ) → Counted 64 slot_row t → get_or t 0 0 ≡ length (get t)
 table-count t h = holds-count slot_row slot_laws 64 t (get t) h
 
-pub begins : (t : List ℕ) (left : List EverySlot) → HasRoom t left → Partial t left (get t ++ left) × (length (get t ++ left) ≤ 64)
+pub begins : (t : List ℕ) (left : List EverySlot) → HasRoomFor t left → Partial t left (get t ++ left) × (length (get t ++ left) ≤ 64)
 begins t left h = (record { counted = h.counted; holds = refl }, omega (arith, h.few, table-count t h.counted, length-append (get t) left))
 
 -- an empty table
@@ -53,7 +53,7 @@ module _ (t : List ℕ) (left add rest all : List EverySlot) (inv : Partial t le
   split : get t ++ (add ++ rest) ≡ all
   split = rw next.parts at inv.holds
 
-  pub room : length all ≤ 64 → HasRoom t add
+  pub room : length all ≤ 64 → HasRoomFor t add
   room h =
       let size = ap length split in
       record { counted = inv.counted; few = omega (arith, size, length-append (get t) (add ++ rest), length-append add rest, table-count t inv.counted) }

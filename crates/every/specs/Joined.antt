@@ -6,7 +6,7 @@ use Rattle.model.specs.declared.EverySlot.{EverySlot}
 use Rattle.state.specs.Meaning.{Holds, Counted}
 
 -- t is a table, and these have room behind its slots
-pub record HasRoom (t : List ℕ) (add : List EverySlot) : Type 0 where
+pub record HasRoomFor (t : List ℕ) (add : List EverySlot) : Type 0 where
   pub counted : Counted 64 slot_row t
   pub few : get_or t 0 0 + length add ≤ 64
 

@@ -10,7 +10,7 @@ ghost use Rattle.model.specs.State.{with_rest, with_every};
 ghost use Rattle.model.specs.Store.{same_slots};
 ghost use Rattle.model.specs.declared.Trigger.TheVariants.{Every};
 ghost use Rattle.state.specs.Meaning.{Means, Holds, meaning, base};
-ghost use Rattle.every.specs.Joined.{HasRoom, Joined};
+ghost use Rattle.every.specs.Joined.{HasRoomFor, Joined};
 
 pub mod kept;
 
@@ -50,7 +50,7 @@ impl Rebuild<'_> {
     // The slot of a trigger, if it is an Every, joins the table t.
     #[tactic(auto, using(crate::proofs::Slots::adds_none))]
     fn join_slot(&self, rule: u32, place: u32, trigger: Trigger, t: &mut [u32])
-        requires { HasRoom t.old (slots_from self.now.old.now self.now.time rule place (trigger ∷ [])) }
+        requires { HasRoomFor t.old (slots_from self.now.old.now self.now.time rule place (trigger ∷ [])) }
         ensures { Joined t.old (slots_from self.now.old.now self.now.time rule place (trigger ∷ [])) t.new }
     {
         if let Trigger::Every { period_ms } = trigger {
@@ -65,7 +65,7 @@ impl Rebuild<'_> {
 
     // The slots of rule i join the table t.
     fn join_rule(&self, i: u32, t: &mut [u32])
-        requires { HasRoom t.old (slots_from self.now.old.now self.now.time (name_of self.now.image.now i) 0 (triggers_of self.now.image.now i)) }
+        requires { HasRoomFor t.old (slots_from self.now.old.now self.now.time (name_of self.now.image.now i) 0 (triggers_of self.now.image.now i)) }
         ensures { Joined t.old (slots_from self.now.old.now self.now.time (name_of self.now.image.now i) 0 (triggers_of self.now.image.now i)) t.new }
     {
         let rule = self.image.name_of(i);
