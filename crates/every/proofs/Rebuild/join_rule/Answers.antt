@@ -1,10 +1,7 @@
 -- `every::Rebuild::join_rule` meets its contract: the slots so far, and those of the triggers that are left. Assumes nothing.
 use Rattle.std.proofs.Common.{arith}
-use Rattle.every.proofs.Slots.{begins, room, joins-on, joined-all, trigger-left, none_left}
+use Rattle.every.proofs.Slots.{room, joins-on, joined-all, trigger-left, none_left}
 use Rattle.every.proofs.Rebuild.join_rule.Goals as goal
-
-pub loop-p-init : goal.loop-p-init
-loop-p-init c = let b = begins _ _ (rw (← c.name_of-rule.ensures) at c.requires) in (b.1, b.0)
 
 pub join_slot-requires : goal.join_slot-requires
 join_slot-requires c =

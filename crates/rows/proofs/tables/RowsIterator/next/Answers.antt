@@ -4,7 +4,7 @@ use mathlib.Core.List.{[]}
 use Prim.Native.Nat.{ℕ, ◌+◌, ◌-◌}
 use native.Mathlib.Omega.{arith}
 use lib.ListN.{length}
-use Rattle.rows.proofs.Reading.{table_none, table_first}
+use Rattle.rows.proofs.Reading.{one_row, table_none, table_first}
 use Rattle.rows.proofs.tables.RowsIterator.next.Goals as goal
 
 pub returns-then-self-eq0-clause-steps : goal.returns-then-self-eq0-clause-steps
@@ -12,6 +12,11 @@ returns-then-self-eq0-clause-steps g c =
     let s = c.self.inside in
     let e : c.args.self.now ≡ [] = rw (← c.self.view_is, c.if-self-eq0.true) (sym (table_none g.T.Row.codec s.words.now s.k)) in
     (e, e)
+
+pub overflow_add-self : goal.overflow_add-self
+overflow_add-self g c =
+    let s = c.self.inside in
+    omega (arith, c.self.invariant, c.WORDS.ensures, one_row s.n (s.n - 1) g.T.Row.WORDS (omega arith))
 
 pub returns-clause-steps : goal.returns-clause-steps
 returns-clause-steps g c =
