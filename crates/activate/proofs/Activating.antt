@@ -17,26 +17,26 @@ use Rattle.model.specs.Steps.{FlatStep, start}
 use Rattle.model.specs.declared.Pending.{Pending}
 use Rattle.state.specs.Meaning.{meaning}
 use Rattle.eval.specs.Answers.{env_of}
-use Rattle.exec.specs.Results.{job_of}
-use Rattle.exec.specs.declared.Job.{Job}
-use Rattle.activate.specs.Handled.{Handles, Activates, Resumes, mode_of}
+use Rattle.model.specs.declared.Job.{Job}
+use Rattle.activate.specs.Handled.{Handles, Activates, Resumes}
 use Rattle.activate.specs.Outcomes.{Pushes}
-use Rattle.activate.specs.Decisions.{is_dry, decision_of, Decides}
+use Rattle.model.specs.Activate.{is_dry}
+use Rattle.activate.specs.Decisions.{decision_of, Decides}
 use Rattle.activate.specs.Executes.{Changes, begun_in, numbered_job, NotesPartial, Starts, RunsWet, RunsDry, Executes, dry_outcome}
 use Rattle.activate.specs.Carried.{Carried, carried}
 use Rattle.activate.specs.declared.Handled.{Handled}
-use Rattle.activate.specs.declared.Mode.{Mode}
+use Rattle.model.specs.declared.Mode.{Mode}
 use Rattle.activate.specs.declared.decide.Decision.{Decision}
 use Rattle.activate.specs.declared.decide.Decision.TheVariants.{Begins, InCooldown, Rejected, Unevaluable}
 use Rattle.activate.proofs.Continues.{with_vol}
 use Rattle.activate.proofs.Running.{changed, after-change, after-start, same-handles, refuses}
 
 -- ---- `execute`
-dry-case : (e : Env) (j : actions.Job) (v : model-state.Volatile) (t : Bool) → t ≡ true → model.execute_dry e j v ≡ model.execute e j t v
+dry-case : (e : Env) (j : Job) (v : model-state.Volatile) (t : Bool) → t ≡ true → model.execute_dry e j v ≡ model.execute e j t v
 dry-case e j v true h = refl
 dry-case e j v false h = absurd (false≢true h)
 
-wet-case : (e : Env) (j : actions.Job) (v : model-state.Volatile) (t : Bool) → t ≡ false → model.execute_wet e j v ≡ model.execute e j t v
+wet-case : (e : Env) (j : Job) (v : model-state.Volatile) (t : Bool) → t ≡ false → model.execute_wet e j v ≡ model.execute e j t v
 wet-case e j v false h = refl
 wet-case e j v true h = absurd (true≢false h)
 
@@ -55,8 +55,8 @@ module _ (snapshot image part : List ℕ) (own : ℕ) (j : Job) (x : Carried) (w
   unfolding model.execute_dry
   executes-dry t a h =
       let k : List (List FlatStep) → model-state.Volatile → model.Handled =
-      λ flat m. dry_outcome (job_of j) (run_steps_dry (budget image) (env_of snapshot image flat) (job_of j) start [] m.rest) m in
-      same-handles part own j.index _ _ x ow ew r ow' ew' (λ flat. dry-case (env_of snapshot image flat) (job_of j) (meaning x.vol) j.dry t) (after-change x w _ a part own j.index k ow ew r ow' ew' h)
+      λ flat m. dry_outcome j (run_steps_dry (budget image) (env_of snapshot image flat) j start [] m.rest) m in
+      same-handles part own j.index _ _ x ow ew r ow' ew' (λ flat. dry-case (env_of snapshot image flat) j (meaning x.vol) j.dry t) (after-change x w _ a part own j.index k ow ew r ow' ew' h)
 
   pub executes-wet : (b : ℕ) (begun : Job) → j.dry ≡ false → b ≡ budget image → Starts snapshot j x.vol w begun → RunsWet snapshot image part own begun start b (with_vol w x) ow ew r ow' ew'
       → Executes snapshot image part own j x ow ew r ow' ew'
@@ -64,10 +64,10 @@ module _ (snapshot image part : List ℕ) (own : ℕ) (j : Job) (x : Carried) (w
   executes-wet b begun f e a h =
       let u : Job = numbered_job (next_number (meaning x.vol).last_number) j in
       let k : List (List FlatStep) → model-state.Volatile → model.Handled =
-      λ flat m. model.finished (job_of u) (started j.rule) (run_steps (budget image) (env_of snapshot image flat) (job_of u) start m) in
+      λ flat m. model.finished u (started j.rule) (run_steps (budget image) (env_of snapshot image flat) u start m) in
       let run : RunsWet snapshot image part own u start (budget image) (with_vol w x) ow ew r ow' ew' =
       subst (λ (n : ℕ). RunsWet snapshot image part own u start n (with_vol w x) ow ew r ow' ew') e (subst (λ (y : Job). RunsWet snapshot image part own y start b (with_vol w x) ow ew r ow' ew') a.1 h) in
-      same-handles part own j.index _ _ x ow ew r ow' ew' (λ flat. wet-case (env_of snapshot image flat) (job_of j) (meaning x.vol) j.dry f)
+      same-handles part own j.index _ _ x ow ew r ow' ew' (λ flat. wet-case (env_of snapshot image flat) j (meaning x.vol) j.dry f)
       (after-start x w (begun_in snapshot j (meaning x.vol)) a.0 refl refl part own j.index k ow ew r ow' ew' (run.0 (started j.rule)) run.1)
 
 -- ---- `activate`
@@ -82,7 +82,7 @@ module _ (snapshot image part : List ℕ) (own i kind : ℕ) (mode : Mode) (v : 
   job = job_with (is_dry mode)
 
   activated : (a d : Decision) → Decides snapshot image i mode rest a → a ≡ d → (flat : List (List FlatStep))
-      → model.decided (decision_of d (is_dry mode) rest) (env_of snapshot image flat) (job_of job) (meaning v) ≡ model.activate (env_of snapshot image flat) i kind (mode_of mode) (meaning v)
+      → model.decided (decision_of d (is_dry mode) rest) (env_of snapshot image flat) job (meaning v) ≡ model.activate (env_of snapshot image flat) i kind mode (meaning v)
   unfolding model.activate model.job_of
   activated a d h e flat = rw (h flat, e)
 
@@ -95,7 +95,7 @@ module _ (snapshot image part : List ℕ) (own i kind : ℕ) (mode : Mode) (v : 
         same-handles part own i _ _ (carried v x) ow ew r ow' ew' (activated a Begins d t) (subst (λ (k : Job). Executes snapshot image part own k (carried v x) ow ew r ow' ew') is-job h)
 
     refusing : (u : List ℕ) (r : Handled) (ow' : List ℕ) (s : Rest) (reason : ℕ) → Changes v s u → Pushes x ow j reason x.effects r ow'
-        → Handles part own i (λ flat. record { vol = with_rest s (meaning v); outcomes = model.outcome (job_of job) [] reason ∷ []; trace = aborted job.rule ∷ [] }) (carried v x) ow ew (carried u r) ow' ew
+        → Handles part own i (λ flat. record { vol = with_rest s (meaning v); outcomes = model.outcome job [] reason ∷ []; trace = aborted job.rule ∷ [] }) (carried v x) ow ew (carried u r) ow' ew
     refusing u r ow' s reason c h = refuses part own i v x ow ew u s job reason (aborted job.rule ∷ []) r ow' c (subst (λ (k : Job). Pushes x ow k reason x.effects r ow') is-job h)
 
     pub unevaluable : (u : List ℕ) (r : Handled) (ow' : List ℕ) → a ≡ Unevaluable → NotesPartial dry v u → Pushes x ow j actions.condition_unevaluable x.effects r ow'
@@ -116,7 +116,7 @@ module _ (snapshot image part : List ℕ) (own i : ℕ) (c : Pending) (x : Carri
   resumed_job = record { rule = c.rule; index = i; hold = hold_hcl_of image i; trigger = c.trigger; dry = false; number = c.number }
 
   abbrev resumed_run : List (List FlatStep) → model-state.Volatile → model.Handled
-  resumed_run flat m = model.finished (job_of resumed_job) (resumed c) (run_steps c.budget (env_of snapshot image flat) (job_of resumed_job) c.point m)
+  resumed_run flat m = model.finished resumed_job (resumed c) (run_steps c.budget (env_of snapshot image flat) resumed_job c.point m)
 
   abbrev counted : Rest
   counted = bump continuations_fired (meaning x.vol).rest

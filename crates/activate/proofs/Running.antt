@@ -30,9 +30,8 @@ use Rattle.eval.specs.Answers.{env_of}
 use Rattle.exec.specs.Done.{RunDone}
 use Rattle.exec.specs.DryRuns as exec-dry
 use Rattle.lent_words.specs.PutEffects.{put_effects}
-use Rattle.exec.specs.Results.{job_of}
 use Rattle.exec.specs.Runs as exec
-use Rattle.exec.specs.declared.Job.{Job}
+use Rattle.model.specs.declared.Job.{Job}
 use Rattle.activate.specs.Handled.{Continues, Within, Room, Handles, put_outcome, put_outcomes}
 use Rattle.activate.specs.Outcomes.{Pushes}
 use Rattle.activate.specs.Executes.{Changes, RunRoom, numbered_job, Starts, FinishesWet, RunsWet, RunsDry, dry_outcome}
@@ -43,14 +42,14 @@ use Rattle.activate.proofs.Continues.{with_vol, then-continues, no-outcome, with
 -- ---- the next outcome
 pub pushed : (w : List ℕ) (x : Handled) (ow ew : List ℕ) (v : List ℕ) (j : Job) (reason count : ℕ) (r : Handled) (ow' ew' : List ℕ) → Pushes x ow j reason count r ow'
     → (s : model-state.Volatile) (es : List Effect) (why : ℕ) (trace : List Item) → Means v (base w) s → reason ≡ why → count ≡ x.effects + length es → ew' ≡ put_effects ew x.effects es
-    → Continues (carried w x) ow ew (record { vol = s; outcomes = model.outcome (job_of j) es why ∷ []; trace = trace }) (carried v r) ow' ew'
+    → Continues (carried w x) ow ew (record { vol = s; outcomes = model.outcome j es why ∷ []; trace = trace }) (carried v r) ow' ew'
 unfolding put_outcomes model.outcome
 pushed w x ow ew v j reason count r ow' ew' p s es why trace m e n h =
     record {
       state = m;
       outcomes = p.outcomes ∙ omega arith;
       effects = p.effects ∙ n ∙ omega arith;
-      outcome_words = p.written es n ∙ ap (λ (k : ℕ). put_outcome ow x.outcomes x.effects (model.outcome (job_of j) es k)) e;
+      outcome_words = p.written es n ∙ ap (λ (k : ℕ). put_outcome ow x.outcomes x.effects (model.outcome j es k)) e;
       effect_words = h ∙ ap (put_effects ew x.effects) (sym (append-nil es));
     }
 
@@ -118,7 +117,7 @@ run_room x h = record { accepted = omega (arith, h.accepted); outcomes = h.outco
 -- and an outcome without effects
 pub refuses : (part : List ℕ) (own i : ℕ) (w : List ℕ) (x : Handled) (ow ew : List ℕ) (v : List ℕ) (s : Rest) (j : Job) (reason : ℕ) (trace : List Item) (r : Handled) (ow' : List ℕ)
     → Changes w s v → Pushes x ow j reason x.effects r ow'
-    → Handles part own i (λ flat. record { vol = with_rest s (meaning w); outcomes = model.outcome (job_of j) [] reason ∷ []; trace = trace }) (carried w x) ow ew (carried v r) ow' ew
+    → Handles part own i (λ flat. record { vol = with_rest s (meaning w); outcomes = model.outcome j [] reason ∷ []; trace = trace }) (carried w x) ow ew (carried v r) ow' ew
 unfolding model.outcome put_effects
 refuses part own i w x ow ew v s j reason trace r ow' c p =
     let h = pushed w x ow ew v j reason x.effects r ow' ew p (with_rest s (meaning w)) [] reason trace c refl (omega arith) refl in
@@ -187,10 +186,10 @@ module _ (snapshot image part : List ℕ) (own : ℕ) (j : Job) (v : List ℕ) (
 
   module _ (from : Point) (k : exec.Runs snapshot image part own j v from b h.effects ew run ew') where
     abbrev out : List (List FlatStep) → RunOutput
-    out flat = run_steps b (env_of snapshot image flat) (job_of j) from (meaning v)
+    out flat = run_steps b (env_of snapshot image flat) j from (meaning v)
 
     module _ (ow : List ℕ) (n : ℕ) (w : List ℕ) (r : Handled) (ow' : List ℕ) (few : b ≤ 256) (e : n ≡ run.count - h.effects) (f : FinishesWet run.vol n run.reason w) (p : Pushes h ow j run.reason run.count r ow') where
-      wet-says : (item : Item) (flat : List (List FlatStep)) → Says part own (get_or flat j.index []) → Continues x ow ew (model.finished (job_of j) item (out flat)) (carried w r) ow' ew'
+      wet-says : (item : Item) (flat : List (List FlatStep)) → Says part own (get_or flat j.index []) → Continues x ow ew (model.finished j item (out flat)) (carried w r) ow' ew'
       wet-says item flat q =
           let o = out flat in
           let s = k.says flat q in
@@ -228,10 +227,10 @@ module _ (snapshot image part : List ℕ) (own : ℕ) (j : Job) (v : List ℕ) (
 
   module _ (k : exec-dry.RunsDry snapshot image part own j v start b h.effects ew run ew') where
     abbrev out_dry : List (List FlatStep) → DryOutput
-    out_dry flat = run_steps_dry b (env_of snapshot image flat) (job_of j) start [] (meaning v).rest
+    out_dry flat = run_steps_dry b (env_of snapshot image flat) j start [] (meaning v).rest
 
     dry-says : (ow : List ℕ) (r : Handled) (ow' : List ℕ) → Pushes h ow j run.reason run.count r ow'
-        → (flat : List (List FlatStep)) → Says part own (get_or flat j.index []) → Continues x ow ew (dry_outcome (job_of j) (out_dry flat) (meaning v)) (carried run.vol r) ow' ew'
+        → (flat : List (List FlatStep)) → Says part own (get_or flat j.index []) → Continues x ow ew (dry_outcome j (out_dry flat) (meaning v)) (carried run.vol r) ow' ew'
     dry-says ow r ow' p flat q =
         let o = out_dry flat in
         let s = k.says flat q in

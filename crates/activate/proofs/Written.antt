@@ -18,8 +18,7 @@ use Rattle.model.specs.Calls.{effects_of}
 use Rattle.model.specs.Outcome.{Outcome}
 use Rattle.model.specs.declared.Effect.{Effect}
 use Rattle.lent_words.specs.PutEffects.{put_effects}
-use Rattle.exec.specs.Results.{job_of}
-use Rattle.exec.specs.declared.Job.{Job}
+use Rattle.model.specs.declared.Job.{Job}
 use Rattle.lent_words.proofs.Written.{drop-zeros, lent-list}
 use Rattle.activate.specs.Handled.{put_outcome, put_outcomes, all_effects}
 
@@ -68,10 +67,10 @@ byte-is false = refl
 module _ (w : List ℕ) (n : ℕ) (j : Job) (reason first count : ℕ) (es : List Effect) (e : count ≡ length es) where
   pub job-room :
       (dry low high : ℕ) → n * 8 + 8 ≤ length w → dry ≡ bool_byte j.dry → low ≡ low_of j.number → high ≡ high_of j.number
-      → put_mid (n * 8) (n * 8 + 8 - n * 8) w (j.rule ∷ dry ∷ j.trigger ∷ reason ∷ first ∷ count ∷ low ∷ high ∷ []) ≡ put_outcome w n first (model.outcome (job_of j) es reason)
+      → put_mid (n * 8) (n * 8 + 8 - n * 8) w (j.rule ∷ dry ∷ j.trigger ∷ reason ∷ first ∷ count ∷ low ∷ high ∷ []) ≡ put_outcome w n first (model.outcome j es reason)
   unfolding model.outcome
   job-room dry low high h d l k =
-      let o = model.outcome (job_of j) es reason in
+      let o = model.outcome j es reason in
       let size : n * 8 + 8 - n * 8 ≡ 8 = omega arith in
       rw (size, d, byte-is, l, k, e)
       (ap (λ (rest : List ℕ). take (n * 8) w ++ (eight w n first o ++ rest)) (drop-drop 8 (n * 8) w)

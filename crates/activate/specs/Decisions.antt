@@ -4,16 +4,9 @@ use Rattle.model.specs.Activate as model
 use Rattle.model.specs.State.{Rest, bump, suppressed_cooldown, conditions_rejected, partial_outcomes}
 use Rattle.model.specs.Steps.{FlatStep}
 use Rattle.eval.specs.Answers.{env_of}
-use Rattle.activate.specs.Handled.{mode_of}
-use Rattle.activate.specs.declared.Mode.{Mode}
+use Rattle.model.specs.declared.Mode.{Mode}
 use Rattle.activate.specs.declared.decide.Decision.{Decision}
 use Rattle.activate.specs.declared.decide.Decision.TheVariants.{Begins, InCooldown, Rejected, Unevaluable}
-
-abbrev pub is_auto : Mode → Bool
-is_auto m = model.is_auto (mode_of m)
-
-abbrev pub is_dry : Mode → Bool
-is_dry m = model.is_dry (mode_of m)
 
 -- what each does to the counters
 abbrev pub decision_of : Decision → Bool → Rest → model.Decision
@@ -28,4 +21,4 @@ module _ (snapshot image : List ℕ) (i : ℕ) where
   InCooldownIs s r = (flat : List (List FlatStep)) → r ≡ model.in_cooldown (env_of snapshot image flat) i s
 
   abbrev pub Decides : Mode → Rest → Decision → Type 0
-  Decides m s r = (flat : List (List FlatStep)) → model.decide (env_of snapshot image flat) i (mode_of m) s ≡ decision_of r (is_dry m) s
+  Decides m s r = (flat : List (List FlatStep)) → model.decide (env_of snapshot image flat) i m s ≡ decision_of r (model.is_dry m) s

@@ -4,7 +4,6 @@ use Rattle.std.specs.Prelude.{Some}
 use Rattle.words.specs.Saturating.{max32}
 use Rattle.model.specs.Activate as model
 use Rattle.model.specs.Activate.{with_number}
-use Rattle.model.specs.Actions as actions
 use Rattle.model.specs.Dry.{DryOutput, run_steps_dry}
 use Rattle.model.specs.Exec.{run_steps}
 use Rattle.model.specs.Image.{budget}
@@ -17,8 +16,7 @@ use Rattle.model.specs.declared.Effect.{Effect}
 use Rattle.model.specs.declared.Point.{Point}
 use Rattle.state.specs.Meaning.{Means, meaning, base, accepted}
 use Rattle.eval.specs.Answers.{env_of}
-use Rattle.exec.specs.Results.{job_of}
-use Rattle.exec.specs.declared.Job.{Job}
+use Rattle.model.specs.declared.Job.{Job}
 use Rattle.activate.specs.Handled.{Handles}
 use Rattle.activate.specs.Carried.{Carried}
 
@@ -53,20 +51,20 @@ abbrev pub FinishesWet : List ℕ → ℕ → ℕ → List ℕ → Type 0
 FinishesWet v count reason r = (es : List Effect) → count ≡ length es → Means r (base v) (model.finish_wet es reason (meaning v))
 
 -- what comes of a dry run
-abbrev pub dry_outcome : actions.Job → DryOutput → model-state.Volatile → model.Handled
+abbrev pub dry_outcome : Job → DryOutput → model-state.Volatile → model.Handled
 dry_outcome j o v = record { vol = with_rest o.rest v; outcomes = model.outcome j o.effects o.reason ∷ []; trace = started j.rule ∷ o.trace }
 
 module _ (snapshot image part : List ℕ) (own : ℕ) (j : Job) where
   -- a run takes no number
   abbrev pub RunsWet : Point → ℕ → Carried → List ℕ → List ℕ → Carried → List ℕ → List ℕ → Type 0
   RunsWet from b x ow ew r ow' ew' =
-      ((item : Item) → Handles part own j.index (λ flat. model.finished (job_of j) item (run_steps b (env_of snapshot image flat) (job_of j) from (meaning x.vol))) x ow ew r ow' ew')
+      ((item : Item) → Handles part own j.index (λ flat. model.finished j item (run_steps b (env_of snapshot image flat) j from (meaning x.vol))) x ow ew r ow' ew')
       × ((meaning r.vol).last_number ≡ (meaning x.vol).last_number)
 
   abbrev pub RunsDry : Carried → List ℕ → List ℕ → Carried → List ℕ → List ℕ → Type 0
   RunsDry x =
       Handles part own j.index
-      (λ flat. dry_outcome (job_of j) (run_steps_dry (budget image) (env_of snapshot image flat) (job_of j) start [] (meaning x.vol).rest) (meaning x.vol)) x
+      (λ flat. dry_outcome j (run_steps_dry (budget image) (env_of snapshot image flat) j start [] (meaning x.vol).rest) (meaning x.vol)) x
 
   abbrev pub Executes : Carried → List ℕ → List ℕ → Carried → List ℕ → List ℕ → Type 0
-  Executes x = Handles part own j.index (λ flat. model.execute (env_of snapshot image flat) (job_of j) j.dry (meaning x.vol)) x
+  Executes x = Handles part own j.index (λ flat. model.execute (env_of snapshot image flat) j j.dry (meaning x.vol)) x

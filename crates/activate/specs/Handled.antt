@@ -13,13 +13,7 @@ use Rattle.state.specs.Meaning.{Means, meaning, base, accepted}
 use Rattle.eval.specs.Answers.{env_of}
 use Rattle.lent_words.specs.PutEffects.{put_effects}
 use Rattle.activate.specs.Carried.{Carried}
-use Rattle.activate.specs.declared.Mode.{Mode}
-use Rattle.activate.specs.declared.Mode.TheVariants.{Auto, Manual, Dry}
-
-abbrev pub mode_of : Mode → model.Mode
-mode_of Auto = model.Auto
-mode_of Manual = model.Manual
-mode_of Dry = model.Dry
+use Rattle.model.specs.declared.Mode.{Mode}
 
 -- outcome n, whose effects begin at effect `first`, where there is room for it
 unfoldable pub put_outcome : List ℕ → ℕ → ℕ → Outcome → List ℕ
@@ -68,7 +62,7 @@ pub record Handles (part : List ℕ) (own i : ℕ) (h : List (List FlatStep) →
 
 module _ (snapshot image part : List ℕ) (own i : ℕ) where
   abbrev pub Activates : ℕ → Mode → Carried → List ℕ → List ℕ → Carried → List ℕ → List ℕ → Type 0
-  Activates kind mode x = Handles part own i (λ flat. model.activate (env_of snapshot image flat) i kind (mode_of mode) (meaning x.vol)) x
+  Activates kind mode x = Handles part own i (λ flat. model.activate (env_of snapshot image flat) i kind mode (meaning x.vol)) x
 
   abbrev pub Resumes : Pending → Carried → List ℕ → List ℕ → Carried → List ℕ → List ℕ → Type 0
   Resumes c x = Handles part own i (λ flat. model.resume (env_of snapshot image flat) c (meaning x.vol)) x

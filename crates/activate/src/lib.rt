@@ -12,7 +12,6 @@ ghost use Rattle.model.specs.Kinds.{trigger_number};
 ghost use Rattle.model.specs.Rules.{name_of, rule_named, hold_hcl_of};
 ghost use Rattle.image.specs.Accepted.{Accepted};
 ghost use Rattle.activate.specs.Carried.{carried_by, Over};
-ghost use Rattle.activate.specs.Decisions.{is_auto, is_dry};
 ghost use Rattle.activate.specs.Handled.{Room, Activates, Resumes};
 
 use crate::decide::Decision;
@@ -20,6 +19,7 @@ use counters::Counter;
 use exec::{Env, Job};
 use flat::FlatRule;
 use image::layout::Image;
+pub use model::Mode;
 use model::{Pending, TriggerKind};
 use state::State;
 use state::reasons::Reason;
@@ -44,27 +44,6 @@ pub struct Lent<'a> {
     pub effects: &'a mut [u32],
     pub state: &'a mut State,
     pub handled: Handled,
-}
-
-#[derive(Clone, Copy)]
-pub enum Mode {
-    Auto,
-    Manual,
-    Dry,
-}
-
-impl Mode {
-    fn is_auto(self) -> bool
-        ensures { result ≡ is_auto self }
-    {
-        matches!(self, Mode::Auto)
-    }
-
-    fn is_dry(self) -> bool
-        ensures { result ≡ is_dry self }
-    {
-        matches!(self, Mode::Dry)
-    }
 }
 
 // The words of an outcome in a lent store.

@@ -6,6 +6,7 @@ use mathlib.Core.Bool.{Bool, true, false, cond}
 use mathlib.Core.List.{List}
 use Rattle.std.specs.Prelude.{Option, None, Some}
 use Rattle.model.specs.Actions as actions
+use Rattle.model.specs.declared.Job.{Job}
 use Rattle.model.specs.Eval.{condition_at}
 use Rattle.model.specs.Exec.{after_prim, run_branch, exec, schedule, accepted, dropped, advance}
 use Rattle.model.specs.State.{Env, Volatile, is_full, strike}
@@ -25,7 +26,7 @@ unfolding after_prim strike
 after_next None a to v = refl
 after_next (Some q) a to v = refl
 
-schedule-next : (e : Env) (j : actions.Job) (b ms : ℕ) (sp : Point) (v : Volatile) → (schedule e j b ms sp v).vol.next ≤ suc v.next
+schedule-next : (e : Env) (j : Job) (b ms : ℕ) (sp : Point) (v : Volatile) → (schedule e j b ms sp v).vol.next ≤ suc v.next
 unfolding schedule accepted dropped
 schedule-next e j b ms sp v = go (is_full v)
   where
@@ -39,7 +40,7 @@ branch-next (Some true) t n sp v = omega arith
 branch-next (Some false) t n sp v = omega arith
 branch-next None t n sp v = omega (arith, after_next None (actions.fails v.rest) (advance sp (t + n)) v)
 
-next_grows : (e : Env) (j : actions.Job) (b : ℕ) (sp : Point) (x : Step) (v : Volatile) → (exec e j b sp x v).vol.next ≤ suc v.next
+next_grows : (e : Env) (j : Job) (b : ℕ) (sp : Point) (x : Step) (v : Volatile) → (exec e j b sp x v).vol.next ≤ suc v.next
 unfolding exec
 next_grows e j b sp (Primitive i) v = let a = actions.prim_at e j v.rest i in omega (arith, after_next a.disables a (advance sp 0) v)
 next_grows e j b sp (Wait ms) v = schedule-next e j b ms (advance sp 0) v
@@ -48,7 +49,7 @@ next_grows e j b sp (After ms) v = schedule-next e j b ms (point (suc sp.place) 
 next_grows e j b sp Fail v = omega (arith, after_next None (actions.fails v.rest) (advance sp 0) v)
 
 pub accepts-one :
-    (e : Env) (j : actions.Job) (b : ℕ) (sp : Point) (x : Step) (v : List ℕ) (d : StepDone) → paid.Steps v d (exec e j b sp x (meaning v))
+    (e : Env) (j : Job) (b : ℕ) (sp : Point) (x : Step) (v : List ℕ) (d : StepDone) → paid.Steps v d (exec e j b sp x (meaning v))
     → state.accepted d.vol ≤ suc (state.accepted v)
 accepts-one e j b sp x v d s = omega (arith, next_grows e j b sp x (meaning v), next-is v, accepted-by-next d.vol (base v) _ s.state)
 
@@ -58,7 +59,7 @@ unfolding after_prim strike
 after_last None a to v = refl
 after_last (Some q) a to v = refl
 
-schedule-last : (e : Env) (j : actions.Job) (b ms : ℕ) (sp : Point) (v : Volatile) → (schedule e j b ms sp v).vol.last_number ≡ v.last_number
+schedule-last : (e : Env) (j : Job) (b ms : ℕ) (sp : Point) (v : Volatile) → (schedule e j b ms sp v).vol.last_number ≡ v.last_number
 unfolding schedule accepted dropped
 schedule-last e j b ms sp v = go (is_full v)
   where
@@ -72,7 +73,7 @@ branch-last (Some true) t n sp v = refl
 branch-last (Some false) t n sp v = refl
 branch-last None t n sp v = after_last None (actions.fails v.rest) (advance sp (t + n)) v
 
-step-last : (e : Env) (j : actions.Job) (b : ℕ) (sp : Point) (x : Step) (v : Volatile) → (exec e j b sp x v).vol.last_number ≡ v.last_number
+step-last : (e : Env) (j : Job) (b : ℕ) (sp : Point) (x : Step) (v : Volatile) → (exec e j b sp x v).vol.last_number ≡ v.last_number
 unfolding exec
 step-last e j b sp (Primitive i) v = let a = actions.prim_at e j v.rest i in after_last a.disables a (advance sp 0) v
 step-last e j b sp (Wait ms) v = schedule-last e j b ms (advance sp 0) v
@@ -81,6 +82,6 @@ step-last e j b sp (After ms) v = schedule-last e j b ms (point (suc sp.place) 0
 step-last e j b sp Fail v = after_last None (actions.fails v.rest) (advance sp 0) v
 
 pub takes-none :
-    (e : Env) (j : actions.Job) (b : ℕ) (sp : Point) (x : Step) (v : List ℕ) (d : StepDone) → paid.Steps v d (exec e j b sp x (meaning v))
+    (e : Env) (j : Job) (b : ℕ) (sp : Point) (x : Step) (v : List ℕ) (d : StepDone) → paid.Steps v d (exec e j b sp x (meaning v))
     → (meaning d.vol).last_number ≡ (meaning v).last_number
 takes-none e j b sp x v d s = ap (λ (m : Volatile). m.last_number) s.state.says ∙ step-last e j b sp x (meaning v)

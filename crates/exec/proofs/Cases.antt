@@ -10,7 +10,8 @@ use Rattle.words.proofs.Laws.{signed-bits}
 use Rattle.words.specs.Signed.{signed64, bits64, saturating_add_i64}
 use Rattle.model.specs.State.{Env, Rest, var_named}
 use Rattle.model.specs.Eval.{value_at}
-use Rattle.model.specs.Actions.{Job, var_set, var_add, run_prim}
+use Rattle.model.specs.Actions.{var_set, var_add, run_prim}
+use Rattle.model.specs.declared.Job.{Job}
 use Rattle.model.specs.declared.Action.TheVariants.{VarAdd}
 use Rattle.model.specs.declared.VarValue.{VarValue}
 use Rattle.model.specs.declared.VarValue.TheVariants.{Int}

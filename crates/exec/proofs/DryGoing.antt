@@ -10,7 +10,6 @@ use Rattle.std.specs.Prelude.{Option, None, Some, slice_get}
 use Rattle.std.specs.Option.{unwrap_or}
 use Rattle.std.specs.List.{remove}
 use lib.ListN.{length, get_or, length-append}
-use Rattle.model.specs.Actions as actions
 use Rattle.model.specs.Dry.{next_step, found, dry_step, dry_branch, dry_turn, run_steps_dry, unpaid_dry, DryStepResult, DryOutput}
 use Rattle.model.specs.Eval.{condition_at}
 use Rattle.model.specs.Exec.{first_reason}
@@ -26,12 +25,11 @@ use Rattle.flat.specs.Words.{Says}
 use Rattle.state.specs.Meaning.{Means, meaning, base, accepted}
 use Rattle.state.specs.Reasons.{reason_number}
 use Rattle.eval.specs.Answers.{env_of}
-use Rattle.exec.specs.Results.{job_of}
 use Rattle.lent_words.specs.PutEffects.{put_effects}
 use Rattle.flat.specs.Near.{step_in}
 use Rattle.exec.specs.Runs.{Taken, unpaid_of}
 use Rattle.exec.specs.DryRuns.{body_point, bodies_of, queued_by, Queues, next_found, Moves, DrySteps, RunsDry}
-use Rattle.exec.specs.declared.Job.{Job}
+use Rattle.model.specs.declared.Job.{Job}
 use Rattle.flat.specs.declared.Placed.{Placed}
 use Rattle.exec.specs.declared.RunResult.{RunResult}
 use Rattle.exec.specs.declared.StepResult.{StepResult}
@@ -42,7 +40,7 @@ use Rattle.flat.proofs.Decoded.{is-step}
 use Rattle.exec.proofs.Going.{few, reason-none, reason-assoc, Finished, finished}
 
 -- ---- the queue behind a step
-step-bodies : (e : Env) (j : actions.Job) (x : Step) (sp : Point) (qs : List Point) (s : Rest) → (dry_step e j x sp qs s).bodies ≡ queued_by x sp qs
+step-bodies : (e : Env) (j : Job) (x : Step) (sp : Point) (qs : List Point) (s : Rest) → (dry_step e j x sp qs s).bodies ≡ queued_by x sp qs
 unfolding dry_step dry_branch
 step-bodies e j (Primitive i) sp qs s = refl
 step-bodies e j (Wait ms) sp qs s = refl
@@ -58,10 +56,10 @@ step-bodies e j Fail sp qs s = refl
 -- ---- the next step
 -- from a point and a queue the search for the next step has come to q and rs
 pub record Moving (part : List ℕ) (own : ℕ) (p : Point) (ns : List ℕ) (q : Point) (rs : List ℕ) : Type 0 where
-  pub says : (e : Env) (j : actions.Job) → Says part own (get_or e.set.flat j.index []) → next_step e j p (bodies_of ns) ≡ next_step e j q (bodies_of rs)
+  pub says : (e : Env) (j : Job) → Says part own (get_or e.set.flat j.index []) → next_step e j p (bodies_of ns) ≡ next_step e j q (bodies_of rs)
   pub most : length rs ≤ length ns
 
-module _ (e : Env) (j : actions.Job) (p : Point) where
+module _ (e : Env) (j : Job) (p : Point) where
   next-stands : (x : Step) (qs : List Point) → Some x ≡ step_at e.set j.index p → next_step e j p qs ≡ found (Some x) p qs None
   unfolding next_step
   next-stands x [] h = rw (← h)
@@ -133,7 +131,7 @@ finish_dry m o =
     }
 
 -- what is left of it, with b steps in the budget
-abbrev pub left_dry : ℕ → Env → actions.Job → DryMachine → Finished
+abbrev pub left_dry : ℕ → Env → Job → DryMachine → Finished
 left_dry b e j m = finish_dry m (run_steps_dry b e j m.point m.bodies m.vol.rest)
 
 -- a paid step is taken over
@@ -148,7 +146,7 @@ take_dry d m =
       words = put_effects m.words m.count (to_list d.effect);
     }
 
-module _ (e : Env) (j : actions.Job) (m : DryMachine) where
+module _ (e : Env) (j : Job) (m : DryMachine) where
   -- no step is left
   past : (b : ℕ) → next_step e j m.point m.bodies ≡ None → stopped_dry 0 m ≡ left_dry b e j m
   unfolding run_steps_dry dry_turn finish_dry put_effects
@@ -188,7 +186,7 @@ unpaid-found (Some x) rs = refl
 pub record GoingDry (snapshot image part : List ℕ) (own : ℕ) (job : Job) (budget : ℕ) (from : DryMachine) (v₀ v : List ℕ) (point : Point) (ns : List ℕ) (run : RunResult) (w : List ℕ) (left : ℕ) : Type 0 where
   pub says :
       (flat : List (List FlatStep)) → Says part own (get_or flat job.index [])
-      → left_dry left (env_of snapshot image flat) (job_of job) (dry_machine v point ns run w) ≡ left_dry budget (env_of snapshot image flat) (job_of job) from
+      → left_dry left (env_of snapshot image flat) job (dry_machine v point ns run w) ≡ left_dry budget (env_of snapshot image flat) job from
   pub based : base v ≡ base v₀
   pub accepts : accepted v ≡ accepted v₀
   pub grows : from.count ≤ run.count
@@ -204,7 +202,7 @@ module _ (snapshot image part : List ℕ) (own : ℕ) (job : Job) (budget : ℕ)
   -- what a whole run comes to
   runs :
       (v : List ℕ) (r : RunResult) (w : List ℕ) → base v ≡ base v₀ → accepted v ≡ accepted v₀ → count ≤ r.count → r.count ≤ count + budget → (meaning v).last_number ≡ (meaning v₀).last_number
-      → ((flat : List (List FlatStep)) → Says part own (get_or flat job.index []) → finished v r w ≡ left_dry budget (env_of snapshot image flat) (job_of job) from)
+      → ((flat : List (List FlatStep)) → Says part own (get_or flat job.index []) → finished v r w ≡ left_dry budget (env_of snapshot image flat) job from)
       → RunsDry snapshot image part own job v₀ start budget count w₀ (run_done v r) w
   unfolding finish_dry
   runs v r w b a g n l h =
@@ -233,7 +231,7 @@ module _ (snapshot image part : List ℕ) (own : ℕ) (job : Job) (budget : ℕ)
           (λ flat s.
           let e = env_of snapshot image flat in
           ap (λ (n : ℕ). record { vol = meaning v; reason = n; count = run.count; words = w }) (sym (reason-none (reason_number run.reason)))
-          ∙ past e (job_of job) (dry_machine v point ns run w) left (moves.says e (job_of job) s ∙ ap (λ (x : Option Placed). next_found x rs) h)
+          ∙ past e job (dry_machine v point ns run w) left (moves.says e job s ∙ ap (λ (x : Option Placed). next_found x rs) h)
           ∙ inv.says flat s)
 
       pub runs-spent : (r : RunResult) → left ≤ 0 → reason_number r.reason ≡ first_reason (reason_number run.reason) (unpaid_of o) → r.count ≡ run.count
@@ -244,14 +242,14 @@ module _ (snapshot image part : List ℕ) (own : ℕ) (job : Job) (budget : ℕ)
           let e = env_of snapshot image flat in
           let m = dry_machine v point ns run w in
           let none_left : 0 ≡ left = omega arith in
-          rw (n, c) (ap (λ (k : ℕ). stopped_dry k m) (unpaid-found o rs ∙ ap unpaid_dry (sym (moves.says e (job_of job) s))))
-          ∙ spent e (job_of job) m
-          ∙ ap (λ (b : ℕ). left_dry b e (job_of job) m) none_left
+          rw (n, c) (ap (λ (k : ℕ). stopped_dry k m) (unpaid-found o rs ∙ ap unpaid_dry (sym (moves.says e job s))))
+          ∙ spent e job m
+          ∙ ap (λ (b : ℕ). left_dry b e job m) none_left
           ∙ inv.says flat s)
 
       pub goes-on :
           (x : Placed) → o ≡ Some x → 0 < left → (d : StepResult) (v' : List ℕ)
-          → ((flat : List (List FlatStep)) (qs : List Point) → DrySteps v (step_done v' d) (dry_step (env_of snapshot image flat) (job_of job) x.step x.point qs (meaning v).rest))
+          → ((flat : List (List FlatStep)) (qs : List Point) → DrySteps v (step_done v' d) (dry_step (env_of snapshot image flat) job x.step x.point qs (meaning v).rest))
           → (r : RunResult) (exit : List ℕ) → Taken run w d r exit → (us : List ℕ) → Queues rs x.point x.step us → (to : Point) → to ≡ unwrap_or d.next x.point → length exit ≡ length w
           → GoingDry snapshot image part own job budget from v₀ v' to us r exit (left - 1)
       goes-on x h paid d v' steps r exit taken us k to next l =
@@ -260,9 +258,9 @@ module _ (snapshot image part : List ℕ) (own : ℕ) (job : Job) (budget : ℕ)
                 let e = env_of snapshot image flat in
                 let m = dry_machine v point ns run w in
                 let one : suc (left - 1) ≡ left = omega arith in
-                ap (left_dry (left - 1) e (job_of job)) (taken_is v v' point x.point to ns rs us run r w exit x.step d _ taken (steps flat (bodies_of rs)) (step-bodies e (job_of job) x.step x.point (bodies_of rs) _) k next)
-                ∙ goes e (job_of job) m (left - 1) x.step x.point (bodies_of rs) (moves.says e (job_of job) s ∙ ap (λ (y : Option Placed). next_found y rs) h)
-                ∙ ap (λ (b : ℕ). left_dry b e (job_of job) m) one
+                ap (left_dry (left - 1) e job) (taken_is v v' point x.point to ns rs us run r w exit x.step d _ taken (steps flat (bodies_of rs)) (step-bodies e job x.step x.point (bodies_of rs) _) k next)
+                ∙ goes e job m (left - 1) x.step x.point (bodies_of rs) (moves.says e job s ∙ ap (λ (y : Option Placed). next_found y rs) h)
+                ∙ ap (λ (b : ℕ). left_dry b e job m) one
                 ∙ inv.says flat s;
             based = (steps [] []).state.based ∙ inv.based;
             accepts = same-accepted v v' _ (steps [] []).state ∙ inv.accepts;

@@ -9,7 +9,8 @@ use lib.IntN.{ℤ, pos, negsuc}
 use Rattle.model.specs.Image.{group_limit, text_limit}
 use Rattle.model.specs.Lists.{present}
 use Rattle.model.specs.Actions as actions
-use Rattle.model.specs.Actions.{Job, PrimResult, prim_light, prim_recall, prim_apply, prim_cycle, cycle_effect, level_at, selects, dims, arm_timer, var_set, prim_var_set, var_add, set_rule_bit, run_prim, run_known, fails}
+use Rattle.model.specs.Actions.{PrimResult, prim_light, prim_recall, prim_apply, prim_cycle, cycle_effect, level_at, selects, dims, arm_timer, var_set, prim_var_set, var_add, set_rule_bit, run_prim, run_known, fails}
+use Rattle.model.specs.declared.Job.{Job}
 use Rattle.model.specs.declared.LightAnswer.TheVariants.{Verb, Nothing, Unevaluable}
 use Rattle.model.specs.declared.VarConstant.TheVariants as constant
 use Rattle.model.specs.declared.Action.{Action}

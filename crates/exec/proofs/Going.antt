@@ -9,7 +9,6 @@ use Rattle.std.specs.Prelude.{Option, None, Some}
 use lib.Dec.{eqb}
 use borrow.Author.Tests.{ne_eqb}
 use lib.ListN.{length, get_or, length-append}
-use Rattle.model.specs.Actions as actions
 use Rattle.model.specs.Exec as model
 use Rattle.model.specs.Exec.{run_steps, with_step, continue_run, exec, first_reason, unpaid}
 use Rattle.model.specs.Flat.{step_at}
@@ -23,13 +22,12 @@ use Rattle.flat.specs.Words.{Says}
 use Rattle.state.specs.Meaning.{meaning, base, accepted}
 use Rattle.state.specs.Reasons.{reason_number}
 use Rattle.eval.specs.Answers.{env_of}
-use Rattle.exec.specs.Results.{job_of}
 use Rattle.exec.specs.Paid.{Steps}
 use Rattle.lent_words.specs.PutEffects.{put_effects}
 use Rattle.flat.specs.Near.{step_in}
 use Rattle.exec.specs.Runs.{Taken, Runs, unpaid_of}
 use Rattle.flat.specs.Stands.{step_of_placed}
-use Rattle.exec.specs.declared.Job.{Job}
+use Rattle.model.specs.declared.Job.{Job}
 use Rattle.flat.specs.declared.Placed.{Placed}
 use Rattle.exec.specs.declared.RunResult.{RunResult}
 use Rattle.exec.specs.declared.StepResult.{StepResult}
@@ -93,7 +91,7 @@ finish m o =
     }
 
 -- what is left of a run, with b steps in the budget
-abbrev pub left_of : ℕ → Env → actions.Job → Machine → Finished
+abbrev pub left_of : ℕ → Env → Job → Machine → Finished
 left_of b e j m = finish m (run_steps b e j m.point m.vol)
 
 -- a paid step is taken over, and the run stands at p
@@ -107,7 +105,7 @@ take_step d p m =
       words = put_effects m.words m.count (to_list d.effect);
     }
 
-module _ (e : Env) (j : actions.Job) (m : Machine) where
+module _ (e : Env) (j : Job) (m : Machine) where
   -- no step is left
   past : (b : ℕ) → None ≡ step_at e.set j.index m.point → stopped 0 m ≡ left_of b e j m
   unfolding run_steps with_step finish put_effects
@@ -143,7 +141,7 @@ unpaid-stands (Some x) = refl
 pub record Going (snapshot image part : List ℕ) (own : ℕ) (job : Job) (budget : ℕ) (from : Machine) (v₀ v : List ℕ) (point : Point) (run : RunResult) (w : List ℕ) (left : ℕ) : Type 0 where
   pub says :
       (flat : List (List FlatStep)) → Says part own (get_or flat job.index [])
-      → left_of left (env_of snapshot image flat) (job_of job) (machine v point run w) ≡ left_of budget (env_of snapshot image flat) (job_of job) from
+      → left_of left (env_of snapshot image flat) job (machine v point run w) ≡ left_of budget (env_of snapshot image flat) job from
   pub based : base v ≡ base v₀
   pub accepts : accepted v + left ≤ accepted v₀ + budget
   pub grows : from.count ≤ run.count
@@ -158,7 +156,7 @@ module _ (snapshot image part : List ℕ) (own : ℕ) (job : Job) (budget : ℕ)
   -- what a whole run comes to
   runs :
       (v : List ℕ) (r : RunResult) (w : List ℕ) → base v ≡ base v₀ → accepted v ≤ accepted v₀ + budget → count ≤ r.count → r.count ≤ count + budget → (meaning v).last_number ≡ (meaning v₀).last_number
-      → ((flat : List (List FlatStep)) → Says part own (get_or flat job.index []) → finished v r w ≡ left_of budget (env_of snapshot image flat) (job_of job) from)
+      → ((flat : List (List FlatStep)) → Says part own (get_or flat job.index []) → finished v r w ≡ left_of budget (env_of snapshot image flat) job from)
       → Runs snapshot image part own job v₀ start budget count w₀ (run_done v r) w
   unfolding finish
   runs v r w b a g n l h =
@@ -184,7 +182,7 @@ module _ (snapshot image part : List ℕ) (own : ℕ) (job : Job) (budget : ℕ)
         (λ flat s.
         let e = env_of snapshot image flat in
         ap (λ (n : ℕ). record { vol = meaning v; reason = n; count = run.count; words = w }) (sym (reason-none (reason_number run.reason)))
-        ∙ past e (job_of job) (machine v point run w) left (h ∙ is-step part own point e (job_of job) s)
+        ∙ past e job (machine v point run w) left (h ∙ is-step part own point e job s)
         ∙ inv.says flat s)
 
     pub runs-spent : (o : Option Placed) (r : RunResult) → left ≤ 0 → step_of_placed o ≡ step_in part own point → reason_number r.reason ≡ first_reason (reason_number run.reason) (unpaid_of o) → r.count ≡ run.count
@@ -194,14 +192,14 @@ module _ (snapshot image part : List ℕ) (own : ℕ) (job : Job) (budget : ℕ)
         (λ flat s.
         let e = env_of snapshot image flat in
         let none_left : 0 ≡ left = omega arith in
-        rw (n, c, unpaid-stands o) (ap (λ (x : Option Step). stopped (unpaid x) (machine v point run w)) (h ∙ is-step part own point e (job_of job) s))
-        ∙ spent e (job_of job) (machine v point run w)
-        ∙ ap (λ (b : ℕ). left_of b e (job_of job) (machine v point run w)) none_left
+        rw (n, c, unpaid-stands o) (ap (λ (x : Option Step). stopped (unpaid x) (machine v point run w)) (h ∙ is-step part own point e job s))
+        ∙ spent e job (machine v point run w)
+        ∙ ap (λ (b : ℕ). left_of b e job (machine v point run w)) none_left
         ∙ inv.says flat s)
 
     module _
         (x : Step) (here : Some x ≡ step_in part own point) (paid : 0 < left) (d : StepResult) (v' : List ℕ)
-        (steps : (flat : List (List FlatStep)) → Steps v (step_done v' d) (exec (env_of snapshot image flat) (job_of job) (left - 1) point x (meaning v)))
+        (steps : (flat : List (List FlatStep)) → Steps v (step_done v' d) (exec (env_of snapshot image flat) job (left - 1) point x (meaning v)))
         (r : RunResult) (exit : List ℕ) (taken : Taken run w d r exit)
       where
         one : suc (left - 1) ≡ left
@@ -211,7 +209,7 @@ module _ (snapshot image part : List ℕ) (own : ℕ) (job : Job) (budget : ℕ)
         stays = (steps []).state.based ∙ inv.based
 
         accepts : accepted v' ≤ suc (accepted v)
-        accepts = accepts-one (env_of snapshot image []) (job_of job) (left - 1) point x v (step_done v' d) (steps [])
+        accepts = accepts-one (env_of snapshot image []) job (left - 1) point x v (step_done v' d) (steps [])
 
         counts : r.count ≤ suc run.count
         counts = omega (arith, taken.count, few d.effect)
@@ -220,7 +218,7 @@ module _ (snapshot image part : List ℕ) (own : ℕ) (job : Job) (budget : ℕ)
         grows = omega (arith, taken.count, inv.grows)
 
         last : (meaning v').last_number ≡ (meaning v₀).last_number
-        last = takes-none (env_of snapshot image []) (job_of job) (left - 1) point x v (step_done v' d) (steps []) ∙ inv.last
+        last = takes-none (env_of snapshot image []) job (left - 1) point x v (step_done v' d) (steps []) ∙ inv.last
 
         pub runs-ended : None ≡ d.next → Runs snapshot image part own job v₀ start budget count w₀ (run_done v' r) exit
         runs-ended h =
@@ -230,8 +228,8 @@ module _ (snapshot image part : List ℕ) (own : ℕ) (job : Job) (budget : ℕ)
             let m = machine v point run w in
             ap (λ (n : ℕ). record { vol = meaning v'; reason = n; count = r.count; words = exit }) (sym (reason-none (reason_number r.reason)))
             ∙ ap (stopped 0) (taken_is v v' point point run r w exit d _ taken (steps flat))
-            ∙ ends e (job_of job) m (left - 1) x (here ∙ is-step part own point e (job_of job) s) (h ∙ (steps flat).next)
-            ∙ ap (λ (b : ℕ). left_of b e (job_of job) m) one
+            ∙ ends e job m (left - 1) x (here ∙ is-step part own point e job s) (h ∙ (steps flat).next)
+            ∙ ap (λ (b : ℕ). left_of b e job m) one
             ∙ inv.says flat s)
 
         pub goes-on : (p : Point) → Some p ≡ d.next → length exit ≡ length w → Going snapshot image part own job budget from v₀ v' p r exit (left - 1)
@@ -240,9 +238,9 @@ module _ (snapshot image part : List ℕ) (own : ℕ) (job : Job) (budget : ℕ)
               says = λ flat s.
                   let e = env_of snapshot image flat in
                   let m = machine v point run w in
-                  ap (left_of (left - 1) e (job_of job)) (taken_is v v' point p run r w exit d _ taken (steps flat))
-                  ∙ goes e (job_of job) m (left - 1) x (here ∙ is-step part own point e (job_of job) s) p (h ∙ (steps flat).next)
-                  ∙ ap (λ (b : ℕ). left_of b e (job_of job) m) one
+                  ap (left_of (left - 1) e job) (taken_is v v' point p run r w exit d _ taken (steps flat))
+                  ∙ goes e job m (left - 1) x (here ∙ is-step part own point e job s) p (h ∙ (steps flat).next)
+                  ∙ ap (λ (b : ℕ). left_of b e job m) one
                   ∙ inv.says flat s;
               based = stays;
               accepts = omega (arith, accepts, inv.accepts);

@@ -5,6 +5,7 @@ use mathlib.Core.Path.{◌≡◌, refl, subst}
 use mathlib.Core.List.{List}
 use Rattle.std.specs.Prelude.{Option, None, Some}
 use Rattle.model.specs.Actions as actions
+use Rattle.model.specs.declared.Job.{Job}
 use Rattle.model.specs.Eval.{condition_at}
 use Rattle.model.specs.Exec as model
 use Rattle.model.specs.Exec.{after_prim, run_branch, exec, schedule, advance, enter_then, body_start}
@@ -30,7 +31,7 @@ after-does v a x to d = go x.disables refl
     go None e = record { state = rw e at d.state; effect = d.effect; reason = d.reason; next = refl }
     go (Some q) e = record { state = rw e at d.state; effect = d.effect; reason = d.reason; next = refl }
 
-module _ (e : Env) (j : actions.Job) (b : ℕ) (sp to : Point) (v : List ℕ) where
+module _ (e : Env) (j : Job) (b : ℕ) (sp to : Point) (v : List ℕ) where
   pub primitive-is : (i : ℕ) → to ≡ advance sp 0 → (let a = actions.prim_at e j (meaning v).rest i in after_prim a.disables a to (meaning v)) ≡ exec e j b sp (Primitive i) (meaning v)
   unfolding exec
   primitive-is i t = rw t

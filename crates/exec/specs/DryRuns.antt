@@ -1,7 +1,6 @@
 -- A dry run, in the specification's terms.
 use Rattle.std.specs.Prelude.{ℕ, ◌+◌, ◌≤◌, ◌≡◌, List, [], ◌∷◌, ◌++◌, map, length, get_or, Option, None, Some}
 use Rattle.words.specs.Saturating.{max32}
-use Rattle.model.specs.Actions as actions
 use Rattle.model.specs.Dry as model
 use Rattle.model.specs.Exec.{body_start}
 use Rattle.model.specs.State.{Env, with_rest}
@@ -13,9 +12,8 @@ use Rattle.flat.specs.Words.{Says}
 use Rattle.state.specs.Meaning.{Means, meaning, base, accepted}
 use Rattle.eval.specs.Answers.{env_of}
 use Rattle.lent_words.specs.PutEffects.{put_effects}
-use Rattle.exec.specs.Results.{job_of}
 use Rattle.exec.specs.Done.{RunDone, StepDone}
-use Rattle.exec.specs.declared.Job.{Job}
+use Rattle.model.specs.declared.Job.{Job}
 use Rattle.flat.specs.declared.Placed.{Placed}
 
 -- from v the step came to r, and the specification to d
@@ -27,7 +25,7 @@ pub record DrySteps (v : List ℕ) (r : StepDone) (d : model.DryStepResult) : Ty
 
 abbrev pub DryStepsIn : List ℕ → List ℕ → Job → List ℕ → Point → Step → StepDone → Type 0
 DryStepsIn snapshot image j v sp x r =
-    (flat : List (List FlatStep)) (qs : List Point) → DrySteps v r (model.dry_step (env_of snapshot image flat) (job_of j) x sp qs (meaning v).rest)
+    (flat : List (List FlatStep)) (qs : List Point) → DrySteps v r (model.dry_step (env_of snapshot image flat) j x sp qs (meaning v).rest)
 
 -- a body begins at its first step; and the bodies that a queue of lists stands for
 abbrev pub body_point : ℕ → Point
@@ -56,7 +54,7 @@ next_found (Some x) rs = Some (record { step = x.step; point = x.point; bodies =
 -- from a point and a queue to the next step, if there is one
 pub record Moves (part : List ℕ) (own : ℕ) (p : Point) (ns rs : List ℕ) (x : Option Placed) : Type 0 where
   pub says :
-      (e : Env) (j : actions.Job) → Says part own (get_or e.set.flat j.index [])
+      (e : Env) (j : Job) → Says part own (get_or e.set.flat j.index [])
       → model.next_step e j p (bodies_of ns) ≡ next_found x rs
   pub most : length rs ≤ length ns
 
@@ -68,7 +66,7 @@ pub record DryReady (v : List ℕ) (budget count : ℕ) : Type 0 where
 pub record RunsDry (snapshot image part : List ℕ) (own : ℕ) (job : Job) (v : List ℕ) (from : Point) (budget count : ℕ) (words : List ℕ) (r : RunDone) (exit : List ℕ) : Type 0 where
   pub says :
       (flat : List (List FlatStep)) → Says part own (get_or flat job.index [])
-      → let o = model.run_steps_dry budget (env_of snapshot image flat) (job_of job) from [] (meaning v).rest in
+      → let o = model.run_steps_dry budget (env_of snapshot image flat) job from [] (meaning v).rest in
       Means r.vol (base v) (with_rest o.rest (meaning v)) × (r.reason ≡ o.reason) × (r.count ≡ count + length o.effects) × (exit ≡ put_effects words count o.effects)
   pub based : base r.vol ≡ base v
   pub accepted : accepted r.vol ≡ accepted v

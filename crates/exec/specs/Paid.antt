@@ -10,8 +10,8 @@ use Rattle.model.specs.declared.Point.{Point}
 use Rattle.model.specs.declared.Step.{Step}
 use Rattle.state.specs.Meaning.{Means, meaning, base}
 use Rattle.eval.specs.Answers.{env_of}
-use Rattle.exec.specs.Results.{Does, job_of}
-use Rattle.exec.specs.declared.Job.{Job}
+use Rattle.exec.specs.Results.{Does}
+use Rattle.model.specs.declared.Job.{Job}
 use Rattle.exec.specs.Done.{ActionDone, StepDone}
 
 -- from v the step came to r, and the specification to d
@@ -29,11 +29,11 @@ GoesOn v to r = Steps v r (record { vol = meaning v; report = plain; effect = No
 
 -- a step, of every job in every environment; in every environment of a snapshot; in every one of a snapshot and an image
 abbrev pub StepsAlways : List ℕ → Point → Step → StepDone → Type 0
-StepsAlways v sp x r = (j : Job) (e : Env) (b : ℕ) → Steps v r (model.exec e (job_of j) b sp x (meaning v))
+StepsAlways v sp x r = (j : Job) (e : Env) (b : ℕ) → Steps v r (model.exec e j b sp x (meaning v))
 
 module _ (snapshot image : List ℕ) where
   abbrev pub StepsIn : Job → List ℕ → ℕ → Point → Step → StepDone → Type 0
-  StepsIn j v b sp x r = (flat : List (List FlatStep)) → Steps v r (model.exec (env_of snapshot image flat) (job_of j) b sp x (meaning v))
+  StepsIn j v b sp x r = (flat : List (List FlatStep)) → Steps v r (model.exec (env_of snapshot image flat) j b sp x (meaning v))
 
 abbrev pub StepsAt : List ℕ → Job → List ℕ → ℕ → Point → Step → StepDone → Type 0
 StepsAt snapshot j v b sp x r = (image : List ℕ) → StepsIn snapshot image j v b sp x r
@@ -42,5 +42,5 @@ StepsAt snapshot j v b sp x r = (image : List ℕ) → StepsIn snapshot image j 
 abbrev pub SchedulesOf : List ℕ → Job → List ℕ → ℕ → ℕ → Point → List ℕ → ℕ → Type 0
 SchedulesOf snapshot j v b ms to r reason =
     (image : List ℕ) (flat : List (List FlatStep)) →
-    let s = model.schedule (env_of snapshot image flat) (job_of j) b ms to (meaning v) in
+    let s = model.schedule (env_of snapshot image flat) j b ms to (meaning v) in
     Means r (base v) s.vol × (reason ≡ s.reason)

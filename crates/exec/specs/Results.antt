@@ -10,11 +10,8 @@ use Rattle.model.specs.declared.VarValue.{VarValue}
 use Rattle.model.specs.Eval.{value_at}
 use Rattle.state.specs.Meaning.{Means, meaning, base}
 use Rattle.eval.specs.Answers.{env_of}
-use Rattle.exec.specs.declared.Job.{Job}
+use Rattle.model.specs.declared.Job.{Job}
 use Rattle.exec.specs.Done.{PrimResult, ActionDone, action_done}
-
-abbrev pub job_of : Job → model.Job
-job_of j = record { rule = j.rule; index = j.index; hold = j.hold; trigger = j.trigger; dry = j.dry; number = j.number }
 
 -- who disables a rule also strikes its continuations
 abbrev pub struck : Option ℕ → model-state.Volatile → model-state.Volatile
@@ -33,29 +30,29 @@ AnswersOnly f r = (v : List ℕ) → Does v (action_done v r) (f (meaning v).res
 
 -- an action, in every environment; and in every environment of a snapshot and an image
 abbrev pub Performs : Job → List ℕ → Action → ActionDone → Type 0
-Performs j v x r = (e : Env) → Does v r (model.run_prim e (job_of j) (meaning v).rest x)
+Performs j v x r = (e : Env) → Does v r (model.run_prim e j (meaning v).rest x)
 
 module _ (snapshot image : List ℕ) where
   abbrev pub PerformsIn : Job → List ℕ → Action → ActionDone → Type 0
-  PerformsIn j v x r = (flat : List (List FlatStep)) → Does v r (model.run_prim (env_of snapshot image flat) (job_of j) (meaning v).rest x)
+  PerformsIn j v x r = (flat : List (List FlatStep)) → Does v r (model.run_prim (env_of snapshot image flat) j (meaning v).rest x)
 
   -- action i of the image
   abbrev pub PerformsAt : Job → List ℕ → ℕ → ActionDone → Type 0
-  PerformsAt j v i r = (flat : List (List FlatStep)) → Does v r (model.prim_at (env_of snapshot image flat) (job_of j) (meaning v).rest i)
+  PerformsAt j v i r = (flat : List (List FlatStep)) → Does v r (model.prim_at (env_of snapshot image flat) j (meaning v).rest i)
 
 -- the parts of actions that several share
 abbrev pub Arms : List ℕ → Job → List ℕ → ℕ → ℕ → ActionDone → Type 0
 Arms snapshot j v name ms r =
-    (image : List ℕ) (flat : List (List FlatStep)) (s : Rest) → Does v r (model.arm_timer (env_of snapshot image flat) (job_of j) s name ms (meaning v).rest)
+    (image : List ℕ) (flat : List (List FlatStep)) (s : Rest) → Does v r (model.arm_timer (env_of snapshot image flat) j s name ms (meaning v).rest)
 
 abbrev pub Assigns : Job → List ℕ → ℕ → VarValue → ActionDone → Type 0
-Assigns j v name value r = (e : Env) → Does v r (model.var_set e (job_of j) (meaning v).rest name value)
+Assigns j v name value r = (e : Env) → Does v r (model.var_set e j (meaning v).rest name value)
 
 abbrev pub Adds : Job → List ℕ → ℕ → ℤ → ActionDone → Type 0
 Adds j v name step r =
     (e : Env) →
     let s = (meaning v).rest in
-    Does v r (model.var_add e (job_of j) s name (Some step) (var_named s name))
+    Does v r (model.var_add e j s name (Some step) (var_named s name))
 
 -- value i, and its level
 abbrev pub ValueAt : List ℕ → List ℕ → Rest → ℕ → Option ℤ → Type 0
@@ -66,4 +63,4 @@ LevelAt snapshot image s i r = (flat : List (List FlatStep)) → r ≡ model.lev
 
 -- the rule's place is i, if it has one
 abbrev pub SetsBit : Job → List ℕ → ℕ → Bool → Option ℕ → ActionDone → Type 0
-SetsBit j v rule on i r = (e : Env) → Does v r (model.set_rule_bit e (job_of j) (meaning v).rest rule on i)
+SetsBit j v rule on i r = (e : Env) → Does v r (model.set_rule_bit e j (meaning v).rest rule on i)

@@ -9,9 +9,8 @@ use Rattle.flat.specs.Words.{Says}
 use Rattle.state.specs.Meaning.{Means, meaning, base, accepted}
 use Rattle.state.specs.Reasons.{reason_number}
 use Rattle.eval.specs.Answers.{env_of}
-use Rattle.exec.specs.Results.{job_of}
 use Rattle.lent_words.specs.PutEffects.{put_effects}
-use Rattle.exec.specs.declared.Job.{Job}
+use Rattle.model.specs.declared.Job.{Job}
 use Rattle.exec.specs.declared.RunResult.{RunResult}
 use Rattle.exec.specs.declared.StepResult.{StepResult}
 use Rattle.exec.specs.Done.{RunDone}
@@ -35,7 +34,7 @@ pub record Ready (v : List ℕ) (budget count : ℕ) : Type 0 where
 pub record Runs (snapshot image part : List ℕ) (own : ℕ) (job : Job) (v : List ℕ) (from : Point) (budget count : ℕ) (words : List ℕ) (r : RunDone) (exit : List ℕ) : Type 0 where
   pub says :
       (flat : List (List FlatStep)) → Says part own (get_or flat job.index [])
-      → let o = model.run_steps budget (env_of snapshot image flat) (job_of job) from (meaning v) in
+      → let o = model.run_steps budget (env_of snapshot image flat) job from (meaning v) in
       Means r.vol (base v) o.vol × (r.reason ≡ o.reason) × (r.count ≡ count + length o.effects) × (exit ≡ put_effects words count o.effects)
   pub based : base r.vol ≡ base v
   pub accepted : accepted r.vol ≤ accepted v + budget

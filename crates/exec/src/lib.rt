@@ -19,23 +19,10 @@ ghost use Rattle.state.specs.Meaning.{meaning};
 ghost use Rattle.exec.specs.Results.{ValueAt};
 
 use image::layout::Image;
+pub use model::Job;
 use model::{Effect, Point};
 use state::State;
 use state::reasons::Reason;
-
-// What a run knows of its rule: name, place in the image, hold_hcl; and the trigger and the activation number for the outcome, 0 for none.
-// kept: a number of 0 does not say that a run is dry: a wet activation whose conditions cannot be evaluated takes no number either, and document 01's outcome
-// has the 0 of both. An enum of a wet run with its number and a dry one would lose that, and an Option would be made a number again for the outcome.
-// kept: the trigger is the word of the outcome: `resume` has it from its `Pending`, and nothing here asks which kind it is.
-#[derive(Clone, Copy)]
-pub struct Job {
-    pub rule: u32,
-    pub index: u32,
-    pub hold: u32,
-    pub trigger: u32,
-    pub dry: bool,
-    pub number: u64,
-}
 
 // What a run is given: the words of the snapshot and of the image, and what it knows of its rule.
 // kept: the state stands beside it in each function, `env, v`: an Env with `&mut State` could not be copied, and would have to be lent again at each call, and taken

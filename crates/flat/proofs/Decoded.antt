@@ -14,7 +14,7 @@ use Rattle.std.proofs.Common.{get_or-take}
 use lib.Seq.{get_or-drop}
 use borrow.Author.Tests.{leb-true}
 use Rattle.model.specs.Codec.{rows_at}
-use Rattle.model.specs.Actions as actions
+use Rattle.model.specs.declared.Job.{Job}
 use Rattle.model.specs.Flat.{list_in, step_at}
 use Rattle.model.specs.Lists.{all}
 use Rattle.model.specs.Parts.{step_row}
@@ -131,6 +131,6 @@ pub near-there : (part : List ℕ) (own : ℕ) (p : Point) (o : Option Step) (li
 near-there part own p o list place near l k e = found-near part own p o near (rw (l, k) at e)
 
 -- the step of the rule
-pub is-step : (part : List ℕ) (own : ℕ) (p : Point) (e : Env) (j : actions.Job) → Says part own (get_or e.set.flat j.index []) → step_in part own p ≡ step_at e.set j.index p
+pub is-step : (part : List ℕ) (own : ℕ) (p : Point) (e : Env) (j : Job) → Says part own (get_or e.set.flat j.index []) → step_in part own p ≡ step_at e.set j.index p
 unfolding step_at
 is-step part own p e j s = ap (λ (xs : List Step). slice_get xs p.place) (said part own (get_or e.set.flat j.index []) s p.list)

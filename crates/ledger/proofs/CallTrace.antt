@@ -16,9 +16,12 @@ use Rattle.model.specs.Outcome.{Outcome, Item, started, resumed, aborted}
 use Rattle.model.specs.declared.Pending.{Pending}
 use Rattle.model.specs.declared.Point.{Point}
 use Rattle.model.specs.State.{next_number, Env, Volatile, RuleSet, Store, with_rest, is_enabled, bump, continuations_fired}
-use Rattle.model.specs.Actions.{Job, condition_unevaluable}
+use Rattle.model.specs.Actions.{condition_unevaluable}
+use Rattle.model.specs.declared.Job.{Job}
 use Rattle.model.specs.Exec.{RunOutput, run_steps}
-use Rattle.model.specs.Activate.{Mode, Auto, Manual, is_dry, Handled, no_outcome, and_then, outcome, job_of, numbered, Decision, begins, suppressed, unevaluable, decide, finished, execute_wet, execute, decided, activate, resume}
+use Rattle.model.specs.Activate.{is_dry, Handled, no_outcome, and_then, outcome, job_of, numbered, Decision, begins, suppressed, unevaluable, decide, finished, execute_wet, execute, decided, activate, resume}
+use Rattle.model.specs.declared.Mode.{Mode}
+use Rattle.model.specs.declared.Mode.TheVariants.{Auto, Manual}
 use Rattle.model.specs.Steps.{start}
 use Rattle.model.specs.Wheel.{due_now, resume_all, fire_continuations, service_tick}
 use Rattle.model.specs.Calls.{Call, new, load, unload, enable, tick, run, deadline, counters, Done, overflow, loading, call_load, call_unload, enabling, rule_in, call_enable, committing, committed, tick_with, run_rule, run_with, given, refuse, call}

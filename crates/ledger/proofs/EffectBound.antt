@@ -21,9 +21,11 @@ use Rattle.model.specs.declared.Pending.{Pending}
 use Rattle.model.specs.State.{next_number, Rest, Env, Volatile, RuleSet, Store, with_rest, with_last_activation, is_enabled, bump, activations_total, continuations_fired}
 use Rattle.model.specs.Flat.{Flattened, flatten_rule, flatten_rules, set_of, step_at}
 use Rattle.model.specs.Steps.{start}
-use Rattle.model.specs.Actions.{Job}
+use Rattle.model.specs.declared.Job.{Job}
 use Rattle.model.specs.Exec.{StepResult, exec, RunOutput, continue_run, with_step, run_steps}
-use Rattle.model.specs.Activate.{Mode, Auto, Manual, is_dry, Handled, no_outcome, and_then, job_of, numbered, with_number, Decision, begins, suppressed, unevaluable, decide, execute_wet, execute, decided, activate, resume}
+use Rattle.model.specs.Activate.{is_dry, Handled, no_outcome, and_then, job_of, numbered, with_number, Decision, begins, suppressed, unevaluable, decide, execute_wet, execute, decided, activate, resume}
+use Rattle.model.specs.declared.Mode.{Mode}
+use Rattle.model.specs.declared.Mode.TheVariants.{Auto, Manual}
 use Rattle.model.specs.Wheel.{due_now, not_due, resume_all, fire_continuations, service_tick}
 use Rattle.model.specs.Rules.{name_order}
 use Rattle.model.specs.Calls.{Call, new, load, unload, enable, tick, run, deadline, counters, Done, refuse, fresh, loading, call_load, call_unload, enabling, rule_in, call_enable, overflow, committing, committed, tick_with, run_rule, run_with, given, call}

@@ -27,7 +27,8 @@ use Rattle.model.specs.declared.VarValue.TheVariants.{Int, Text}
 use Rattle.model.specs.State.{Env, Rest, Volatile, RuleSet, is_full, cancel_timer, timer_named, var_named}
 use Rattle.model.specs.Flat.{step_at}
 use Rattle.model.specs.Eval.{condition_at, value_at}
-use Rattle.model.specs.Actions.{Job, PrimResult, no_effect, fails, run_prim, run_known, prim_at, prim_light, prim_recall, prim_apply, prim_cycle, cycle_effect, level_at, selects, dims, arm_timer, var_set, prim_var_set, var_add, set_rule_bit}
+use Rattle.model.specs.Actions.{PrimResult, no_effect, fails, run_prim, run_known, prim_at, prim_light, prim_recall, prim_apply, prim_cycle, cycle_effect, level_at, selects, dims, arm_timer, var_set, prim_var_set, var_add, set_rule_bit}
+use Rattle.model.specs.declared.Job.{Job}
 use Rattle.model.specs.Exec.{dropped, accepted, schedule, StepResult, after_prim, run_branch, exec, RunOutput, unpaid, continue_run, with_step, run_steps, advance, body_start}
 use Rattle.ledger.specs.Trace.{effects_in, report_of, known_report, MayFail, reason_if, RunOf, ended, exhausted, waits, continues}
 use Rattle.ledger.proofs.ListLaws.{by}

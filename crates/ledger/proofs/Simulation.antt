@@ -21,9 +21,12 @@ use Rattle.model.specs.declared.Pending.{Pending}
 use Rattle.model.specs.State.{next_number, Env, Rest, Volatile, RuleSet, with_rest, with_last_activation, is_full, strike, bump, activations_total, continuations_fired}
 use Rattle.model.specs.Flat.{step_at}
 use Rattle.model.specs.Eval.{condition_at}
-use Rattle.model.specs.Actions.{Job, PrimResult, prim_at}
+use Rattle.model.specs.Actions.{PrimResult, prim_at}
+use Rattle.model.specs.declared.Job.{Job}
 use Rattle.model.specs.Exec.{dropped, accepted, schedule, StepResult, after_prim, run_branch, exec, RunOutput, continue_run, with_step, run_steps}
-use Rattle.model.specs.Activate.{Mode, Auto, is_dry, Handled, no_outcome, and_then, outcome, job_of, numbered, with_number, Decision, begins, suppressed, unevaluable, decide, finish_wet, execute_wet, execute, decided, activate, resume}
+use Rattle.model.specs.Activate.{is_dry, Handled, no_outcome, and_then, outcome, job_of, numbered, with_number, Decision, begins, suppressed, unevaluable, decide, finish_wet, execute_wet, execute, decided, activate, resume}
+use Rattle.model.specs.declared.Mode.{Mode}
+use Rattle.model.specs.declared.Mode.TheVariants.{Auto}
 use Rattle.model.specs.Steps.{start}
 use Rattle.model.specs.Wheel.{resume_all}
 use Rattle.model.specs.Rules.{name_order}

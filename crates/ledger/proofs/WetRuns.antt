@@ -12,8 +12,9 @@ use Rattle.model.specs.Image.{size_of}
 use Rattle.model.specs.Rows.{rules}
 use Rattle.model.specs.Rules.{name_of, rule_named}
 use Rattle.model.specs.State.{Env, Volatile, with_rest, is_enabled}
-use Rattle.model.specs.Actions.{Job}
-use Rattle.model.specs.Activate.{Manual, Decision, begins, suppressed, unevaluable, decide, outcome, job_of, numbered, execute_wet, execute_dry, execute, decided, activate}
+use Rattle.model.specs.declared.Job.{Job}
+use Rattle.model.specs.Activate.{Decision, begins, suppressed, unevaluable, decide, outcome, job_of, numbered, execute_wet, execute_dry, execute, decided, activate}
+use Rattle.model.specs.declared.Mode.TheVariants.{Manual}
 use Rattle.model.specs.Calls.{run_rule}
 use Rattle.ledger.specs.Trace.{OnlyOf}
 use Rattle.ledger.proofs.ListLaws.{by}

@@ -13,15 +13,8 @@ use Rattle.model.specs.declared.VarConstant.TheVariants as constant
 use Rattle.model.specs.Outcome.{Effect}
 use Rattle.model.specs.State.{Env, Rest, VarValue, Int, Text, actions_failed, bump, cycle_pos_at, timer_named, cancel_timer, add_timer, var_named, put_var, with_cycle_pos, with_vars, with_enabled}
 use Rattle.model.specs.Eval.{value_at}
-
--- what a run knows of its rule: name, place in the image, hold_hcl; and the trigger for the outcome
-pub record Job : Type 0 where
-  pub rule : ℕ
-  pub index : ℕ
-  pub hold : ℕ
-  pub trigger : ℕ
-  pub dry : Bool
-  pub number : ℕ  -- of the activation; 0 for none
+-- what a run knows of its rule: name, place in the image, hold_hcl; the trigger for the outcome; and the number of the activation, 0 for none
+pub use Rattle.model.specs.declared.Job.{Job}
 
 -- what an action did: the rest after it, its effect, the rule that it disabled, the reason that it notes
 pub record PrimResult : Type 0 where

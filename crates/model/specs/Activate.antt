@@ -11,9 +11,8 @@ use Rattle.model.specs.Eval.{conditions_hold}
 use Rattle.model.specs.Actions.{Job, condition_unevaluable}
 use Rattle.model.specs.Exec.{RunOutput, run_steps}
 use Rattle.model.specs.Dry.{run_steps_dry}
-
-pub data Mode : Type 0 where
-  Auto Manual Dry : Mode
+pub use Rattle.model.specs.declared.Mode.{Mode}
+pub use Rattle.model.specs.declared.Mode.TheVariants.{Auto, Manual, Dry}
 
 abbrev pub is_auto : Mode → Bool
 is_auto Auto = true

@@ -1,10 +1,7 @@
 -- Which words have the shape of a store: parts, one behind the other, each of rows of words.
 use Rattle.std.specs.Prelude.{Bool, true, false, ◌&&◌, ◌||◌, not, List, [], ◌∷◌, ℕ, zero, suc, ◌+◌, ◌-◌, ◌*◌, leb, eqb, length, drop}
-
 -- a word of a row: at most `most`; where it is 0, the next `void` words are 0 too
-pub record Cell : Type 0 where
-  pub most : ℕ
-  pub void : ℕ
+pub use Rattle.model.specs.declared.Cell.{Cell}
 
 abbrev pub up_to : ℕ → Cell
 up_to n = record { most = n; void = 0 }

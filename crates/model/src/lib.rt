@@ -1,10 +1,11 @@
-// The data types that the specification and the code share, and no logic but a refusal's number. Names and fields are the Rust's; a field that is an index
-// leads into a table of the image, and a nested list is its first record and its count.
+// The data types that the specification and the code share, and no logic but the number of a refusal or of a trigger and the tests of a mode. Names and fields
+// are the Rust's; a field that is an index leads into a table of the image, and a nested list is its first record and its count.
 // kept: one file, though it has more than 400 lines: the specification names each type by `model::specs::declared`, and a module would stand in each of those names.
 
 #![tactic(auto)]
 
 ghost use Rattle.std.specs.Prelude.{◌≡◌};
+ghost use Rattle.model.specs.Activate.{is_auto, is_dry};
 ghost use Rattle.model.specs.Kinds.{trigger_number};
 ghost use Rattle.model.specs.Refusals.{refusal_code, refusal_number};
 
@@ -490,6 +491,50 @@ pub struct Pending {
     pub trigger: u32,
     pub seq: u64,
     pub number: u64,
+}
+
+// What a run knows of its rule: name, place in the image, hold_hcl; and the trigger and the activation number for the outcome, 0 for none.
+// kept: a number of 0 does not say that a run is dry: a wet activation whose conditions cannot be evaluated takes no number either, and document 01's outcome
+// has the 0 of both. An enum of a wet run with its number and a dry one would lose that, and an Option would be made a number again for the outcome.
+// kept: the trigger is the word of the outcome: `resume` has it from its `Pending`, and nothing here asks which kind it is.
+#[derive(Clone, Copy)]
+pub struct Job {
+    pub rule: u32,
+    pub index: u32,
+    pub hold: u32,
+    pub trigger: u32,
+    pub dry: bool,
+    pub number: u64,
+}
+
+// How a rule is started: by a trigger of its own, by hand, or by hand with the state left as it is.
+#[derive(Clone, Copy)]
+pub enum Mode {
+    Auto,
+    Manual,
+    Dry,
+}
+
+impl Mode {
+    // Only such a start waits for the cooldown.
+    pub fn is_auto(self) -> bool
+        ensures { result ≡ is_auto self }
+    {
+        matches!(self, Mode::Auto)
+    }
+
+    pub fn is_dry(self) -> bool
+        ensures { result ≡ is_dry self }
+    {
+        matches!(self, Mode::Dry)
+    }
+}
+
+// A word of a row: at most `most`; where it is 0, the next `void` words are 0 too.
+#[derive(Clone, Copy)]
+pub struct Cell {
+    pub most: u32,
+    pub void: u32,
 }
 
 // The kinds of effects: document 01, "Outcomes and effects".

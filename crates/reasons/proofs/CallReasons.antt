@@ -17,9 +17,11 @@ use Rattle.model.specs.declared.Pending.{Pending}
 use Rattle.model.specs.State.{next_number, Env, Rest, RuleSet, Volatile, Store, with_rest, bump, activations_dry, is_enabled}
 use Rattle.model.specs.Store.{read}
 use Rattle.model.specs.Eval.{conditions_hold}
-use Rattle.model.specs.Actions.{Job}
+use Rattle.model.specs.declared.Job.{Job}
 use Rattle.model.specs.Dry.{run_steps_dry}
-use Rattle.model.specs.Activate.{Mode, Auto, Manual, Dry, Handled, no_outcome, and_then, outcome, numbered, is_auto, is_dry, in_cooldown, verdict, decide, execute, execute_wet, execute_dry, decided, activate, resume}
+use Rattle.model.specs.Activate.{Handled, no_outcome, and_then, outcome, numbered, is_auto, is_dry, in_cooldown, verdict, decide, execute, execute_wet, execute_dry, decided, activate, resume}
+use Rattle.model.specs.declared.Mode.{Mode}
+use Rattle.model.specs.declared.Mode.TheVariants.{Auto, Manual, Dry}
 use Rattle.model.specs.Wheel.{due_now, not_due, resume_all, fire_continuations, service_tick}
 use Rattle.model.specs.Calls.{Call, new, load, unload, enable, tick, run, deadline, counters, Done, loading, call_load, call_unload, enabling, rule_in, call_enable, overflow, committing, committed, tick_with, run_rule, run_with, given, call, answers}
 use Rattle.model.proofs.Bools.{all_append}

@@ -22,7 +22,8 @@ use Rattle.model.specs.declared.VarValue.{VarValue}
 use Rattle.model.specs.declared.VarValue.TheVariants.{Int, Text}
 use Rattle.model.specs.State.{Env, Rest, Volatile, timer_named, var_named, is_full}
 use Rattle.model.specs.Eval.{value_at, condition_at}
-use Rattle.model.specs.Actions.{Job, PrimResult, fails, run_prim, run_known, prim_light, prim_recall, prim_apply, prim_cycle, cycle_effect, level_at, selects, dims, arm_timer, var_set, prim_var_set, var_add, set_rule_bit}
+use Rattle.model.specs.Actions.{PrimResult, fails, run_prim, run_known, prim_light, prim_recall, prim_apply, prim_cycle, cycle_effect, level_at, selects, dims, arm_timer, var_set, prim_var_set, var_add, set_rule_bit}
+use Rattle.model.specs.declared.Job.{Job}
 use Rattle.model.specs.Exec.{RunOutput, StepResult, first_reason, schedule, dropped, accepted, after_prim, run_branch, exec, continue_run, with_step, run_steps, unpaid}
 use Rattle.model.specs.Dry.{DryOutput, NextStep, next_step, dry_branch, dry_step, dry_turn, run_steps_dry, unpaid_dry}
 use Rattle.ledger.proofs.ListLaws.{by}

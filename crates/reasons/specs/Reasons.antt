@@ -5,7 +5,8 @@ use Rattle.model.specs.Rules.{conditions_of_rule}
 use Rattle.model.specs.Outcome.{Outcome}
 use Rattle.model.specs.State.{Env, Rest, bump, suppressed_cooldown}
 use Rattle.model.specs.Eval.{conditions_hold}
-use Rattle.model.specs.Activate.{Mode, Decision, suppressed, is_auto, is_dry, in_cooldown, verdict}
+use Rattle.model.specs.Activate.{Decision, suppressed, is_auto, is_dry, in_cooldown, verdict}
+use Rattle.model.specs.declared.Mode.{Mode}
 use Rattle.model.specs.Calls.{Answer, done, refused, enabled, handled, due, counted}
 
 -- none, ConditionUnevaluable or EffectBudget: no other reason

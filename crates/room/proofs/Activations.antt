@@ -13,8 +13,10 @@ use Rattle.model.specs.Steps.{FlatStep, start}
 use Rattle.model.specs.declared.Pending.{Pending}
 use Rattle.model.specs.Flat.{list_in, every_copy}
 use Rattle.model.specs.State.{Env, Volatile, with_rest, next_number, with_last_activation, bump, activations_total, activations_dry, continuations_fired}
-use Rattle.model.specs.Actions.{Job}
-use Rattle.model.specs.Activate.{Mode, Auto, Manual, Dry, is_dry, Handled, job_of, numbered, with_number, outcome, Decision, begins, suppressed, unevaluable, decide, execute_wet, execute_dry, execute, decided, activate, resume}
+use Rattle.model.specs.declared.Job.{Job}
+use Rattle.model.specs.Activate.{is_dry, Handled, job_of, numbered, with_number, outcome, Decision, begins, suppressed, unevaluable, decide, execute_wet, execute_dry, execute, decided, activate, resume}
+use Rattle.model.specs.declared.Mode.{Mode}
+use Rattle.model.specs.declared.Mode.TheVariants.{Auto, Manual, Dry}
 use Rattle.model.specs.Calls.{effects_of}
 use Rattle.ledger.proofs.SetRules.{SetOk, list_of}
 use Rattle.ledger.proofs.RunRules.{pending_ok, Continues, continues}

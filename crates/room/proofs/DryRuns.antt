@@ -17,7 +17,7 @@ use Rattle.model.specs.Steps.{FlatStep, steps_of, arrive, start}
 use Rattle.model.specs.State.{Env, Rest}
 use Rattle.model.specs.Flat.{body_in, list_in, step_at, every_copy}
 use Rattle.model.specs.Eval.{condition_at}
-use Rattle.model.specs.Actions.{Job}
+use Rattle.model.specs.declared.Job.{Job}
 use Rattle.model.specs.Exec.{body_start}
 use Rattle.model.specs.Dry.{NextStep, found, next_step, dry_branch, dry_step, dry_turn, run_steps_dry}
 use Rattle.ledger.proofs.ListLaws.{Every, every_append}

@@ -19,7 +19,8 @@ use Rattle.model.specs.declared.Effect.{Effect}
 use Rattle.model.specs.State.{Env, Volatile, RuleSet}
 use Rattle.model.specs.Flat.{step_at}
 use Rattle.model.specs.Eval.{condition_at}
-use Rattle.model.specs.Actions.{Job, PrimResult, fails, prim_at}
+use Rattle.model.specs.Actions.{PrimResult, fails, prim_at}
+use Rattle.model.specs.declared.Job.{Job}
 use Rattle.model.specs.Exec.{StepResult, after_prim, run_branch, exec, RunOutput, continue_run, with_step, run_steps}
 use Rattle.model.specs.Store.{jump_over, jump_from}
 use Rattle.ledger.proofs.ListLaws.{by, IfSome}

@@ -18,7 +18,8 @@ use Rattle.model.specs.declared.WallTime.{WallTime}
 use Rattle.model.specs.Outcome.{Outcome}
 use Rattle.model.specs.declared.Pending.{Pending}
 use Rattle.model.specs.State.{Env, Volatile, with_rest, is_enabled}
-use Rattle.model.specs.Activate.{Auto, Handled, and_then, activate, resume}
+use Rattle.model.specs.Activate.{Handled, and_then, activate, resume}
+use Rattle.model.specs.declared.Mode.TheVariants.{Auto}
 use Rattle.model.specs.Wheel.{by_timer, by_every, due_before, due_now, not_due, resume_all, fire_continuations, activate_if_enabled, activate_each, timers_due, every_due, week_minutes, week_minute, is_wall_trigger, due_wall_kind, start_wall, wall_turn, fire_due_wall_rules, has_wall_triggers, window_of, fire_window, make_up, is_set_back, catch_up, fire_wall_at, fire_wall_schedules, fire_timers, fire_every, service_tick}
 use Rattle.ledger.proofs.ListLaws.{by, and_l, and_r, all_keep, all-sort, length-keep}
 use Rattle.ledger.proofs.SumLaws.{sum_of, sum-append, sum-sort}

@@ -26,10 +26,12 @@ use Rattle.model.specs.declared.VarValue.TheVariants.{Int, Text}
 use Rattle.model.specs.declared.Effect.{Effect}
 use Rattle.model.specs.State.{next_number, Env, Rest, Volatile, with_rest, bump_by, bump, cancel_timer, timer_named, var_named, strike, is_full, is_enabled, partial_outcomes, effects_emitted, suppressed_cooldown, actions_failed, activations_total, conditions_rejected, continuations_dropped, continuations_fired, continuations_scheduled}
 use Rattle.model.specs.Eval.{condition_at, conditions_hold, value_at}
-use Rattle.model.specs.Actions.{Job, PrimResult, fails, run_prim, run_known, prim_light, prim_recall, prim_apply, prim_cycle, cycle_effect, level_at, selects, dims, arm_timer, var_set, prim_var_set, var_add, set_rule_bit, prim_at}
+use Rattle.model.specs.Actions.{PrimResult, fails, run_prim, run_known, prim_light, prim_recall, prim_apply, prim_cycle, cycle_effect, level_at, selects, dims, arm_timer, var_set, prim_var_set, var_add, set_rule_bit, prim_at}
+use Rattle.model.specs.declared.Job.{Job}
 use Rattle.model.specs.Exec.{Scheduled, dropped, accepted, schedule, StepResult, after_prim, run_branch, exec, RunOutput, continue_run, with_step, run_steps}
 use Rattle.model.specs.Flat.{step_at}
-use Rattle.model.specs.Activate.{Auto, Handled, job_of, numbered, Decision, begins, suppressed, unevaluable, verdict, in_cooldown, decide, finish_wet, execute_wet, execute, decided, activate, resume}
+use Rattle.model.specs.Activate.{Handled, job_of, numbered, Decision, begins, suppressed, unevaluable, verdict, in_cooldown, decide, finish_wet, execute_wet, execute, decided, activate, resume}
+use Rattle.model.specs.declared.Mode.TheVariants.{Auto}
 use Rattle.model.specs.Wheel.{resume_all, not_due, fire_continuations, activate_if_enabled, activate_each, timers_due, every_due, fire_timers, fire_every}
 use Rattle.set_back.specs.Ticks.{before_wall}
 

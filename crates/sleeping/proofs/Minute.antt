@@ -39,7 +39,8 @@ use Rattle.model.specs.declared.VarValue.{VarValue}
 use Rattle.model.specs.declared.VarValue.TheVariants.{Int, Text}
 use Rattle.model.specs.State.{Env, Rest, with_prev_week_min, bump_by, is_enabled, last_activation_at, cycle_pos_at, timer_named, cancel_timer, add_timer, var_named, put_var, with_vars}
 use Rattle.model.specs.Eval.{sun_is_up, eval_reading, eval_value, value_at, resolve_time_bound, bound_at, level_is, compare_var, hcl_is, older_than, device_online, rule_enabled, last_fired_older, eval_condition, conditions_hold}
-use Rattle.model.specs.Actions.{Job, PrimResult, emits, no_effect, fails, run_prim, run_known, prim_light, prim_recall, prim_apply, prim_cycle, cycle_effect, selects, arm_timer, var_set, prim_var_set, var_add, set_rule_bit, level_at, dims}
+use Rattle.model.specs.Actions.{PrimResult, emits, no_effect, fails, run_prim, run_known, prim_light, prim_recall, prim_apply, prim_cycle, cycle_effect, selects, arm_timer, var_set, prim_var_set, var_add, set_rule_bit, level_at, dims}
+use Rattle.model.specs.declared.Job.{Job}
 
 -- CONDITIONS AND VALUES ---------------------------------------------------------------------------------------------------------
 module _ (m : Option ℕ) (e : Env) (s : Rest) where

@@ -19,11 +19,13 @@ use Rattle.model.specs.Outcome.{Item, started, resumed, paid, defers}
 use Rattle.model.specs.State.{Env, Rest, Volatile, with_rest, next_number, with_prev_week_min, with_last_activation, bump, bump_by, is_full, strike, last_activation_at, activations_total, activations_dry, continuations_fired}
 use Rattle.model.specs.Flat.{step_at}
 use Rattle.model.specs.Steps.{start}
-use Rattle.model.specs.Actions.{Job, PrimResult, prim_at}
+use Rattle.model.specs.Actions.{PrimResult, prim_at}
+use Rattle.model.specs.declared.Job.{Job}
 use Rattle.model.specs.Eval.{condition_at, conditions_hold}
 use Rattle.model.specs.Exec.{advance, body_start, first_reason, Scheduled, dropped, accepted, schedule, StepResult, after_prim, run_branch, exec, RunOutput, continue_run, with_step, run_steps}
 use Rattle.model.specs.Dry.{NextStep, next_step, DryStepResult, dry_branch, dry_step, DryOutput, dry_turn, run_steps_dry}
-use Rattle.model.specs.Activate.{Mode, is_auto, is_dry, Handled, no_outcome, and_then, outcome, job_of, numbered, with_number, in_cooldown, Decision, begins, suppressed, unevaluable, verdict, decide, finish_wet, finished, execute_wet, execute_dry, execute, decided, activate, resume}
+use Rattle.model.specs.Activate.{is_auto, is_dry, Handled, no_outcome, and_then, outcome, job_of, numbered, with_number, in_cooldown, Decision, begins, suppressed, unevaluable, verdict, decide, finish_wet, finished, execute_wet, execute_dry, execute, decided, activate, resume}
+use Rattle.model.specs.declared.Mode.{Mode}
 use Rattle.sleeping.specs.Sleeping.{with_minute}
 use Rattle.sleeping.proofs.Minute.{known_condition, conditions-same, rest-cond, SamePrim, fails-same, known-same}
 

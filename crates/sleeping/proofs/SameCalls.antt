@@ -19,7 +19,8 @@ use Rattle.model.specs.declared.Pending.{Pending}
 use Rattle.model.specs.declared.NamedTimer.{NamedTimer}
 use Rattle.model.specs.declared.EverySlot.{EverySlot}
 use Rattle.model.specs.State.{Env, Volatile, Store, RuleSet, with_rest, with_enabled, bump_by, bump, is_enabled, suppressed_disabled}
-use Rattle.model.specs.Activate.{Handled, no_outcome, activate, Manual, Dry}
+use Rattle.model.specs.Activate.{Handled, no_outcome, activate}
+use Rattle.model.specs.declared.Mode.TheVariants.{Manual, Dry}
 use Rattle.model.specs.Wheel.{next_deadline, wall_poll, least}
 use Rattle.model.specs.Calls.{Call, new, load, unload, enable, tick, run, deadline, counters, Answer, refused, enabled, handled, due, Done, fresh, rest_with, rest_without, loading, call_load, call_unload, flipped, enabling, rule_in, call_enable, overflow, committing, committed, tick_with, run_rule, run_with, given, counters_of, call, effects_of, outcome_room, effect_room, answered}
 use Rattle.model.proofs.Bools.{both}

@@ -10,7 +10,8 @@ use Rattle.model.specs.Rules.{triggers_of, rule_indices}
 use Rattle.model.specs.declared.WallTime.{WallTime}
 use Rattle.model.specs.declared.Pending.{Pending}
 use Rattle.model.specs.State.{Env, Rest, Volatile, with_rest, is_enabled}
-use Rattle.model.specs.Activate.{Handled, no_outcome, and_then, activate, Auto}
+use Rattle.model.specs.Activate.{Handled, no_outcome, and_then, activate}
+use Rattle.model.specs.declared.Mode.TheVariants.{Auto}
 use Rattle.model.specs.Wheel.{due_now, not_due, resume_all, fire_continuations, activate_if_enabled, activate_each, due_timers, timers_due, every_due, week_minute, is_wall_trigger, has_wall_triggers, window_of, is_set_back, make_up, fire_window, fire_wall_at, fire_wall_schedules, fire_timers, fire_every, service_tick, by_timer, by_every, catch_up}
 use Rattle.model.proofs.Bools.{both}
 use Rattle.sleeping.specs.Sleeping.{no_wall_triggers, with_minute}

@@ -1,6 +1,6 @@
 -- The continuations: what the contracts on them cite.
 use Rattle.std.specs.Prelude.{ℕ, suc, ◌+◌, ◌≡◌, Bool, not, List, [], ◌∷◌, ◌++◌, map, leb, length}
-use Rattle.model.specs.Actions.{Job}
+use Rattle.model.specs.declared.Job.{Job}
 use Rattle.model.specs.Exec as model
 use Rattle.model.specs.Lists.{keep}
 use Rattle.model.specs.State.{Env, Volatile, bump_by, continuations_dropped}

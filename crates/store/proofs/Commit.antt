@@ -12,7 +12,8 @@ use lib.ListN.{length, take, drop, drop_of_length-le}
 use lib.Seq.{length-take-le}
 use borrow.Author.Tests.{leb-true}
 use Rattle.words.specs.Saturating.{max64}
-use Rattle.model.specs.Layout.{Cell, rows_fit, row_fits, up_to}
+use Rattle.model.specs.Layout.{rows_fit, row_fits, up_to}
+use Rattle.model.specs.declared.Cell.{Cell}
 use Rattle.model.specs.Codec.{Row, word, wide, maybe, most, words_of, all_good, rows_at}
 use Rattle.model.specs.Lists.{flatten}
 use Rattle.model.specs.Parts.{any, bit, variable_row, timer_row, slot_row, changing_part}

@@ -9,6 +9,7 @@ use lib.ListN.{length, drop, get_or, drop_of_length-le}
 use lib.Seq.{drop-cons}
 use borrow.Author.Tests.{not-true, not-false}
 use Rattle.model.specs.Activate as model
+use Rattle.model.specs.declared.Mode.TheVariants.{Auto}
 use Rattle.model.specs.Activate.{Handled, no_outcome, and_then}
 use Rattle.model.specs.Lists.{any, keep, flatten}
 use Rattle.model.specs.State.{Env, Volatile, is_enabled}
@@ -40,7 +41,7 @@ module _ (e : Env) (kind i : ℕ) (v : Volatile) {on : Bool} (is : on ≡ is_ena
   unfolding activate_if_enabled
   is-off h = rw (← is, not-true on h)
 
-  pub is-on : not on ≡ false → activate_if_enabled e kind i v ≡ model.activate e i kind model.Auto v
+  pub is-on : not on ≡ false → activate_if_enabled e kind i v ≡ model.activate e i kind Auto v
   unfolding activate_if_enabled
   is-on h = rw (← is, not-false on h)
 

@@ -15,7 +15,7 @@ use Rattle.state.proofs.Follows.{next-is, accepted-by-next}
 use Rattle.lent_words.proofs.Written as lent_written
 use Rattle.activate.specs.Handled.{Continues, Room, Activates, Resumes, all_effects}
 use Rattle.activate.specs.Carried.{Carried}
-use Rattle.activate.specs.declared.Mode.TheVariants.{Auto}
+use Rattle.model.specs.declared.Mode.TheVariants.{Auto}
 use Rattle.activate.proofs.Continues.{with_vol, then-continues, no-outcome, nothing-done, within_none, within-then, within_more}
 use Rattle.activate.proofs.Written.{puts-length}
 use Rattle.wheel.specs.Tick.{tick_env, Fires}
@@ -30,7 +30,7 @@ module _ {x : Carried} {ow ew : List ℕ} {h : model.Handled} {r : Carried} {ow'
 
 -- ONE RULE ----------------------------------------------------------------------------------------------------------------------------------
 module _ (snapshot image part : List ℕ) (own i : ℕ) (x : Carried) (ow ew : List ℕ) (r : Carried) (ow' ew' : List ℕ) (s : Says part own (get_or (set_of image (flatten_rules image)).flat i [])) where
-  pub activated : (kind : ℕ) → Activates snapshot image part own i kind Auto x ow ew r ow' ew' → Fires 1 (model.activate (tick_env snapshot image) i kind model.Auto) x ow ew r ow' ew'
+  pub activated : (kind : ℕ) → Activates snapshot image part own i kind Auto x ow ew r ow' ew' → Fires 1 (model.activate (tick_env snapshot image) i kind Auto) x ow ew r ow' ew'
   unfolding tick_env set_of
   activated kind a = record { says = a.says (set_of image (flatten_rules image)).flat s; within = a.within }
 

@@ -1,5 +1,6 @@
 // A rule starts, with the part of the flat steps that the store has for it.
 ghost use Rattle.model.specs.Activate as model;
+ghost use Rattle.model.specs.declared.Mode.TheVariants.{Auto};
 ghost use Rattle.model.specs.Kinds.{trigger_number};
 ghost use Rattle.model.specs.Wheel.{activate_if_enabled};
 ghost use Rattle.activate.specs.Carried.{carried_by, Over};
@@ -15,7 +16,7 @@ use store::flat_part::rule_flat;
 impl Rule<'_, '_> {
     pub fn activate(&self, lent: &mut Lent, kind: TriggerKind)
         requires { Room 1 (carried_by lent.old) }
-        ensures { Over (Fires 1 (model.activate (env_of self.now.env.now) self.now.i (trigger_number kind) model.Auto)) lent.old lent.new }
+        ensures { Over (Fires 1 (model.activate (env_of self.now.env.now) self.now.i (trigger_number kind) Auto)) lent.old lent.new }
     {
         let env = self.env;
         let steps = rule_flat(env.store, self.i);

@@ -2,11 +2,10 @@
 use mathlib.Core.Path.{◌≡◌, refl, sym, ap, ◌∙◌}
 use mathlib.Core.Bool.{cond}
 use Rattle.std.specs.Prelude.{Option, None, Some}
-use Rattle.model.specs.Activate as model
+use Rattle.model.specs.declared.Mode.TheVariants.{Dry, Manual}
 use Rattle.model.specs.Calls.{rule_in}
 use Rattle.model.specs.State.{RuleSet}
 use Rattle.state.specs.Meaning.{meaning}
-use Rattle.activate.specs.Handled.{mode_of}
 use Rattle.activate.specs.Carried.{carried_by}
 use Rattle.activate.proofs.Continues.{nothing-done}
 use Rattle.wheel.proofs.RuleParts.{part_says, keeps}
@@ -77,7 +76,7 @@ returns c =
     let l = image-given _ _ s c.words-words.ensures c.in-Some.ensures.value in
     let q : rule_in s.loaded a.name ≡ Some i = named-loaded _ _ s l a.name ∙ sym c.rule_named.ensures ∙ c.in-Some-rule_named.is in
     let n = rule-inside _ _ s l a.name i q in
-    let m : mode_of c.if-dry.mode ≡ cond a.dry model.Dry model.Manual =
+    let m : c.if-dry.mode ≡ cond a.dry Dry Manual =
     elim c.if-dry.branch [ then-dry w ↦ rw (w.mode-is, w.if-dry.true) refl | else-dry w ↦ rw (w.mode-is, w.if-dry.false) refl ] in
     record {
       does = continues-as x _ _ _ _ _ _ _ (ran-rule s.loaded l.set a.name i a.dry a.snapshot.now (meaning v) l.is q)

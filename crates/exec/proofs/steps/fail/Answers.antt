@@ -1,8 +1,7 @@
 -- `exec::steps::fail` meets its contract. Assumes nothing.
-use Rattle.exec.specs.Results.{job_of}
 use Rattle.exec.proofs.Stepped.{steps-as, fail-is}
 use Rattle.exec.proofs.steps.fail.Goals as goal
 
 pub returns : goal.returns
 returns c j e b =
-    steps-as (c.after_prim.ensures _ _ _ c.fails.ensures) (fail-is e (job_of j) b c.args.sp _ c.args.v.now c.advance.ensures)
+    steps-as (c.after_prim.ensures _ _ _ c.fails.ensures) (fail-is e j b c.args.sp _ c.args.v.now c.advance.ensures)

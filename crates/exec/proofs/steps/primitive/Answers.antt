@@ -1,10 +1,9 @@
 -- `exec::steps::primitive` meets its contract. Assumes nothing.
 use Rattle.eval.specs.Answers.{env_of}
-use Rattle.exec.specs.Results.{job_of}
 use Rattle.exec.proofs.Stepped.{steps-as, primitive-is}
 use Rattle.exec.proofs.steps.primitive.Goals as goal
 
 pub returns : goal.returns
 returns c b flat =
     steps-as (c.after_prim.ensures _ _ _ (c.prim_at.ensures flat))
-    (primitive-is (env_of c.args.env.now.snapshot.now c.args.env.now.image.now flat) (job_of c.args.env.now.job) b c.args.sp _ c.args.v.now c.args.i c.advance.ensures)
+    (primitive-is (env_of c.args.env.now.snapshot.now c.args.env.now.image.now flat) c.args.env.now.job b c.args.sp _ c.args.v.now c.args.i c.advance.ensures)

@@ -1,12 +1,10 @@
 -- `store::cells::Cells::rows_fit` meets its contract. Assumes nothing.
-use Rattle.std.proofs.Common.{arith, refl, rules, drop, length, map, ◌+◌, ◌*◌, ◌∙◌, zero-mul, add-zero}
+use Rattle.std.proofs.Common.{arith, refl, rules, drop, length, ◌+◌, ◌*◌, ◌∙◌, zero-mul, add-zero}
 use native.Mathlib.Nat.{sub-zero}
 use Rattle.std.proofs.lemmas.Grind.{common_steps}
 use Rattle.std.proofs.lemmas.Iterator.{YieldsList-from_range}
 use Rattle.std.proofs.lemmas.Iterator.Search.{all_from_yields_List}
-use lib.ListN.{length-map}
 use Rattle.model.specs.Layout.{row_fits}
-use Rattle.store.specs.Cells.{cell_of}
 use Rattle.store.proofs.RowCells.{free-rows, void-rows, rows_chain}
 use Rattle.store.proofs.cells.Cells.rows_fit.Goals as goal
 
@@ -19,6 +17,6 @@ returns-then-all_void c = grind (arith, common_steps, void-rows)
 pub returns : goal.returns
 returns c =
     let a = c.args in
-    let cs = map cell_of a.self.now.cells.now in
+    let cs = a.self.now.cells.now in
     all_from_yields_List (λ i. row_fits cs (drop (a.k + i * length a.self.now.cells.now) a.s.now)) _ _ _ c.all.ensures.ran (YieldsList-from_range 0 a.n a.n refl (sub-zero a.n)) (λ i b q h. search rules)
-    ∙ rows_chain cs a.s.now _ (length-map a.self.now.cells.now cell_of) a.n 0 a.k ∙ rw (zero-mul, add-zero)
+    ∙ rows_chain cs a.s.now _ refl a.n 0 a.k ∙ rw (zero-mul, add-zero)
