@@ -118,6 +118,7 @@ fn outcome_of(out: &mut Output, i: u32, outcomes: &[u32], effects: &[u32])
     effects_of(out, first, count, effects)
 }
 
+#[tactic(auto, using(crate::proofs::Gathering::gathers_none, crate::proofs::Gathering::gathers_then))]
 fn outcomes_of(out: &mut Output, count: u32, outcomes: &[u32], effects: &[u32])
     ensures { Gathers out.old (outcome_lines outcomes.now effects.now count) out.new }
 {

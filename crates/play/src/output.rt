@@ -42,6 +42,7 @@ impl Output {
     }
 
     // What `write!` calls. A value that cannot be formatted ends the output.
+    #[tactic(auto, using(crate::proofs::Gathering::gathers_text, crate::proofs::Gathering::gone_text))]
     pub fn write_fmt<D: fmt::Display + Drop>(&mut self, value: D)
         ensures { IfSome (D.output value) (λ text. Gathers self.old text self.new) }
     {
@@ -55,6 +56,7 @@ impl Output {
 impl fmt::Write for Output {
     ghost write_str_gives = { Gathers };
 
+    #[tactic(auto, using(crate::proofs::Gathering::gathers_gone))]
     fn write_str(&mut self, s: &str) -> fmt::Result {
         let bytes = s.as_bytes();
         if self.bytes.try_extend_from_slice(bytes).is_err() {

@@ -41,6 +41,7 @@ fn say(line: &[u8], list: &mut [u32; LIST_WORDS]) -> Result<Option<Command>, Wro
 }
 
 impl Player {
+    #[tactic(auto, unfolding(crate::specs::Example::start))]
     pub fn new(to: Stdout) -> Self
         ensures { Stands result start }
     {
