@@ -6,25 +6,28 @@ ghost use Rattle.std.specs.Prelude.{◌≡◌};
 ghost use Rattle.words.specs.Pairs.{joined, low_of, high_of};
 ghost use Rattle.words.specs.Signed.{solar_minute};
 
+// How many numbers a word has.
+const BASE: u64 = 1 << 32;
+
 // Two words as one 64-bit number, and back.
-// kept: a product, `%` and `/`, as the definitions have them, here and in the two below. A cast asks that its value fits, so `x as u32` alone cuts no word out of
-// a number, and `%` would stand beside the shift.
+// kept: a product, `%` and `/`, as the definitions have them, here and in the two below. A cast asks that its value fits, so that `low_word` needs the `%` in any
+// case, and a shift in the others would be a second way of saying the same.
 pub fn join_words(low: u32, high: u32) -> u64
     ensures { result ≡ joined low high }
 {
-    (low as u64) + 0x1_0000_0000 * (high as u64)
+    u64::from(low) + BASE * u64::from(high)
 }
 
 pub fn low_word(x: u64) -> u32
     ensures { result ≡ low_of x }
 {
-    (x % 0x1_0000_0000) as u32
+    (x % BASE) as u32
 }
 
 pub fn high_word(x: u64) -> u32
     ensures { result ≡ high_of x }
 {
-    (x / 0x1_0000_0000) as u32
+    (x / BASE) as u32
 }
 
 // The minute of the day at `offset` milliseconds, a signed word, from the minute `base`.
