@@ -1,13 +1,10 @@
--- The due trigger of a rule: at trigger k, what is left gives what all of them do. Assumes nothing.
+-- The due trigger of a rule: the triggers that are left give what all of them do. Assumes nothing.
 use mathlib.Core.Path.{◌≡◌, refl, sym, ap, ◌∙◌}
 use mathlib.Core.Bool.{Bool, true, false, ◌||◌}
 use mathlib.Core.List.{List, [], ◌∷◌}
 use Rattle.std.specs.Option.{is_some}
 use Rattle.std.specs.Prelude.{Option, None, Some}
-use Prim.Native.Nat.{ℕ, ◌+◌, ◌*◌, ◌≤◌, ◌<◌}
-use native.Mathlib.Numerals.{add-one}
-use lib.ListN.{length, drop, get_or, drop_of_length-le}
-use lib.Seq.{drop-cons}
+use Prim.Native.Nat.{ℕ, ◌+◌, ◌*◌}
 use Rattle.model.specs.Eval.{solar_of}
 use Rattle.model.specs.State.{Env}
 use Rattle.model.specs.Wheel as model
@@ -116,35 +113,34 @@ module _ (e : Env) (base window : ℕ) where
   first_then Other ts = refl
 
   module _ (ts : List Trigger) where
-    -- what is left from trigger k on, where a sun was missed before or not, gives what all do
-    pub Left : Bool → ℕ → Bool → Type 0
-    Left missed k now = missed_too now (due_wall_kind e base window (drop k ts)) ≡ missed_too missed (due_wall_kind e base window ts)
+    -- the triggers that are left, where a sun was missed before or not, give what all do
+    pub Left : Bool → List Trigger → Bool → Type 0
+    Left missed left now = missed_too now (due_wall_kind e base window left) ≡ missed_too missed (due_wall_kind e base window ts)
 
-    pub starts : (missed : Bool) → Left missed 0 missed
+    pub starts : (missed : Bool) (left : List Trigger) → left ≡ ts → Left missed left missed
     unfolding Left
-    starts missed = refl
+    starts missed left h = ap (λ (l : List Trigger). missed_too missed (due_wall_kind e base window l)) h
 
-    -- a turn, by what trigger k gives
-    module _ (missed now : Bool) (k : ℕ) {t : Trigger} (r : WallKind) (l : k < length ts) (inv : Left missed k now) (here : t ≡ get_or ts k Other) (is : wall_kind r ≡ missed_too now (one t)) where
+    -- a turn, by what the first that is left gives
+    module _ (missed now : Bool) (left rest : List Trigger) {t : Trigger} (r : WallKind) (inv : Left missed left now) (first : left ≡ t ∷ rest) (is : wall_kind r ≡ missed_too now (one t)) where
       kind-is : number_if r.kind ≡ (one t).kind
       kind-is = ap (λ (w : model.WallKind). w.kind) is
 
-      rest : model.WallKind
-      rest = due_wall_kind e base window (drop (k + 1) ts)
+      others : model.WallKind
+      others = due_wall_kind e base window rest
 
-      turn : missed_too now (first_of (one t).kind (one t) rest) ≡ missed_too missed (due_wall_kind e base window ts)
-      unfolding Left rest
+      turn : missed_too now (first_of (one t).kind (one t) others) ≡ missed_too missed (due_wall_kind e base window ts)
+      unfolding Left others
       turn =
-          let eq : drop k ts ≡ t ∷ drop (k + 1) ts = rw (here, add-one) (drop-cons ts k Other l) in
-          ap (missed_too now) (sym (first_then t (drop (k + 1) ts))) ∙ ap (λ (l : List Trigger). missed_too now (due_wall_kind e base window l)) (sym eq) ∙ inv
+          ap (missed_too now) (sym (first_then t rest)) ∙ ap (λ (l : List Trigger). missed_too now (due_wall_kind e base window l)) (sym first) ∙ inv
 
       pub ends-here : is_some r.kind ≡ true → wall_kind r ≡ missed_too missed (due_wall_kind e base window ts)
-      ends-here h = is ∙ ap (missed_too now) (sym (chosen (one t).kind (one t) rest (rw kind-is at (number-some r.kind ∙ h)))) ∙ turn
+      ends-here h = is ∙ ap (missed_too now) (sym (chosen (one t).kind (one t) others (rw kind-is at (number-some r.kind ∙ h)))) ∙ turn
 
-      pub goes : is_some r.kind ≡ false → Left missed (k + 1) r.unsynced
-      unfolding Left rest
-      goes h = passed now r.unsynced (one t).kind (one t) rest (rw kind-is at (number-some r.kind ∙ h)) (ap (λ (w : model.WallKind). w.unsynced) is) ∙ turn
+      pub goes : is_some r.kind ≡ false → Left missed rest r.unsynced
+      unfolding Left others
+      goes h = passed now r.unsynced (one t).kind (one t) others (rw kind-is at (number-some r.kind ∙ h)) (ap (λ (w : model.WallKind). w.unsynced) is) ∙ turn
 
-    pub ends : (missed now : Bool) (k : ℕ) → length ts ≤ k → Left missed k now → wall_kind (no_kind now) ≡ missed_too missed (due_wall_kind e base window ts)
+    pub ends : (missed now : Bool) (left : List Trigger) → left ≡ [] → Left missed left now → wall_kind (no_kind now) ≡ missed_too missed (due_wall_kind e base window ts)
     unfolding Left due_wall_kind
-    ends missed now k h inv = (let z : wall_kind (no_kind now) ≡ missed_too now nothing = rw (or-false now) in z) ∙ rw (drop_of_length-le ts {i = k} h) at inv
+    ends missed now left h inv = (let z : wall_kind (no_kind now) ≡ missed_too now nothing = rw (or-false now) in z) ∙ rw h at inv

@@ -1,7 +1,9 @@
 -- The least of some times, and of several lists of them. Assumes nothing.
 use mathlib.Core.Path.{◌≡◌, refl, sym, ap, ◌∙◌}
+use mathlib.Core.Bool.{Bool, true, false, cond}
 use mathlib.Core.List.{List, [], ◌∷◌, ◌++◌, map, append_assoc, append-nil}
 use Rattle.std.specs.Prelude.{Option, None, Some}
+use Rattle.std.specs.Bool.{then_some}
 use Rattle.std.specs.List.{reduce, fold, flat_map}
 use Rattle.std.specs.Option.{option_to_list}
 use Prim.Native.Nat.{ℕ, min}
@@ -27,6 +29,11 @@ folded x (y ∷ xs) = folded (min x y) xs ∙ sym (two x y (least xs))
 pub reduced : (xs : List ℕ) → reduce min xs ≡ least xs
 reduced [] = refl
 reduced (x ∷ xs) = folded x xs
+
+-- a second from the last call where there is a wall schedule
+pub polled : (b : Bool) (x : ℕ) → then_some b x ≡ least (cond b (x ∷ []) [])
+polled true x = refl
+polled false x = refl
 
 -- a list behind one whose least is known
 behind : (zs xs ys : List ℕ) → least xs ≡ least ys → least (zs ++ xs) ≡ least (zs ++ ys)

@@ -3,10 +3,11 @@ use Prim.Native.Nat.{ℕ, suc, ◌+◌, ◌-◌, ◌%◌, ◌≤◌, ◌<◌}
 use native.Mathlib.Numerals.{add-one}
 use native.Mathlib.Omega.{arith}
 use mathlib.Core.Path.{◌≡◌, refl}
-use mathlib.Core.Bool.{Bool, true, false, cond, not, ◌||◌}
+use mathlib.Core.Bool.{Bool, true, false, cond, not, ◌&&◌, ◌||◌}
 use mathlib.Core.List.{List}
 use lib.ListN.{length, drop, get_or, drop_of_length-le}
 use lib.Seq.{drop-cons}
+use lib.Dec.{leb}
 use borrow.Author.Tests.{le-leb, not-true, not-false}
 use Rattle.model.specs.Activate.{Handled, no_outcome, and_then}
 use Rattle.model.specs.Flat.{set_of}
@@ -64,6 +65,15 @@ module _ (e : Env) (base window i : ℕ) (missed : Bool) (v : Volatile) {on : Bo
   missed-on h = rw (← is, not-false on h)
 
 -- ---- the window
+no-second : (a b : Bool) → b ≡ false → (a && b) ≡ false
+no-second true b e = e
+no-second false b e = refl
+
+pub no-window : (snapshot image : List ℕ) (minute window : ℕ) (v : Volatile) → window ≡ 0 → fire_window (tick_env snapshot image) minute window v ≡ no_outcome v
+unfolding fire_window tick_env set_of
+no-window snapshot image minute window v z =
+    let l : (has_wall_triggers image v.rest && leb 1 window) ≡ false = no-second (has_wall_triggers image v.rest) (leb 1 window) (rw z) in rw l
+
 module _ (snapshot image : List ℕ) (minute window : ℕ) (v : Volatile) {has : Bool} (is : has ≡ has_wall_triggers image v.rest) where
   abbrev env : Env
   env = tick_env snapshot image
@@ -71,10 +81,6 @@ module _ (snapshot image : List ℕ) (minute window : ℕ) (v : Volatile) {has :
   pub no-triggers : not has ≡ true → fire_window env minute window v ≡ no_outcome v
   unfolding fire_window tick_env set_of
   no-triggers h = rw (← is, not-true has h)
-
-  pub no-window : not has ≡ false → window ≡ 0 → fire_window env minute window v ≡ no_outcome v
-  unfolding fire_window tick_env set_of
-  no-window h z = rw (← is, not-false has h, z)
 
   pub opens : not has ≡ false → (window ≡ 0 → ⊥) → fire_window env minute window v ≡ fire_due_wall_rules env ((minute + week_minutes - window) % week_minutes) window false (name_order image) v
   unfolding fire_window tick_env set_of

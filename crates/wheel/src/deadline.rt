@@ -24,10 +24,7 @@ fn earliest_of(times: &[Option<u64>]) -> Option<u64>
 fn wall_poll(image: Option<Image>, v: &State, last: u64) -> Option<u64>
     ensures { Poll image.entry v.now last result }
 {
-    if has_wall_triggers(&image?, v) {
-        return Some(last.saturating_add(WALL_POLL_MS));
-    }
-    None
+    has_wall_triggers(&image?, v).then_some(last.saturating_add(WALL_POLL_MS))
 }
 
 // When a store that was last called at `last` next has something to do. `image` is the loaded one, where there is one.

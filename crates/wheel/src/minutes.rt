@@ -7,6 +7,7 @@ ghost use Rattle.wheel.specs.Wall.{day_due};
 
 use model::WallTime;
 
+// kept: next and wheel each name these numbers, and the bits of all days in wall.rt. The one crate below both that tells of the time, `eval`, uses none of them.
 const DAY_MINUTES: u64 = 1440;
 
 pub const WEEK_MINUTES: u64 = 10080;
@@ -15,7 +16,7 @@ pub fn week_minute(w: WallTime) -> u32
     requires { WallInRange w }
     ensures { (result ≡ week_minute w) × (result < 10080) }
 {
-    w.weekday * 1440 + w.minutes_of_day
+    w.weekday * DAY_MINUTES as u32 + w.minutes_of_day
 }
 
 // How many minutes on `to` comes, within a week.

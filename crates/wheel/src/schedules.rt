@@ -98,10 +98,7 @@ impl Env<'_> {
         requires { Room 64 (carried_by lent.old) × (minute < 10080) × (window ≤ 60) }
         ensures { Over (Fires 64 (fire_window (env_of self.now) minute window)) lent.old lent.new }
     {
-        if !has_wall_triggers(self.image, lent.state) {
-            return;
-        }
-        if window == 0 {
+        if window == 0 || !has_wall_triggers(self.image, lent.state) {
             return;
         }
         let base = (minute + WEEK_MINUTES - window) % WEEK_MINUTES;

@@ -97,8 +97,7 @@ pub fn due_wall_kind(
     ensures { Kind snapshot.now window.base window.window missed (triggers_of image.now i) result }
 {
     let mut unsynced = missed;
-    for k in 0..image.trigger_count(i) {
-        let trigger = image.trigger_at(i, k);
+    for trigger in image.triggers(i) {
         let w = trigger_kind(snapshot, window, trigger, unsynced);
         if w.kind.is_some() {
             return w;

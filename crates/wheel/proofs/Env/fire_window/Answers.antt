@@ -8,18 +8,17 @@ use Rattle.wheel.specs.Tick.{tick_env}
 use Rattle.wheel.proofs.Fires.{same-part, skips}
 use Rattle.wheel.proofs.WallTurns.{no-triggers, no-window, opens}
 use Rattle.wheel.proofs.Env.fire_window.Goals as goal
-
-pub returns-then-not-has_wall_triggers : goal.returns-then-not-has_wall_triggers
-returns-then-not-has_wall_triggers c =
-    record {
-      does = skips 64 (fire_window (tick_env c.args.self.now.snapshot.now c.args.self.now.image.now) c.args.minute c.args.window) (carried_by c.args.lent.now) _ _ (no-triggers c.args.self.now.snapshot.now c.args.self.now.image.now c.args.minute c.args.window _ c.has_wall_triggers.ensures c.if-not-has_wall_triggers.true-raw);
-      same = (refl, refl, refl);
-    }
+use Rattle.wheel.proofs.Env.fire_window.Goals.{then-window-eq0-via-then-window-eq0, then-window-eq0-via-else-window-eq0+then-not-has_wall_triggers}
 
 pub returns-then-window-eq0 : goal.returns-then-window-eq0
 returns-then-window-eq0 c =
+    let snap = c.args.self.now.snapshot.now in
+    let img = c.args.self.now.image.now in
     record {
-      does = skips 64 (fire_window (tick_env c.args.self.now.snapshot.now c.args.self.now.image.now) c.args.minute c.args.window) (carried_by c.args.lent.now) _ _ (no-window c.args.self.now.snapshot.now c.args.self.now.image.now c.args.minute c.args.window _ c.has_wall_triggers.ensures c.if-not-has_wall_triggers.false-raw c.if-window-eq0.true);
+      does = skips 64 (fire_window (tick_env snap img) c.args.minute c.args.window) (carried_by c.args.lent.now) _ _ (elim c.then-window-eq0.branch [
+        | then-window-eq0-via-then-window-eq0 w ↦ no-window snap img c.args.minute c.args.window _ w.if-window-eq0.true
+        | then-window-eq0-via-else-window-eq0+then-not-has_wall_triggers w ↦ no-triggers snap img c.args.minute c.args.window _ w.has_wall_triggers.ensures w.if-not-has_wall_triggers.true-raw
+      ]);
       same = (refl, refl, refl);
     }
 

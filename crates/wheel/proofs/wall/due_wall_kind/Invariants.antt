@@ -7,6 +7,6 @@ use Rattle.eval.specs.Answers.{env_of}
 use Rattle.wheel.proofs.DueKind.{Left}
 use Rattle.wheel.proofs.wall.due_wall_kind.Given as goal
 
-abbrev pub invariant-loop-k : goal.invariant-loop-k
-invariant-loop-k l =
-    (img : List ℕ) (flat : List (List FlatStep)) → Left (env_of l.snapshot img flat) l.window.base l.window.window (triggers_of l.image l.i) l.missed l.k l.unsynced
+abbrev pub invariant-loop-trigger : goal.invariant-loop-trigger
+invariant-loop-trigger l =
+    (img : List ℕ) (flat : List (List FlatStep)) → Left (env_of l.snapshot img flat) l.window.base l.window.window (triggers_of l.image l.i) l.missed l.trigger-iterator l.unsynced
