@@ -15,7 +15,7 @@ use Rattle.model.specs.declared.Effect.{Effect}
 use Rattle.std.specs.Prelude.{Ok, Err}
 use Rattle.model.specs.declared.Refusal.TheVariants.{EffectWords, TelegramStore}
 use Rattle.model.specs.Telegrams.{is_level, cuts, sets, kept, effect_at, effects_in, are_effects, has_room, answer, kept_store}
-use Rattle.telegrams.specs.Recursion.{is_set, set_again, kept_head, keep_last, effects_from}
+use Rattle.telegrams.specs.Recursion.{is_set, set_again, kept_head, keep_last, effects_from, Puts}
 use Rattle.lent_words.specs.PutEffects.{put_effect, put_effects}
 use Rattle.telegrams.proofs.KeptLaws.{by}
 use Rattle.telegrams.proofs.ShortestLaws.{none-set, cut-first, on-first}
@@ -79,16 +79,12 @@ set-end ws t k h = rw (from_end ws k h) (sym (none-set zero t))
 
 -- KEPT OR NOT
 
-pub head-and-rest : (x : Effect) (xs : List Effect) → keep_last (x ∷ xs) ≡ kept_head x xs ++ keep_last xs
-unfolding keep_last kept_head
-head-and-rest x xs = by (set_again x xs) (λ e. rw e) (λ e. rw e)
-
 module _ (x : Effect) (xs : List Effect) (w : List ℕ) (n : ℕ) (r : Bool) (e : r ≡ set_again x xs) where
-  pub left_out : r ≡ true → (n ≡ n + length (kept_head x xs)) × (w ≡ put_effects w n (kept_head x xs))
+  pub left_out : r ≡ true → Puts w n (kept_head x xs) w n
   unfolding kept_head put_effects
   left_out q = rw (← e, q) (omega arith, refl)
 
-  pub put_in : r ≡ false → (v : List ℕ) (y : Effect) → y ≡ x → v ≡ put_effect w n y → (n + 1 ≡ n + length (kept_head x xs)) × (v ≡ put_effects w n (kept_head x xs))
+  pub put_in : r ≡ false → (v : List ℕ) (y : Effect) → y ≡ x → v ≡ put_effect w n y → Puts w n (kept_head x xs) v (n + 1)
   unfolding kept_head put_effects
   put_in q v y h p = rw (← e, q) (refl, p ∙ ap (λ (z : Effect). put_effect w n z) h)
 
@@ -112,13 +108,12 @@ head-at-most-one x xs = by (set_again x xs) (λ e. rw e (omega arith)) (λ e. rw
 module _ (ws w₀ w v : List ℕ) (k n m : ℕ) where
   pub put-turn :
       Putting ws w₀ w k n → k < length ws / 5
-      → m ≡ n + length (kept_head (effect_at ws k) (effects_from (suc k) ws))
-      → v ≡ put_effects w n (kept_head (effect_at ws k) (effects_from (suc k) ws))
+      → Puts w n (kept_head (effect_at ws k) (effects_from (suc k) ws)) v m
       → Putting ws w₀ v (k + 1) m
-  put-turn p h e q =
+  put-turn p h (e, q) =
       let x = effect_at ws k in
       let xs = effects_from (suc k) ws in
-      let split : keep_last (effects_from k ws) ≡ kept_head x xs ++ keep_last xs = rw (from_cons ws k h) (head-and-rest x xs) in
+      let split : keep_last (effects_from k ws) ≡ kept_head x xs ++ keep_last xs = rw (from_cons ws k h) (unfold keep_last in refl) in
       let sum : length (keep_last (effects_from k ws)) ≡ length (kept_head x xs) + length (keep_last xs) = rw split (length-append (kept_head x xs) (keep_last xs)) in
       record {
         long = rw q (puts-length w n (kept_head x xs) ∙ p.long);
@@ -128,7 +123,7 @@ module _ (ws w₀ w v : List ℕ) (k n m : ℕ) where
       }
 
 module _ (ws w₀ w : List ℕ) (k n : ℕ) where
-  pub put-end : Putting ws w₀ w k n → length ws / 5 ≤ k → (n ≡ length (keep_last (effects_from zero ws))) × (w ≡ put_effects w₀ zero (keep_last (effects_from zero ws)))
+  pub put-end : Putting ws w₀ w k n → length ws / 5 ≤ k → Puts w₀ zero (keep_last (effects_from zero ws)) w n
   unfolding keep_last put_effects
   put-end p h =
       let e : effects_from k ws ≡ [] = from_end ws k h in
@@ -180,12 +175,12 @@ module _ (ws : List ℕ) (room : ℕ) (r : Bool) (e : r ≡ are_effects ws) wher
   refuse-60 q z h = rw (← e, q) (refl, h)
 
   module _ (q : r ≡ true) (z v : List ℕ) (n : ℕ) (hz : z ≡ replicate room 0)
-      (hn : n ≡ length (keep_last (effects_from zero ws))) (hv : v ≡ put_effects z zero (keep_last (effects_from zero ws))) where
+      (puts : Puts z zero (keep_last (effects_from zero ws)) v n) where
     count : n ≡ length (kept (effects_in ws))
-    count = rw (kept_in ws) at hn
+    count = let e : n ≡ length (keep_last (effects_from zero ws)) = omega (arith, puts.0) in rw (kept_in ws) at e
 
     pub same-room : length v ≡ room
-    same-room = rw (hv, hz) (puts-length (replicate room 0) zero (keep_last (effects_from zero ws)) ∙ length-replicate room 0)
+    same-room = rw (puts.1, hz) (puts-length (replicate room 0) zero (keep_last (effects_from zero ws)) ∙ length-replicate room 0)
 
     pub refuse-61 : length v / 5 < n → (u : List ℕ) → u ≡ replicate (length v) 0 → (Err TelegramStore ≡ answer room ws) × (u ≡ kept_store room ws)
     unfolding answer kept_store has_room
@@ -198,4 +193,4 @@ module _ (ws : List ℕ) (room : ℕ) (r : Bool) (e : r ≡ are_effects ws) wher
     keep_all h =
         let fits : length (kept (effects_in ws)) * 5 ≤ room = omega (arith, count, same-room) in
         let room-left : leb (length (kept (effects_in ws)) * 5) room ≡ true = le-leb _ _ fits in
-        rw (← e, q, room-left) (ap Ok count, hv ∙ rw (hz, kept_in ws) (zeros-then room (kept (effects_in ws)) fits))
+        rw (← e, q, room-left) (ap Ok count, puts.1 ∙ rw (hz, kept_in ws) (zeros-then room (kept (effects_in ws)) fits))

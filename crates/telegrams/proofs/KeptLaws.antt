@@ -10,7 +10,7 @@ use Rattle.model.specs.Lists.{present}
 use Rattle.model.specs.declared.Effect.{Effect}
 use Rattle.model.proofs.Bools.{both}
 use Rattle.model.specs.Telegrams.{is_level, cuts, sets, cutting, stretch, later, Setting, setting, last_set}
-use Rattle.telegrams.specs.Recursion.{is_set, set_again, keep_last}
+use Rattle.telegrams.specs.Recursion.{is_set, set_again, kept_head, keep_last}
 
 -- by the two values of a test
 pub by : {P : Type 0} (b : Bool) → (b ≡ true → P) → (b ≡ false → P) → P
@@ -18,11 +18,11 @@ by true f g = f refl
 by false f g = g refl
 
 pub keeps : (x : Effect) (xs : List Effect) → set_again x xs ≡ false → keep_last (x ∷ xs) ≡ x ∷ keep_last xs
-unfolding keep_last
+unfolding keep_last kept_head
 keeps x xs e = rw e
 
 pub leaves : (x : Effect) (xs : List Effect) → set_again x xs ≡ true → keep_last (x ∷ xs) ≡ keep_last xs
-unfolding keep_last
+unfolding keep_last kept_head
 leaves x xs e = rw e
 
 pub level-not-cut : (x : Effect) → is_level x ≡ true → cuts x ≡ false
@@ -40,7 +40,7 @@ again-set x xs e = (both (is_level x) (is_set zero x.a xs) e).1
 -- THE SAME CUTS
 
 pub same-cuts : (l : List Effect) → cutting (keep_last l) ≡ cutting l
-unfolding cutting keep_last
+unfolding cutting keep_last kept_head
 same-cuts [] = refl
 same-cuts (x ∷ xs) =
     by (set_again x xs)
@@ -66,7 +66,7 @@ adds-nothing t x xs e =
     (λ q. rw q (later-none (last_set t (stretch zero xs))))
 
 pub same-lamps : (l : List Effect) (n t : ℕ) → last_set t (stretch n (keep_last l)) ≡ last_set t (stretch n l)
-unfolding keep_last stretch last_set
+unfolding keep_last kept_head stretch last_set
 same-lamps [] n t = refl
 same-lamps (x ∷ xs) zero t =
     by (set_again x xs)

@@ -8,7 +8,7 @@ use lib.ListN.{length}
 use Rattle.model.specs.Lists.{keep, up_from, every}
 use Rattle.model.specs.declared.Effect.{Effect}
 use Rattle.model.specs.Telegrams.{is_level, cuts, sets, at, supersedes, superseded, select, kept}
-use Rattle.telegrams.specs.Recursion.{is_set, set_again, keep_last}
+use Rattle.telegrams.specs.Recursion.{is_set, set_again, kept_head, keep_last}
 use Rattle.telegrams.proofs.KeptLaws.{by, level-not-cut}
 use Rattle.telegrams.proofs.ShortestLaws.{none-set, cut-first, on-first, sets-level}
 
@@ -135,7 +135,7 @@ superseded-first x xs =
 
 -- the kept list by places is that by recursion
 pub kept-by-recursion : (l : List Effect) → kept l ≡ keep_last l
-unfolding kept keep_last
+unfolding kept keep_last kept_head
 kept-by-recursion [] = unfold select in refl
 kept-by-recursion (x ∷ xs) =
     select-cons (λ i. not (superseded (x ∷ xs) i)) x xs ∙

@@ -10,7 +10,7 @@ use Rattle.model.specs.Lists.{keep}
 use Rattle.model.specs.declared.Effect.{Effect}
 use Rattle.model.specs.Telegrams.{is_level, at, supersedes, superseded, select, kept, cutting, SameLamps, KeepsOthers}
 use Rattle.telegrams.proofs.KeptLaws as laws
-use Rattle.telegrams.specs.Recursion.{is_set, set_again, keep_last}
+use Rattle.telegrams.specs.Recursion.{is_set, set_again, kept_head, keep_last}
 use Rattle.telegrams.proofs.KeptLaws.{by, keeps, leaves, again-level}
 use Rattle.telegrams.proofs.ShortestLaws.{levels, SetsAll, fewest}
 use Rattle.telegrams.proofs.PlacesLaws.{every_true, select-cons, kept-by-recursion}
@@ -40,7 +40,7 @@ length-split (x ∷ xs) =
     by (is_level x) (λ e. rw e (omega (arith, length-split xs))) (λ e. rw e (omega (arith, length-split xs)))
 
 others-kept : (l : List Effect) → others (keep_last l) ≡ others l
-unfolding others keep_last
+unfolding others keep_last kept_head
 others-kept [] = refl
 others-kept (x ∷ xs) =
     by (set_again x xs)

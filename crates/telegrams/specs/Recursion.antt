@@ -1,8 +1,9 @@
 -- The kept list by recursion on the list, as the code comes to it.
-use Rattle.std.specs.Prelude.{ℕ, zero, ◌-◌, ◌/◌, Bool, cond, ◌&&◌, List, [], ◌∷◌, map, length}
+use Rattle.std.specs.Prelude.{◌≡◌, ℕ, zero, ◌+◌, ◌-◌, ◌/◌, Bool, cond, ◌&&◌, List, [], ◌∷◌, ◌++◌, map, length}
 use Rattle.model.specs.Lists.{present, up_from}
 use Rattle.model.specs.declared.Effect.{Effect}
 use Rattle.model.specs.Telegrams.{is_level, stretch, last_set, effect_at}
+use Rattle.lent_words.specs.PutEffects.{put_effects}
 
 -- lamp t is set in stretch n
 unfoldable pub is_set : ℕ → ℕ → List Effect → Bool
@@ -18,7 +19,11 @@ kept_head x xs = cond (set_again x xs) [] (x ∷ [])
 
 unfoldable pub keep_last : List Effect → List Effect
 keep_last [] = []
-keep_last (x ∷ xs) = cond (set_again x xs) (keep_last xs) (x ∷ keep_last xs)
+keep_last (x ∷ xs) = kept_head x xs ++ keep_last xs
+
+-- w' is the list w with the effects written into it from place n on, and m the place behind them
+abbrev pub Puts : List ℕ → ℕ → List Effect → List ℕ → ℕ → Type 0
+Puts w n xs w' m = (m ≡ n + length xs) × (w' ≡ put_effects w n xs)
 
 -- the effects from record k on
 unfoldable pub effects_from : ℕ → List ℕ → List Effect

@@ -1,10 +1,9 @@
 // Fewer telegrams on the bus: the shortest list of a tick's effects that leaves every lamp the same.
 #![tactic(auto)]
 
-ghost use Rattle.std.specs.Prelude.{◌≡◌, Bool, zero, suc, ◌+◌, ◌*◌, ◌/◌, ◌<◌, ◌≤◌, length, replicate};
+ghost use Rattle.std.specs.Prelude.{◌≡◌, Bool, zero, suc, ◌*◌, ◌/◌, ◌<◌, ◌≤◌, length, replicate};
 ghost use Rattle.model.specs.Telegrams.{cuts, is_level, sets, effect_at, are_effects, answer, kept_store};
-ghost use Rattle.telegrams.specs.Recursion.{is_set, set_again, kept_head, keep_last, effects_from};
-ghost use Rattle.lent_words.specs.PutEffects.{put_effects};
+ghost use Rattle.telegrams.specs.Recursion.{is_set, set_again, kept_head, keep_last, effects_from, Puts};
 
 use lent_words::EFFECT_WORDS;
 use model::{Effect, EffectKind, Refusal};
@@ -87,7 +86,7 @@ fn is_superseded(x: Effect, rest: &[u32]) -> bool
 // Record k goes to place n of the list, unless it is superseded. The next place.
 fn put_if_kept(list: &mut [u32], n: usize, effects: &[u32], k: usize) -> usize
     requires { (n ≤ k) × (k < length effects.now / 5) }
-    ensures { (result ≡ n + length (kept_head (effect_at effects.now k) (effects_from (suc k) effects.now))) × (list.new ≡ put_effects list.old n (kept_head (effect_at effects.now k) (effects_from (suc k) effects.now))) }
+    ensures { Puts list.old n (kept_head (effect_at effects.now k) (effects_from (suc k) effects.now)) list.new result }
 {
     let x = effect_at(effects, k);
     let rest = &effects[(k + 1) * EFFECT_WORDS..];
@@ -100,7 +99,7 @@ fn put_if_kept(list: &mut [u32], n: usize, effects: &[u32], k: usize) -> usize
 
 // The kept records go into the list, as far as there is room. How many they are.
 fn put_kept(list: &mut [u32], effects: &[u32]) -> usize
-    ensures { (result ≡ length (keep_last (effects_from zero effects.now))) × (list.new ≡ put_effects list.old zero (keep_last (effects_from zero effects.now))) }
+    ensures { Puts list.old zero (keep_last (effects_from zero effects.now)) list.new result }
 {
     let end = effects.len() / EFFECT_WORDS;
     // kept: no fold, since no chain's proof goes through a closure that changes what it captures, here the list.

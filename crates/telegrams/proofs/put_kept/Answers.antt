@@ -6,7 +6,7 @@ use Rattle.telegrams.proofs.put_kept.Goals as goal
 
 pub loop-k-preserved : goal.loop-k-preserved
 loop-k-preserved c =
-    (refl, omega arith, put-turn _ _ _ _ _ _ _ c.loop-k.invariant.2 c.loop-k-test.true c.put_if_kept-n.ensures.0 c.put_if_kept-n.ensures.1)
+    (refl, omega arith, put-turn _ _ _ _ _ _ _ c.loop-k.invariant.2 c.loop-k-test.true c.put_if_kept-n.ensures)
 
 pub returns : goal.returns
 returns c = put-end _ _ _ _ _ c.loop-k.invariant.2 c.loop-k-test.false
