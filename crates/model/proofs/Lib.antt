@@ -8,3 +8,4 @@ pub mod CodecLaws
 pub mod PartsLaws
 pub mod StoreLaws
 pub mod RefusalLaws
+pub mod Modes
