@@ -1,6 +1,5 @@
 -- The counters of the code as the specification has them: a list of 12, in the order of `EngineCounters`.
-use Rattle.std.specs.Prelude.{ℕ, List, [], ◌∷◌, get_or, set}
-use Rattle.words.specs.Saturating.{saturating_add, max32}
+use Rattle.std.specs.Prelude.{ℕ, List, [], ◌∷◌}
 use Rattle.counters.specs.declared.Counter.{Counter}
 use Rattle.counters.specs.declared.Counter.TheVariants.{ActivationsTotal, ActivationsDry, SuppressedCooldown, SuppressedDisabled, ConditionsRejected, PartialOutcomes, EffectsEmitted, ActionsFailed, ContinuationsScheduled, ContinuationsFired, ContinuationsDropped, TicksTimeUnsynced}
 use Rattle.counters.specs.declared.Counters.{Counters}
@@ -35,7 +34,3 @@ place_of_counter ContinuationsScheduled = 8
 place_of_counter ContinuationsFired = 9
 place_of_counter ContinuationsDropped = 10
 place_of_counter TicksTimeUnsynced = 11
-
--- the counter at a place goes up, and stops at 2^32 - 1; a place past the last changes nothing. As `bump_by` of the specification.
-abbrev pub raised_at : ℕ → ℕ → List ℕ → List ℕ
-raised_at which by l = set l which (saturating_add max32 (get_or l which 0) by)

@@ -4,7 +4,8 @@
 
 ghost use Rattle.std.specs.Prelude.{◌≡◌};
 ghost use Rattle.words.specs.Saturating.{max32, saturating_add};
-ghost use Rattle.counters.specs.Counters.{counters_of, place_of_counter, raised_at};
+ghost use Rattle.model.specs.State.{raised_at};
+ghost use Rattle.counters.specs.Counters.{counters_of, place_of_counter};
 
 // The name of a counter, in the order of the record.
 #[derive(Clone, Copy)]

@@ -11,7 +11,8 @@ use borrow.Author.Tests.{le-leb}
 use Rattle.std.specs.Prelude.{Option}
 use Rattle.words.specs.Saturating.{saturating_add, max32}
 use Rattle.words.proofs.Laws.{add-at-most}
-use Rattle.counters.specs.Counters.{counters_of, raised_at}
+use Rattle.model.specs.State.{raised_at}
+use Rattle.counters.specs.Counters.{counters_of}
 use Rattle.counters.specs.declared.Counters.{Counters}
 use Rattle.model.specs.Layout.{row_fits, rows_fit, zeros, up_to}
 use Rattle.model.specs.Codec.{maybe, rows_at}
