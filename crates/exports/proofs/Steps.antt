@@ -8,7 +8,7 @@ use lib.ListN.{length}
 use borrow.Author.Tests.{eq-eqb, ne_eqb}
 use Rattle.model.specs.Load.{image_refusal}
 use Rattle.model.specs.Flat.{flatten_rules}
-use Rattle.flat.specs.Load.{Checked, stored, loaded}
+use Rattle.flat.specs.Load.{stored, loaded}
 use Rattle.std.specs.Prelude.{Result}
 use Rattle.std.specs.Result.{result_unwrap_or}
 use Rattle.model.specs.declared.Refusal.{Refusal}
@@ -18,11 +18,8 @@ use Rattle.flat.proofs.RuleLists.{loaded-steps}
 pub refused : (r n steps : ℕ) → r ≡ n → (r ≡ 0 → ⊥) → 0 ≡ cond (eqb n 0) steps 0
 refused r n steps e h = rw (ne_eqb n 0 (λ z. h (e ∙ z))) refl
 
-pub checked : (img : List ℕ) (r : ℕ) → r ≡ image_refusal img → r ≡ 0 → Checked img
-checked img r e z = (passed img (sym e ∙ z)).0
-
-pub told : (img : List ℕ) (r n : ℕ) (l : Result ℕ Refusal) → r ≡ image_refusal img → r ≡ 0 → l ≡ loaded (flatten_rules img) → n ≡ result_unwrap_or l 0
+pub told : (img w : List ℕ) (n : ℕ) (l : Result ℕ Refusal) → w ≡ img → image_refusal w ≡ 0 → l ≡ loaded (flatten_rules w) → n ≡ result_unwrap_or l 0
     → n ≡ cond (eqb (image_refusal img) 0) (length (stored (flatten_rules img))) 0
-told img r n l e z h t =
-    let a = sym (loaded-steps (flatten_rules img) (length (stored (flatten_rules img))) (passed img (sym e ∙ z)).1 refl) in
-    rw (eq-eqb (image_refusal img) 0 (sym e ∙ z)) (t ∙ ap (λ (x : Result ℕ Refusal). result_unwrap_or x 0) (h ∙ a))
+told img w n l s z h t =
+    let a = sym (loaded-steps (flatten_rules w) (length (stored (flatten_rules w))) (passed w z).1 refl) in
+    rw (← s, eq-eqb (image_refusal w) 0 z) (t ∙ ap (λ (x : Result ℕ Refusal). result_unwrap_or x 0) (h ∙ a))

@@ -25,6 +25,7 @@ unfoldable pub given : List ℕ → List ℕ → List ℕ → Bool
 given snapshot image store = eqb (snapshot_refusal snapshot) 0 && (eqb (image_refusal image) 0 && readable store)
 
 -- what evaluation sees: the snapshot, the set of the image, and what the store keeps for its rules
+-- kept: wheel's `tick_env` has the same two fields. This crate does not stand on wheel, and in eval, below both, a third definition would be cited by these two alone
 unfoldable pub env_in : List ℕ → List ℕ → Env
 env_in snapshot image = record { world = world_of snapshot; set = set_of image (flatten_rules image) }
 

@@ -1,11 +1,11 @@
 // Conditions and values of an image, by their place in its tables. What is given is checked first: nothing is asked of the caller.
-ghost use Rattle.std.specs.Prelude.{◌≡◌, true, length};
+ghost use Rattle.std.specs.Prelude.{◌≡◌, ◌≤◌};
 ghost use Rattle.exports.specs.Answers as answers;
 ghost use Rattle.model.specs.Image.{size_of};
 ghost use Rattle.model.specs.Rows.{rules};
 ghost use Rattle.model.specs.Store.{volatile_in};
 ghost use Rattle.state.specs.Meaning.{AllNumbered};
-ghost use Rattle.store.specs.Volatile.{changing_in};
+ghost use Rattle.store.specs.Volatile.{Readable, changing_in};
 
 use eval::Env;
 use eval::conditions::condition_at;
@@ -19,10 +19,7 @@ use store::table::VARIABLES;
 fn readable(store: &[u32]) -> bool
     ensures { result ≡ answers.readable store.now }
 {
-    if !store::shaped(store) {
-        return false;
-    }
-    Rows::counted(store, VARIABLES).texts_short()
+    store::shaped(store) && Rows::counted(store, VARIABLES).texts_short()
 }
 
 // Whether nothing that is given is refused.
@@ -33,12 +30,11 @@ fn given(snapshot: &[u32], image: &[u32], store: &[u32]) -> bool
 }
 
 // What the store keeps, for the rules of the image.
-fn begin(snapshot: &[u32], image: &[u32], store: &[u32], v: &mut State)
-    requires { answers.given snapshot.now image.now store.now ≡ true }
+fn begin(image: &Image, store: &[u32], v: &mut State)
+    requires { Readable store.now × (size_of image.now rules ≤ 64) }
     ensures { AllNumbered v.new (volatile_in (size_of image.now rules) (changing_in store.now)) }
 {
-    let count = Image::new(image).size_of(Table::Rules) as usize;
-    store::volatile::begin(store, count, &mut v.words);
+    store::volatile::begin(store, image.size_of(Table::Rules) as usize, &mut v.words);
 }
 
 fn verdict_code(v: Option<bool>) -> u32
@@ -61,9 +57,9 @@ pub extern "C" fn cerambiu_condition(snapshot: &[u32], image: &[u32], store: &[u
     if !given(snapshot, image, store) {
         return 3;
     }
-    let mut v = State::new();
-    begin(snapshot, image, store, &mut v);
     let image = Image::new(image);
+    let mut v = State::new();
+    begin(&image, store, &mut v);
     let env = Env {
         snapshot,
         image: &image,
@@ -89,9 +85,9 @@ pub extern "C" fn cerambiu_value(
         put_number(answer, 3, 0);
         return;
     }
-    let mut v = State::new();
-    begin(snapshot, image, store, &mut v);
     let image = Image::new(image);
+    let mut v = State::new();
+    begin(&image, store, &mut v);
     let env = Env {
         snapshot,
         image: &image,

@@ -13,6 +13,8 @@ ghost use Rattle.flat.specs.Load.{stored};
 
 pub mod evaluation;
 
+use load::Loadable;
+
 // 10 to 15, 0 for none: the checks that do not flatten.
 #[unsafe(no_mangle)]
 pub extern "C" fn cerambiu_tables_refusal(img: &[u32]) -> u32
@@ -34,10 +36,10 @@ pub extern "C" fn cerambiu_image_refusal(img: &[u32]) -> u32
 pub extern "C" fn cerambiu_flat_steps(img: &[u32]) -> usize
     ensures { result ≡ cond (eqb (image_refusal img.now) 0) (length (stored (flatten_rules img.now))) 0 }
 {
-    if load::refusal(img).is_err() {
+    let Ok(image) = Loadable::of(img) else {
         return 0;
-    }
-    flat::rules::flatten_rules(img, &mut [], &mut []).unwrap_or(0)
+    };
+    flat::rules::flatten_rules(image.words(), &mut [], &mut []).unwrap_or(0)
 }
 
 // 20 to 22, 0 for none.
