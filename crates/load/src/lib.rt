@@ -25,25 +25,19 @@ pub fn accepted<'a>(img: &'a [u32], lists: &mut [u32]) -> Result<Image<'a>, Refu
 {
     flat::rules::flatten_rules(img, &mut [], lists)?;
     let image = Image::new(img);
-    if image.few_enough() {
-        return Ok(image);
+    if !image.few_enough() {
+        return Err(Refusal::TooMany);
     }
-    Err(Refusal::TooMany)
+    Ok(image)
 }
 
 // Nothing for an image that load accepts, else the lowest number of a check that fails: for every slice.
-// kept: a match, and no `?`: an edit is to be refused by a fact, and must-fail/tables_after_steps.edit is one arm; with `?` its text leaves the function at another place, where
-// what the proof names is gone
 pub fn refusal(img: &[u32]) -> Result<(), Refusal>
     ensures { refusal_number result ≡ image_refusal img.now }
 {
-    match image::refusal(img) {
-        Ok(()) => {
-            accepted(img, &mut [])?;
-            Ok(())
-        }
-        Err(refusal) => Err(refusal),
-    }
+    image::refusal(img)?;
+    accepted(img, &mut [])?;
+    Ok(())
 }
 
 // The words of an image that load accepts, seen as these words.
