@@ -25,7 +25,7 @@ impl<'a> Model for Checked<'a> {
 }
 
 impl<'a> Checked<'a> {
-    ghost use Rattle.std.specs.Prelude.{◌≡◌, ◌≤◌, ⊤, Some, IfOk, MatchOption, option_map, length};
+    ghost use Rattle.std.specs.Prelude.{◌≡◌, ◌≤◌, ⊤, Some, IfOk, MatchOption, option_map};
     ghost use Rattle.model.specs.Calls.{rule_in};
     ghost use Rattle.model.specs.Load.{image_refusal};
     ghost use Rattle.model.specs.Refusals.{refusal_number};

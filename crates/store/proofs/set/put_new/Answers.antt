@@ -5,4 +5,4 @@ use Rattle.store.proofs.New.{new-put}
 use Rattle.store.proofs.set.put_new.Goals as goal
 
 pub returns : goal.returns
-returns c = new-put _ _ _ _ _ c.told-store c.clear.ensures c.put.ensures (one_set _ _ _ (omega (arith, c.put.auto.s, c.clear.auto.s, c.told-store)))
+returns c = new-put _ _ _ _ _ c.told-store (c.fill.ensures.after (λ y e. e)) c.put.ensures (one_set _ _ _ (omega (arith, c.put.auto.s, c.fill.ensures.len, c.told-store)))
