@@ -3,18 +3,16 @@ use mathlib.Core.Path.{◌≡◌, refl, sym, ap, ◌∙◌}
 use mathlib.Core.Bool.{Bool, true, false, ◌||◌, not}
 use mathlib.Core.List.{List, [], ◌∷◌, ◌++◌}
 use Rattle.std.specs.Prelude.{None, Some, cond}
-use Prim.Native.Nat.{ℕ, zero, suc, ◌+◌, ◌*◌, ◌^◌, ◌≤◌, ◌<◌}
-use native.Mathlib.Nat.{add-zero, zero-mul, suc-mul, mod-eq_of_lt, le_of_suc-le-suc, not-suc-le-zero}
-use native.Mathlib.Numerals.{add-one}
+use Prim.Native.Nat.{ℕ, zero, suc, ◌+◌, ◌*◌, ◌^◌, ◌≤◌}
+use native.Mathlib.Nat.{add-zero, zero-mul, suc-mul, mod-eq_of_lt}
 use native.Mathlib.Omega.{arith}
 use lib.Dec.{eqb, ltb}
-use lib.ListN.{length, get_or, take, drop, set}
-use lib.Seq.{drop-drop, get_or-drop, take-suc-set}
+use lib.ListN.{length, get_or, drop}
+use lib.Seq.{drop-drop, get_or-drop}
 use borrow.Author.Tests.{ltb-true}
 use Rattle.words.specs.Pairs.{joined, low_of}
 use Rattle.model.specs.Codec.{Row, word, wide, ◌⊗◌, marked, maybe, pad, rows_at}
 use Rattle.model.specs.Parts.{any, bit, variable_row, timer_is, timer_row, slot_is, slot_row, jump_is, jump_row, pending_is, pending_row}
-use Rattle.model.specs.Lists.{all}
 use Rattle.model.specs.World.{is_one}
 use Rattle.model.specs.Store.{variable_of, text_short}
 use Rattle.model.specs.declared.Jump.{Jump}
@@ -22,7 +20,6 @@ use Rattle.model.specs.Steps.{jump_at}
 use Rattle.model.specs.declared.Point.{Point}
 use Rattle.model.specs.declared.VarValue.{VarValue}
 use Rattle.model.specs.declared.VarValue.TheVariants.{Int, Text}
-use Rattle.model.proofs.Bools.{both}
 use Rattle.rows.specs.Places.{row_at, table_at}
 use Rattle.rows.specs.Rows.{bool_row, short_variable_of, variable_code_row, leap_row, point_row}
 use Rattle.std.specs.Prelude.{Option}
@@ -164,16 +161,6 @@ module _ {A : Type 0} (r : Row A) (w : List ℕ) where
   unfolding table_at row_at
   table_more i k = rows_more i (drop k w) ∙ ap (λ (l : List ℕ). rows_at r i (drop k w) ++ (r.get l ∷ [])) (drop-drop (i * n) k w)
 
-  -- the next row joins those that were read
-  pub reads_on : (a : List A) (x : A) (i k j : ℕ) → i < length a → take i a ≡ table_at r i w k → j ≡ k + i * n → x ≡ row_at r w j
-      → take (i + 1) (set a i x) ≡ table_at r (i + 1) w k
-  reads_on a x i k j h e ej ex =
-      rw add-one
-      (take-suc-set a i x h
-      ∙ ap (λ (l : List A). l ++ (x ∷ [])) e
-      ∙ ap (λ (y : A). table_at r i w k ++ (y ∷ [])) (ex ∙ ap (λ (y : ℕ). row_at r w y) ej)
-      ∙ sym (table_more i k))
-
   rows_long : (i : ℕ) (v : List ℕ) → length (rows_at r i v) ≡ i
   unfolding rows_at
   rows_long zero v = refl
@@ -187,17 +174,3 @@ module _ {A : Type 0} (r : Row A) (w : List ℕ) where
   pub table_first : (i k j m : ℕ) → i ≡ suc m → j ≡ k + n → table_at r i w k ≡ row_at r w k ∷ table_at r m w j
   unfolding table_at rows_at row_at
   table_first i k j m e f = rw (e, f) (ap (λ (v : List ℕ). r.get (drop k w) ∷ rows_at r m v) (drop-drop n k w))
-
-  row_of : (p : A → Bool) (m i : ℕ) (v : List ℕ) → all p (rows_at r m v) ≡ true → i < m → p (r.get (drop (i * n) v)) ≡ true
-  unfolding rows_at
-  row_of p zero i v e h = absurd (not-suc-le-zero h)
-  row_of p (suc m) zero v e h = rw zero-mul (both (p (r.get v)) (all p (rows_at r m (drop n v))) e).0
-  row_of p (suc m) (suc i) v e h =
-      let s = suc-mul i n in
-      let f : suc i * n ≡ n + i * n = omega arith in
-      rw (f, ← drop-drop (i * n) n v) (row_of p m i (drop n v) (both (p (r.get v)) (all p (rows_at r m (drop n v))) e).1 (le_of_suc-le-suc h))
-
-  -- what holds of every row holds of row i
-  pub every-row : (p : A → Bool) (m i k j : ℕ) → all p (table_at r m w k) ≡ true → i < m → j ≡ k + i * n → p (row_at r w j) ≡ true
-  unfolding table_at row_at
-  every-row p m i k j e h q = ap (λ (l : List ℕ). p (r.get l)) (ap (λ (x : ℕ). drop x w) q ∙ sym (drop-drop (i * n) k w)) ∙ row_of p m i (drop k w) e h

@@ -5,7 +5,7 @@ use Prim.Native.Nat.{ℕ, suc, ◌+◌, ◌*◌, ◌≤◌, ◌<◌}
 use native.Mathlib.Nat.{add-zero}
 use native.Mathlib.Numerals.{add-one}
 use native.Mathlib.Omega.{arith}
-use lib.ListN.{length, get_or, take, drop, set, replicate, length-append, length-drop, length-replicate, replicate-append-replicate, take-append-drop}
+use lib.ListN.{length, get_or, take, drop, set, length-append, length-drop, take-append-drop}
 use lib.Seq.{take_at, take-suc, take-length, take-append-le, take-take, drop_at, drop-append-add, drop-drop, length-take-le, set_split}
 use Rattle.model.specs.Codec.{Row, words_of}
 use Rattle.model.proofs.RowLaws as row_laws
@@ -59,15 +59,6 @@ one_set w k x h =
 pub laid_none : (w : List ℕ) (k : ℕ) → w ≡ laid w k []
 unfolding laid
 laid_none w k = sym (rw (add-zero, append-nil) (take-append-drop k w))
-
--- one zero more
-zero_more : (i : ℕ) → replicate {A = ℕ} (i + 1) 0 ≡ replicate i 0 ++ (0 ∷ [])
-zero_more i = sym (replicate-append-replicate i 1 0)
-
-pub clears : (w w₁ : List ℕ) (k i : ℕ) → k + i < length w → length w₁ ≡ length w → w₁ ≡ laid w k (replicate i 0) → set w₁ (k + i) 0 ≡ laid w k (replicate (i + 1) 0)
-clears w w₁ k i h l e =
-    rw zero_more
-    (lays w w₁ (set w₁ (k + i) 0) k (k + i) (replicate i 0) (0 ∷ []) (omega arith) (ap (λ (n : ℕ). k + n) (sym (length-replicate {A = ℕ} i 0))) e (one_set w₁ (k + i) 0 (omega arith)))
 
 -- words copied, one by one
 pub copies : (w w₁ v : List ℕ) (k i : ℕ) → k + length v ≤ length w → i < length v → length w₁ ≡ length w → w₁ ≡ laid w k (take i v)
