@@ -166,9 +166,6 @@ no-reason (Some r) h = cc
 
 -- ---- runs
 module _ (x : Carried) (b : ℕ) (few : b ≤ 256) where
-  pub ready : RunRoom x → exec.Ready x.vol b x.effects
-  ready room = record { accepts = omega (arith, room.accepted, few); counts = omega (arith, room.effects, few) }
-
   pub ready-dry : Room 1 x → exec-dry.DryReady x.vol b x.effects
   ready-dry room = record { most = few; counts = omega (arith, room.effects, few) }
 

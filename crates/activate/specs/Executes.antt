@@ -40,7 +40,7 @@ begun_in snapshot j v =
 abbrev pub Starts : List ℕ → Job → List ℕ → List ℕ → Job → Type 0
 Starts snapshot j w r begun = Means r (base w) (begun_in snapshot j (meaning w)) × (begun ≡ numbered_job (next_number (meaning w).last_number) j)
 
--- numbers that have room for one run
+-- numbers that have room for one run, which has taken its own already: `Room 1` without its last field
 pub record RunRoom (x : Carried) : Type 0 where
   pub accepted : accepted x.vol + 256 ≤ max32
   pub outcomes : x.outcomes + 1 ≤ max32

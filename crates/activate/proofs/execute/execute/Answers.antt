@@ -1,5 +1,4 @@
 -- `activate::execute::execute` meets its contract. Assumes nothing.
-use native.Mathlib.Omega.{arith}
 use mathlib.Core.Path.{refl}
 use Rattle.image.proofs.Accepted.{budget-fits}
 use Rattle.activate.specs.Carried.{carried_by}
@@ -17,10 +16,6 @@ returns-then-env c =
       does = executes-dry c.args.env.now.snapshot.now c.args.env.now.image.now c.args.rule.now.part.now c.args.rule.now.own c.args.env.now.job (carried_by c.args.lent.now) _ _ _ _ _ _ c.if-env.true c.bump.ensures c.run_dry.ensures.does;
       same = c.run_dry.ensures.same;
     }
-
-pub start-job-requires : goal.start-job-requires
-start-job-requires c =
-    omega (arith, c.requires.1.numbers)
 
 pub run_wet-requires : goal.run_wet-requires
 run_wet-requires c =

@@ -1,5 +1,4 @@
 -- `activate::execute::run_dry` meets its contract. Assumes nothing.
-use native.Mathlib.Omega.{arith}
 use Rattle.image.proofs.Accepted.{budget-fits}
 use Rattle.activate.specs.Carried.{carried_by}
 use Rattle.activate.proofs.Running.{ready-dry, runs-dry}
@@ -12,9 +11,6 @@ run_steps_dry-run-requires c =
       dry = c.requires.1;
       dry_ready = ready-dry (carried_by c.args.lent.now) _ (rw c.budget-most.ensures few) c.requires.2;
     }
-
-pub push_outcome-requires : goal.push_outcome-requires
-push_outcome-requires c = (omega (arith, c.requires.2.outcomes), c.run_steps_dry-run.ensures.grows)
 
 pub returns : goal.returns
 returns c =

@@ -1,18 +1,7 @@
 -- `activate::execute::run_wet` meets its contract. Assumes nothing.
-use native.Mathlib.Omega.{arith}
 use mathlib.Core.Path.{refl}
-use Rattle.activate.specs.Carried.{carried_by}
-use Rattle.activate.proofs.Running.{ready, runs-wet}
+use Rattle.activate.proofs.Running.{runs-wet}
 use Rattle.activate.proofs.execute.run_wet.Goals as goal
-
-pub run_steps-run-requires : goal.run_steps-run-requires
-run_steps-run-requires c = ready (carried_by c.args.lent.now) c.args.most c.requires.0 c.requires.1
-
-pub overflow_sub-run : goal.overflow_sub-run
-overflow_sub-run c = c.run_steps-run.ensures.grows
-
-pub push_outcome-requires : goal.push_outcome-requires
-push_outcome-requires c = (omega (arith, c.requires.1.outcomes), c.run_steps-run.ensures.grows)
 
 pub returns : goal.returns
 returns c =

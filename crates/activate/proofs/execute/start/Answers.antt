@@ -1,11 +1,6 @@
 -- `activate::execute::start` meets its contract. Assumes nothing.
-use native.Mathlib.Omega.{arith}
-use Rattle.activate.proofs.Running.{same-last, starts}
+use Rattle.activate.proofs.Running.{starts}
 use Rattle.activate.proofs.execute.start.Goals as goal
-
-pub take_number-number-requires : goal.take_number-number-requires
-take_number-number-requires c =
-    omega (arith, same-last c.args.snapshot.now c.args.job c.args.v.now _ _ _ c.bump.ensures c.set_last_activation.ensures, c.requires)
 
 pub returns : goal.returns
 returns c =
