@@ -65,7 +65,7 @@ fn find_block(blocks: &[u32], name: u32) -> Option<usize>
     ensures result_value { option_map (record_in blocks.now) result ≡ block_named [] blocks.now name }
     ensures upper_bound { (k : ℕ) → result ≡ Some k → k < length blocks.now / 8 }
 {
-    (0..blocks.len() / 8).position(|i| read_record(blocks, i).kind == name)
+    (0..blocks.len() / 8).position(|i| blocks[i * 8] == name)
 }
 
 // Which block the action in record i calls.

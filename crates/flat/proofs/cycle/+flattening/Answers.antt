@@ -1,12 +1,12 @@
 -- The functions of the cycle of flattening meet their contracts, one after the other. Assumes nothing.
 use Rattle.std.proofs.Common.{◌≡◌, refl, sym, ◌∙◌, [], ◌-◌, ◌*◌, ◌/◌, length, arith}
-use Rattle.std.proofs.lemmas.Result.{err_from_is_err_and}
 use lib.Seq.{length-take-le}
 use Rattle.model.specs.declared.Step.TheVariants as step
 use Rattle.flat.specs.Outcome.{told}
 use Rattle.flat.proofs.Starts.{begun, start-after, start-repeat, start-region, start-next, start-call, call-number, call-found}
 use Rattle.flat.proofs.Calls.{one-act, call-zero, call-unknown, call_known, call-inside}
 use Rattle.flat.proofs.Forms.{after-fails, after-refused, body-fits, after-there, repeat-fails, repeat-refused, repeat-over, repeat-wrote, branch-fails, branch-refused, else-refused, branch-wrote}
+use Rattle.flat.proofs.Outcomes.{handed-on}
 use Rattle.flat.proofs.Lists.{finished, full, refused, next}
 use Rattle.flat.proofs.cycle.+flattening.Invariants.{left_le, left_is, left_behind}
 use Rattle.flat.proofs.cycle.+flattening.Goals as goal
@@ -45,10 +45,10 @@ flatten_after-flatten_list-requires t c =
 
 pub flatten_after-returns-in_err-q-clause-out : goal.flatten_after-returns-in_err-q-clause-out
 flatten_after-returns-in_err-q-clause-out t c =
-    let p = err_from_is_err_and c.from_residual.result c.from_residual.ensures.1 in
+    let p = handed-on _ _ c.from_residual.ensures.1 in
     let e = c.within_after-inner.ensures in
     let r = rw (c.in_err-q.was, e.0, e.1) at c.flatten_list.ensures.out in
-    rw (p.1, p.2) (r.0, after-refused (begun c.args.t.now c.requires.start) c.args.ms c.requires.i_in_bounds.2 c.if-at.false r.1)
+    rw p (r.0, after-refused (begun c.args.t.now c.requires.start) c.args.ms c.requires.i_in_bounds.2 c.if-at.false r.1)
 
 pub flatten_after-slice_bounds-append_steps-end : goal.flatten_after-slice_bounds-append_steps-end
 flatten_after-slice_bounds-append_steps-end t c =
@@ -90,11 +90,11 @@ flatten_branch-flatten_list-requires t c =
 
 pub flatten_branch-returns-in_err-q-clause-out : goal.flatten_branch-returns-in_err-q-clause-out
 flatten_branch-returns-in_err-q-clause-out t c =
-    let p = err_from_is_err_and c.from_residual.result c.from_residual.ensures.1 in
+    let p = handed-on _ _ c.from_residual.ensures.1 in
     let h = c.requires.i_in_bounds in
     let e = c.within_conditional-inner.ensures in
     let r = rw (c.in_err-q.was, e.0, e.1) at c.flatten_list.ensures.out in
-    rw (p.1, p.2) (r.0, branch-refused (begun c.args.t.now c.requires.start) c.args.condition h.2 h.3 c.if-at.false r.1)
+    rw p (r.0, branch-refused (begun c.args.t.now c.requires.start) c.args.condition h.2 h.3 c.if-at.false r.1)
 
 pub flatten_branch-flatten_list-requires-2 : goal.flatten_branch-flatten_list-requires-2
 flatten_branch-flatten_list-requires-2 t c =
@@ -112,12 +112,12 @@ flatten_branch-flatten_list-requires-2 t c =
 
 pub flatten_branch-returns-in_err-r-clause-out : goal.flatten_branch-returns-in_err-r-clause-out
 flatten_branch-returns-in_err-r-clause-out t c =
-    let p = err_from_is_err_and c.from_residual-in_err-r.result c.from_residual-in_err-r.ensures.1 in
+    let p = handed-on _ _ c.from_residual-in_err-r.ensures.1 in
     let h = c.requires.i_in_bounds in
     let e = c.within_conditional-inner.ensures in
     let w = rw (c.in_ok-q.was, e.0, e.1) at c.flatten_list.ensures.out in
     let r = rw (c.in_err-r.was, e.0, e.1) at c.flatten_list-2.ensures.out in
-    rw (p.1, p.2) (r.0, else-refused (begun c.args.t.now c.requires.start) c.args.condition h.2 h.3 c.if-at.false w r.1)
+    rw p (r.0, else-refused (begun c.args.t.now c.requires.start) c.args.condition h.2 h.3 c.if-at.false w r.1)
 
 pub flatten_branch-returns-clause-out : goal.flatten_branch-returns-clause-out
 flatten_branch-returns-clause-out t c =
@@ -188,9 +188,9 @@ flatten_list-flatten_action-requires t c =
 
 pub flatten_list-returns-in_err-q-clause-out : goal.flatten_list-returns-in_err-q-clause-out
 flatten_list-returns-in_err-q-clause-out t c =
-    let p = err_from_is_err_and c.from_residual.result c.from_residual.ensures.1 in
+    let p = handed-on _ _ c.from_residual.ensures.1 in
     let r = rw c.in_err-q.was at c.flatten_action.ensures.out in
-    rw (p.1, p.2, r.0) (refused c.loop-i.invariant.0 c.requires.count_in_bounds c.loop-i-test.true (omega arith) [] [] (omega (arith, r.1, c.if-q-eq0.false)))
+    rw (p, r.0) (refused c.loop-i.invariant.0 c.requires.count_in_bounds c.loop-i-test.true (omega arith) [] [] (omega (arith, r.1, c.if-q-eq0.false)))
 
 pub flatten_list-loop-i-preserved : goal.flatten_list-loop-i-preserved
 flatten_list-loop-i-preserved t c =
@@ -222,10 +222,10 @@ flatten_repeat-flatten_list-requires t c =
 
 pub flatten_repeat-returns-in_err-q-clause-out : goal.flatten_repeat-returns-in_err-q-clause-out
 flatten_repeat-returns-in_err-q-clause-out t c =
-    let p = err_from_is_err_and c.from_residual.result c.from_residual.ensures.1 in
+    let p = handed-on _ _ c.from_residual.ensures.1 in
     let e = c.within_repeat-inner.ensures in
     let r = rw (c.in_err-q.was, e.0, e.1) at c.flatten_list.ensures.out in
-    rw (p.1, p.2) (r.0, repeat-refused (begun c.args.t.now c.requires.start) c.args.times c.requires.i_in_bounds.2 (sym c.repeat_fails.ensures ∙ c.if-repeat_fails.false) r.1)
+    rw p (r.0, repeat-refused (begun c.args.t.now c.requires.start) c.args.times c.requires.i_in_bounds.2 (sym c.repeat_fails.ensures ∙ c.if-repeat_fails.false) r.1)
 
 pub flatten_repeat-returns-then-p-q-gt256-clause-out : goal.flatten_repeat-returns-then-p-q-gt256-clause-out
 flatten_repeat-returns-then-p-q-gt256-clause-out t c =

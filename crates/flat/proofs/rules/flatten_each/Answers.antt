@@ -3,7 +3,7 @@ use mathlib.Core.Path.{refl, ◌∙◌}
 use Prim.Native.Nat.{◌/◌}
 use lib.ListN.{length}
 use Rattle.flat.specs.Load.{rule_at, rules_up_to}
-use Rattle.std.proofs.lemmas.Result.{err_from_is_err_and}
+use Rattle.flat.proofs.Outcomes.{handed-on}
 use Rattle.flat.proofs.RuleLists.{at-start, next, rules-none, rules-more, rule-refused, all-over, all-wrote}
 use Rattle.flat.proofs.rules.flatten_each.Goals as goal
 
@@ -16,9 +16,9 @@ pub returns-in_err-p : goal.returns-in_err-p
 returns-in_err-p c =
     let a = c.args in
     let l = c.loop-k in
-    let p = err_from_is_err_and c.from_residual.result c.from_residual.ensures.1 in
+    let p = handed-on _ _ c.from_residual.ensures.1 in
     let r = rw c.in_err-p.was at c.flatten_rule.ensures in
-    rw (p.1, p.2)
+    rw p
     (r.0, rule-refused a.t.now.acts.now a.t.now.blocks.now a.t.now.rules.now a.t.now.depth a.t.now.limit l.k (length a.t.now.rules.now / 16) l.left c.loop-k-test.true l.invariant.2.taken_is r.1)
 
 pub loop-k-preserved : goal.loop-k-preserved
