@@ -11,7 +11,7 @@ use Rattle.model.specs.declared.FlowAction.TheVariants.{After, Repeat, Condition
 use Rattle.model.specs.declared.Step.TheVariants as step
 use Rattle.model.specs.Flat.{Row, row_of, Flattened, one_step, append, within_after, within_repeat, within_conditional, repeat_fails}
 use Rattle.flat.specs.Words.{layout}
-use Rattle.flat.specs.Outcome.{Put, Behinds, holds_at, Copied, Behind, Wrote, list_at, form_at}
+use Rattle.flat.specs.Outcome.{so_far, Put, Behinds, holds_at, Copied, Behind, Wrote, list_at, form_at}
 use Rattle.flat.proofs.Starts.{Begun}
 use Rattle.flat.proofs.Definition.{copies-stop, after-no, after-yes, branch_no, branch_yes, repeat-no, repeat-yes, repeats-some}
 use Rattle.flat.proofs.Lengths.{list_length, none_within}
@@ -27,7 +27,7 @@ no_more seen m s s1 r rows rs e h k =
 
 module _ {acts blocks calls : List ℕ} {scratch d : ℕ} {c : FlattenCtx} {n m a : ℕ} (start : Begun acts blocks calls scratch d c n m a) where
   failed : {f : Flattened} {same : Bool} {seen list bodies l : List ℕ} → f ≡ one_step step.Fail → Put list n (4 ∷ 0 ∷ 0 ∷ 0 ∷ []) l
-      → Wrote 257 257 f n m a same seen list bodies l bodies (n + 1) m a same
+      → Wrote 257 257 f (so_far n m a same) seen list bodies l bodies (so_far (n + 1) m a same)
   failed e p = rw e (wrote_one step.Fail (omega arith) p)
 
   -- AN AFTER --------------------------------------------------------------------------------------------------------------------------
@@ -39,21 +39,21 @@ module _ {acts blocks calls : List ℕ} {scratch d : ℕ} {c : FlattenCtx} {n m 
     body = list_at acts blocks d first count (within_after c) 0 m
 
     pub after-fails : {same : Bool} {seen list bodies l : List ℕ} → c.in_after ≡ true → Put list n (4 ∷ 0 ∷ 0 ∷ 0 ∷ []) l
-        → Wrote 257 257 after n m a same seen list bodies l bodies (n + 1) m a same
+        → Wrote 257 257 after (so_far n m a same) seen list bodies l bodies (so_far (n + 1) m a same)
     after-fails h p = failed (after-no acts blocks d i c n m ms first count h) p
 
     module _ (h : c.in_after ≡ false) where
       pub after-refused : a < body.taken → a < after.taken
       after-refused k = rw (after-yes acts blocks d i c n m ms first count h g) k
 
-      module _ {same same1 : Bool} {seen x bodies x1 b1 : List ℕ} {size m1 left : ℕ} (w : Wrote 1 0 body 0 m a same seen x bodies x1 b1 size m1 left same1) where
+      module _ {same same1 : Bool} {seen x bodies x1 b1 : List ℕ} {size m1 left : ℕ} (w : Wrote 1 0 body (so_far 0 m a same) seen x bodies x1 b1 (so_far size m1 left same1)) where
         -- no body is longer than the scratch
         pub body-fits : size * 4 ≤ scratch
         body-fits = omega (arith, w.counted, list_length acts blocks d first count (within_after c) m, start.depth_le, start.room h)
 
         pub after-wrote : {r : Bool} {list b2 l : List ℕ} → length x ≡ scratch → length b1 ≡ length bodies → Put list n (3 ∷ ms ∷ m ∷ size ∷ []) l
             → ((rs : List Row) → take (size * 4) x1 ≡ layout rs → Behinds b1 m rs b2 (m + length rs) × (r ≡ same1 && holds_at seen m rs))
-            → take (m * 4) b2 ≡ take (m * 4) b1 → Wrote 257 257 after n m a same seen list bodies l b2 (n + 1) (m + size) left r
+            → take (m * 4) b2 ≡ take (m * 4) b1 → Wrote 257 257 after (so_far n m a same) seen list bodies l b2 (so_far (n + 1) (m + size) left r)
         after-wrote {r} {list} {b2} {l} ex eb p append kept =
             let q : size ≡ length body.rows = omega (arith, w.counted, w.rows) in
             let fits = body-fits in
@@ -78,7 +78,7 @@ module _ {acts blocks calls : List ℕ} {scratch d : ℕ} {c : FlattenCtx} {n m 
 
         pub after-there : {r : Bool} {list b2 l : List ℕ} → length x ≡ scratch → length b1 ≡ length bodies → Put list n (3 ∷ ms ∷ m1 ∷ size ∷ []) l
             → ((rs : List Row) → take (size * 4) x1 ≡ layout rs → Behinds b1 m1 rs b2 (m1 + length rs) × (r ≡ same1 && holds_at seen m1 rs))
-            → take (m1 * 4) b2 ≡ take (m1 * 4) b1 → Wrote 257 257 after n m a same seen list bodies l b2 (n + 1) (m1 + size) left r
+            → take (m1 * 4) b2 ≡ take (m1 * 4) b1 → Wrote 257 257 after (so_far n m a same) seen list bodies l b2 (so_far (n + 1) (m1 + size) left r)
         after-there ex eb p append kept = rw none-more (after-wrote ex eb (rw none-more at p) (rw none-more at append) (rw none-more at kept))
 
   -- A REPEAT --------------------------------------------------------------------------------------------------------------------------
@@ -90,7 +90,7 @@ module _ {acts blocks calls : List ℕ} {scratch d : ℕ} {c : FlattenCtx} {n m 
     once = list_at acts blocks d first count (within_repeat c) 0 m
 
     pub repeat-fails : {same : Bool} {seen list bodies l : List ℕ} → repeat_fails c times ≡ true → Put list n (4 ∷ 0 ∷ 0 ∷ 0 ∷ []) l
-        → Wrote 257 257 repeated n m a same seen list bodies l bodies (n + 1) m a same
+        → Wrote 257 257 repeated (so_far n m a same) seen list bodies l bodies (so_far (n + 1) m a same)
     repeat-fails h p = failed (repeat-no acts blocks d i c n m times first count h) p
 
     module _ (h : repeat_fails c times ≡ false) where
@@ -100,12 +100,12 @@ module _ {acts blocks calls : List ℕ} {scratch d : ℕ} {c : FlattenCtx} {n m 
       -- its body was written into the tail from `at` on
       module _ (list v : List ℕ) (at : ℕ) {same same1 : Bool} {seen bodies b1 : List ℕ} {size m1 left : ℕ} (inside : at ≤ length list) (cut : n * 4 ≤ length list → at ≡ n * 4)
           (end : length list < n * 4 → at ≡ length list) (kept : length v ≡ length (mid_of at (length list - at) list))
-          (w : Wrote 1 0 once 0 m a same seen (mid_of at (length list - at) list) bodies v b1 size m1 left same1) where
+          (w : Wrote 1 0 once (so_far 0 m a same) seen (mid_of at (length list - at) list) bodies v b1 (so_far size m1 left same1)) where
         abbrev list1 : List ℕ
         list1 = put_mid at (length list - at) list v
 
         -- no copy fits, and the bodies are not kept
-        pub repeat-over : {l : List ℕ} → 256 < n + size → Put list1 n (4 ∷ 0 ∷ 0 ∷ 0 ∷ []) l → Wrote 257 257 repeated n m a same seen list bodies l b1 (n + 1) m left same
+        pub repeat-over : {l : List ℕ} → 256 < n + size → Put list1 n (4 ∷ 0 ∷ 0 ∷ 0 ∷ []) l → Wrote 257 257 repeated (so_far n m a same) seen list bodies l b1 (so_far (n + 1) m left same)
         repeat-over {l} over p =
             let e = copies-stop once n times (repeats-some c times h) (omega (arith, w.counted)) in
             rw (repeat-yes acts blocks d i c n m times first count h g)
@@ -127,7 +127,7 @@ module _ {acts blocks calls : List ℕ} {scratch d : ℕ} {c : FlattenCtx} {n m 
 
         pub repeat-wrote : {l : List ℕ} {n1 : ℕ} → n < 256 → n + size ≤ 256
             → (size ≡ length once.rows → length once.rows ≡ length once.steps → Copied once times n list1 l n1)
-            → Wrote 257 257 repeated n m a same seen list bodies l b1 n1 m1 left same1
+            → Wrote 257 257 repeated (so_far n m a same) seen list bodies l b1 (so_far n1 m1 left same1)
         repeat-wrote {l} {n1} small fit copied =
             let q : size ≡ length once.rows = omega (arith, w.counted, w.rows) in
             let k = copied q w.rows in
@@ -156,14 +156,14 @@ module _ {acts blocks calls : List ℕ} {scratch d : ℕ} {c : FlattenCtx} {n m 
     then-part = list_at acts blocks d yf yk (within_conditional c) (n + 1) m
 
     pub branch-fails : {same : Bool} {seen list bodies l : List ℕ} → c.in_conditional ≡ true → Put list n (4 ∷ 0 ∷ 0 ∷ 0 ∷ []) l
-        → Wrote 257 257 branch n m a same seen list bodies l bodies (n + 1) m a same
+        → Wrote 257 257 branch (so_far n m a same) seen list bodies l bodies (so_far (n + 1) m a same)
     branch-fails h p = failed (branch_no acts blocks d i c n m q yf yk ef ek h) p
 
     module _ (h : c.in_conditional ≡ false) where
       pub branch-refused : a < then-part.taken → a < branch.taken
       branch-refused k = rw (branch_yes acts blocks d i c n m q yf yk ef ek h g g') (omega arith)
 
-      module _ {same s1 : Bool} {seen list bodies l1 b1 : List ℕ} {n1 m1 a1 : ℕ} (w : Wrote 1 0 then-part (n + 1) m a same seen list bodies l1 b1 n1 m1 a1 s1) where
+      module _ {same s1 : Bool} {seen list bodies l1 b1 : List ℕ} {n1 m1 a1 : ℕ} (w : Wrote 1 0 then-part (so_far (n + 1) m a same) seen list bodies l1 b1 (so_far n1 m1 a1 s1)) where
         abbrev else-part : Flattened
         else-part = list_at acts blocks d ef ek (within_conditional c) n1 m1
 
@@ -171,8 +171,8 @@ module _ {acts blocks calls : List ℕ} {scratch d : ℕ} {c : FlattenCtx} {n m 
         else-refused k = rw (branch_yes acts blocks d i c n m q yf yk ef ek h g g', ← w.counted, ← w.stored) (omega (arith, w.taken))
 
         pub branch-wrote : {s2 : Bool} {l2 b2 l3 : List ℕ} {n2 m2 a2 : ℕ} → length l1 ≡ length list → length b1 ≡ length bodies → length l2 ≡ length l1
-            → Wrote 1 0 else-part n1 m1 a1 s1 seen l1 b1 l2 b2 n2 m2 a2 s2 → Put l2 n (2 ∷ q ∷ (n1 - n - 1) ∷ (n2 - n1) ∷ []) l3
-            → Wrote 257 257 branch n m a same seen list bodies l3 b2 n2 m2 a2 s2
+            → Wrote 1 0 else-part (so_far n1 m1 a1 s1) seen l1 b1 l2 b2 (so_far n2 m2 a2 s2) → Put l2 n (2 ∷ q ∷ (n1 - n - 1) ∷ (n2 - n1) ∷ []) l3
+            → Wrote 257 257 branch (so_far n m a same) seen list bodies l3 b2 (so_far n2 m2 a2 s2)
         branch-wrote {s2} {l2} {b2} {l3} {n2} {m2} {a2} el eb el2 w2 p =
             let y = then-part in
             let e = else-part in

@@ -20,7 +20,7 @@ use Rattle.model.proofs.ListLaws.{length-up_from, up_from-last, map-append}
 use Rattle.model.proofs.Bools.{or-true}
 use Rattle.std.specs.Prelude.{Ok}
 use Rattle.flat.specs.Words.{layout, same_at}
-use Rattle.flat.specs.Outcome.{Start, Behinds, holds_at, Wrote}
+use Rattle.flat.specs.Outcome.{so_far, Start, Behinds, holds_at, Wrote}
 use Rattle.flat.specs.Load.{stored, step_part, list_part, loaded, RuleWrote, EachWrote, MadeOf, CheckedTables, rule_context, rule_at, rules_up_to, flatten_tables}
 use Rattle.flat.proofs.Words.{layout-append, and_assoc, same_none, same-rows-append, same_drop, tail_of, tail-drop}
 use Rattle.flat.proofs.Rows.{whole_length, tail-behinds}
@@ -107,7 +107,7 @@ module _ (acts blocks rules : List ℕ) (d limit k left : ℕ) (h : CheckedTable
 
 -- its bodies were written, and its own list behind them
 module _ (f : Flattened) (allowed : ℕ) (same : Bool) (seen own₀ words₀ own words : List ℕ) (n m left : ℕ) (s : Bool)
-    (short : length f.steps ≤ 268) (h : Wrote 1 0 f 0 0 allowed same seen own₀ words₀ own words n m left s) where
+    (short : length f.steps ≤ 268) (h : Wrote 1 0 f (so_far 0 0 allowed same) seen own₀ words₀ own words (so_far n m left s)) where
   pub rule-room : 1072 ≤ length own → n * 4 ≤ length own
   rule-room r =
       let u : n ≤ 268 = omega (arith, h.counted) in

@@ -98,35 +98,39 @@ pub record Start (scratch d : ℕ) (ctx : FlattenCtx) (n m allowed : ℕ) : Type
   pub stored-le : m + 257 * allowed ≤ 4294967295
 
 -- WHAT IS ENSURED -------------------------------------------------------------------------------------------------------------------
--- `f` was flattened with so many actions allowed: its sizes are told; its rows stand behind the n steps of the list, and its bodies behind
--- the m steps of the bodies, if they have room; and whether its bodies stand in `seen`, if all before did. The last two keep the numbers
+-- how far flattening is: n steps in the list, m in the bodies, so many actions allowed, and whether all bodies so far are those to be compared
+abbrev pub so_far : ℕ → ℕ → ℕ → Bool → Done
+so_far n m left same = record { n = n; m = m; left = left; same = same }
+
+-- `f` was flattened from p on, and q is then how far it is: its sizes are told; its rows stand behind the steps of the list, and its bodies behind
+-- those of the bodies, if they have room; and whether its bodies stand in `seen`, if all before did. The last two keep the numbers
 -- small: a repeat makes at most 257 steps.
-pub record Wrote (e e' : ℕ) (f : Flattened) (n m allowed : ℕ) (same : Bool) (seen list bodies list' bodies' : List ℕ) (n' m' left : ℕ) (same' : Bool) : Type 0 where
-  pub counted : n' ≡ n + length f.steps
+pub record Wrote (e e' : ℕ) (f : Flattened) (p : Done) (seen list bodies list' bodies' : List ℕ) (q : Done) : Type 0 where
+  pub counted : q.n ≡ p.n + length f.steps
   pub rows : length f.rows ≡ length f.steps
-  pub stored : m' ≡ m + length f.bodies
-  pub taken : left + f.taken ≡ allowed
-  pub listed : Behinds list n f.rows list' n'
-  pub bodied : Behinds bodies m f.bodies bodies' m'
-  pub kept : take (m * 4) bodies' ≡ take (m * 4) bodies
-  pub agrees : same' ≡ same && holds_at seen m f.bodies
-  pub few : n' + 257 * left ≤ n + 257 * allowed + e
-  pub few' : m' + 257 * left ≤ m + 257 * allowed + e'
+  pub stored : q.m ≡ p.m + length f.bodies
+  pub taken : q.left + f.taken ≡ p.left
+  pub listed : Behinds list p.n f.rows list' q.n
+  pub bodied : Behinds bodies p.m f.bodies bodies' q.m
+  pub kept : take (p.m * 4) bodies' ≡ take (p.m * 4) bodies
+  pub agrees : q.same ≡ p.same && holds_at seen p.m f.bodies
+  pub few : q.n + 257 * q.left ≤ p.n + 257 * p.left + e
+  pub few' : q.m + 257 * q.left ≤ p.m + 257 * p.left + e'
 
 -- how far it is then, of the list and of the bodies
 abbrev pub told : ℕ → Bool → Result Progress Refusal → Result Done Refusal
 told m same (Err refusal) = Err refusal
-told m same (Ok p) = Ok (record { n = p.n; m = m; left = p.left; same = same })
+told m same (Ok p) = Ok (so_far p.n m p.left same)
 
-abbrev pub FlattensTo : ℕ → ℕ → Flattened → ℕ → ℕ → ℕ → Bool → List ℕ → List ℕ → List ℕ → List ℕ → List ℕ → Result Done Refusal → Type 0
-FlattensTo e e' f n m allowed same seen list bodies list' bodies' (Err refusal) = (refusal ≡ FlatSteps) × (allowed < f.taken)
-FlattensTo e e' f n m allowed same seen list bodies list' bodies' (Ok p) = Wrote e e' f n m allowed same seen list bodies list' bodies' p.n p.m p.left p.same
+abbrev pub FlattensTo : ℕ → ℕ → Flattened → Done → List ℕ → List ℕ → List ℕ → List ℕ → List ℕ → Result Done Refusal → Type 0
+FlattensTo e e' f p seen list bodies list' bodies' (Err refusal) = (refusal ≡ FlatSteps) × (p.left < f.taken)
+FlattensTo e e' f p seen list bodies list' bodies' (Ok q) = Wrote e e' f p seen list bodies list' bodies' q
 
 -- of a list, and of an action, which has been counted by the list around it
-abbrev pub ListOut : Flattened → ℕ → ℕ → ℕ → Bool → List ℕ → List ℕ → List ℕ → List ℕ → List ℕ → Result Done Refusal → Type 0
+abbrev pub ListOut : Flattened → Done → List ℕ → List ℕ → List ℕ → List ℕ → List ℕ → Result Done Refusal → Type 0
 ListOut = FlattensTo 1 0
 
-abbrev pub ActOut : Flattened → ℕ → ℕ → ℕ → Bool → List ℕ → List ℕ → List ℕ → List ℕ → List ℕ → Result Done Refusal → Type 0
+abbrev pub ActOut : Flattened → Done → List ℕ → List ℕ → List ℕ → List ℕ → List ℕ → Result Done Refusal → Type 0
 ActOut = FlattensTo 257 257
 
 -- the copies of a repeat's body, whose first copy stands behind the n steps that `list` has
