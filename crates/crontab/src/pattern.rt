@@ -5,8 +5,8 @@ ghost use Rattle.model.specs.Crontab.{range_of, element_of, holds, is_asterisk, 
 use crate::scan;
 
 // The lowest and the highest number of a field.
-// kept: no `RangeInclusive`, as it would be no plainer: it says also whether a loop has used it up, which each of the five contracts here would have to
-// exclude, it is not `Copy`, and the specification's element is a pair.
+// kept: no `RangeInclusive`, as it would be no plainer: it says also whether a loop has used it up, which each of the contracts here and in parts.rt
+// would have to exclude, it is not `Copy`, and the specification's element is a pair.
 #[derive(Clone, Copy)]
 pub struct Bounds {
     pub lowest: u32,

@@ -85,6 +85,9 @@ impl Marks {
     }
 
     // The triggers of the marked minutes, one behind the other.
+    // kept: by the place of each. Tried by `store.chunks_exact_mut(TRIGGER_WORDS).zip(marked)`: what the function ensures does not close, since the loop's invariant
+    // can name the chunks that are left, and no word of the store that is written.
+    // kept: the chain of `count` stands here again, as it would be no plainer: a result may not be `impl Iterator`, so that it would be a struct with an `impl`.
     pub fn write(&self, ds: u32, store: &mut [u32])
         requires { 8 * length (marked_minutes self.now.hours self.now.minutes) ≤ length store.old }
         ensures { store.new ≡ written ds store.old 0 (marked_minutes self.now.hours self.now.minutes) }

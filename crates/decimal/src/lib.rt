@@ -20,7 +20,7 @@ fn all_digits(word: &[u8]) -> bool
 }
 
 // What digits stand for, if 64 bits hold it.
-// kept: no try_fold, as it would be no plainer: its closure would hold the same line, with a `?` of its own, and the library has no lemma on its chain.
+// kept: no try_fold, as it would be no plainer: its closure would hold the same line, with a `?` of its own.
 fn value_of(word: &[u8]) -> Option<u64>
     ensures { result ≡ fitted (value_from 0 word.now) }
 {

@@ -98,9 +98,6 @@ module _ (ws w₀ w : List ℕ) (k n : ℕ) where
     pub count : n + length (keep_last (effects_from k ws)) ≡ length (keep_last (effects_from zero ws))
     pub words : put_effects w n (keep_last (effects_from k ws)) ≡ put_effects w₀ zero (keep_last (effects_from zero ws))
 
-pub put-begin : (ws w : List ℕ) → Putting ws w w zero zero
-put-begin ws w = record { long = refl; few = omega arith; count = omega arith; words = refl }
-
 head-at-most-one : (x : Effect) (xs : List Effect) → length (kept_head x xs) ≤ 1
 unfolding kept_head
 head-at-most-one x xs = by (set_again x xs) (λ e. rw e (omega arith)) (λ e. rw e (omega arith))
