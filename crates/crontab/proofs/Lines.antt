@@ -12,9 +12,10 @@ use lib.Dec.{leb, lit<}
 use lib.ListN.{length, get_or, take, drop, replicate, set, length-replicate, length-append, drop_of_length-le}
 use lib.Seq.{drop-cons, drop-drop, sets, sets-eq, length-sets}
 use Rattle.std.specs.List.{filter, range_with_len, enumerate_from, sum_by}
-use Rattle.std.proofs.lemmas.List.FromFn.{sum_by-map-range_with_len_more, length-enumerate_from, get_or-enumerate_from}
-use Rattle.model.specs.Lists.{every, keep, total, up_from}
+use Rattle.std.proofs.lemmas.List.FromFn.{length-enumerate_from, get_or-enumerate_from}
+use Rattle.model.specs.Lists.{every, keep, up_from}
 use Rattle.model.specs.Field.{unless}
+use Rattle.fields.proofs.Total.{total-sum}
 use Rattle.model.specs.Answers.{lent}
 use Rattle.model.specs.Asked.{declined, shown_result}
 use denote.Param.Members.{Mut}
@@ -109,13 +110,6 @@ module _ (l : List ℕ) (sunday d : ℕ) (r : Bool) (e : r ≡ field_covers l 4 
   bit-on n =
       let k = shift-is (day_here sunday d) (mod-lt (sunday + d) {m = 7} (lit< tt)) in
       (rw (← e, not-false r n) k.0, k.1)
-
--- a sum over the numbers below n
-total-sum : (f : ℕ → ℕ) (n : ℕ) → sum_by (λ x. x) (map f (range_with_len 0 n)) ≡ total n f
-unfolding total
-total-sum f zero = refl
-total-sum f (suc n) =
-    ap (λ k. sum_by (λ x. x) (map f (range_with_len 0 k))) (sym (add-one n)) ∙ (sum_by-map-range_with_len_more (λ x. x) f 0 n n (omega arith) ∙ ap (λ s. s + f n) (total-sum f n))
 
 pub days-sum : (l : List ℕ) (sunday : ℕ) → sum_by (λ x. x) (map (day_bit l sunday) (range_with_len 0 7)) ≡ days l sunday
 unfolding days

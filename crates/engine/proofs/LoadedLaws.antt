@@ -64,8 +64,6 @@ module _ (w img : List ℕ) (s : Store) (e : read w ≡ Some s) (i : Readable w 
       loaded-by w img s e set l (sym (i r.readable ∙ image-read w s r set l))
 
 module _ (w img : List ℕ) (s : Store) (l : LoadedImage w img s) where
-  pub count-loaded : rule_count s.loaded ≡ size_of img rules
-  count-loaded = ap rule_count l.is ∙ ap (λ (x : List ℕ). size_of x rules) l.image
 
   pub named-loaded : (name : ℕ) → rule_in s.loaded name ≡ rule_named img name
   named-loaded name = ap (λ (o : Option RuleSet). rule_in o name) l.is ∙ ap (λ (x : List ℕ). rule_named x name) l.image
@@ -80,9 +78,6 @@ inside None name i e = absurd (none-some i e)
 inside (Some set) name i e = (named_rule set.image name i e).0
 
 module _ (w : List ℕ) (s : Store) (e : read w ≡ Some s) (name : ℕ) (r : Option ℕ) (q : r ≡ rule_in s.loaded name) where
-  -- nothing of a rule that is not loaded
-  pub nothing-kept : (xs : List (Option ℕ)) → r ≡ None → None ≡ kept s.loaded xs name
-  nothing-kept xs n = sym (ap (λ (o : Option ℕ). kept_at o xs) (found_none (rule_in s.loaded name) r q n)) ∙ kept-place s.loaded xs name
 
   module _ (i : ℕ) (n : r ≡ Some i) (x : Option ℕ) where
     kept_there : (xs : List (Option ℕ)) → get_or xs i None ≡ kept s.loaded (take (rule_count s.loaded) xs) name

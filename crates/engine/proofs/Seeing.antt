@@ -87,9 +87,6 @@ call-seen f c w w' os es s r a o e q h n g k =
     ∙ ap seen (ap (λ (x : Option Store). on_store c x w) (sym e) ∙ sym o)
 
 -- WORDS THAT ARE NO STORE ------------------------------------------------------------------------------------------------------------------
-unless-positive : (b : Bool) → unless b 1 2 ≡ 0 → ⊥
-unless-positive true e = omega arith
-unless-positive false e = omega arith
 
 module _ (w : List ℕ) (r : Refusal) (q : refusal_code r ≡ refusal_of (read w) w) where
   record NoStore : Type 0 where

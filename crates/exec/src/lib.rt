@@ -28,7 +28,7 @@ use state::reasons::Reason;
 // kept: the state stands beside it in each function, `env, v`: an Env with `&mut State` could not be copied, and would have to be lent again at each call, and taken
 // apart where conditions and values are evaluated, since `eval::Env` has the state shared. A run has its rule's steps beside it too: only what finds the next step
 // reads them, and no action.
-// kept: functions that take it, and no methods: each stands in the module of what it does (`lights`, `timers`, `variables`), and what it changes is the state.
+// kept: functions that take it, and no methods, as they would be no plainer: what they change is the state, so that `env` and `v` stand beside each other in both.
 #[derive(Clone, Copy)]
 pub struct Env<'a> {
     pub snapshot: &'a [u32],

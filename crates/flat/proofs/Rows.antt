@@ -71,16 +71,6 @@ paste-front l at s k h g =
     sym (take-take at (at + k) (paste l at s k) (omega arith)) ∙ ap (take at) (take-paste l at s k h g)
     ∙ take_at (take at l) (take k s) at (length-take-le at l h)
 
--- words written from where step n begins, or from the end if there is none: those before stay
-pub front-of : (l l1 : List ℕ) (n at : ℕ) → length l1 ≡ length l → (n * 4 ≤ length l → at ≡ n * 4) → (length l < n * 4 → at ≡ length l) → take at l1 ≡ take at l → take (n * 4) l1 ≡ take (n * 4) l
-front-of l l1 n at k cut end e =
-    elim (dec_le (n * 4) (length l)) [
-      | yes h ↦ rw (← cut h) e
-      | no h ↦
-          let z = end (omega arith) in
-          take_all (n * 4) l1 (omega (arith, k)) ∙ sym (take_all at l1 (omega (arith, k, z))) ∙ e ∙ take_all at l (omega (arith, z)) ∙ sym (take_all (n * 4) l (omega arith))
-    ]
-
 -- words pasted behind n steps
 pub paste-behinds : (l l1 s : List ℕ) (n size : ℕ) (rs : List Row) → size * 4 ≤ length s → take (size * 4) s ≡ layout rs
     → (n * 4 + size * 4 ≤ length l → l1 ≡ paste l (n * 4) s (size * 4)) → Behinds l n rs l1 (n + size)

@@ -81,8 +81,8 @@ fn find_called(acts: &[u32], blocks: &[u32], i: usize) -> Option<usize>
 }
 
 // Which block each action calls, looked up once for an image: 0 for none, k + 1 for block k. Tables of 4,096 words have no number above 512.
-// kept: a number, and no Option, as 512 of them stand on the stack, which firmware sets aside for good: an Option<u16> takes twice the room, so 1,024 bytes more in
-// each call that flattens, 5 in 100 of the 20,712 of a run.
+// kept: a number of 16 bits, and no Option (docs/DECISIONS.md, 161): 512 of them stand on the stack, which firmware sets aside for good, and an Option<u16> takes twice the
+// room, so 1,024 bytes more in each call that flattens, 5 in 100 of a run's.
 // kept: an index of both. Tried by `calls.iter_mut().zip(acts.chunks_exact(8))`: what the function ensures does not close, since nothing is known of the words that
 // come back from an adapter of `iter_mut`.
 pub fn find_calls(acts: &[u32], blocks: &[u32], calls: &mut [u16])

@@ -1,12 +1,11 @@
 -- The code's tables of rows are the specification's, each row padded with void fields. Assumes nothing.
 use mathlib.Core.Path.{◌≡◌, refl, sym, ◌∙◌}
 use mathlib.Core.List.{List, [], ◌∷◌, map}
-use Prim.Native.Nat.{ℕ, ◌-◌, ◌<◌, ◌≤◌}
+use Prim.Native.Nat.{ℕ, ◌<◌, ◌≤◌}
 use native.Mathlib.Omega.{arith}
-use borrow.Author.Tests.{ne_eqb}
 use lib.ListN.{length, get_or, get_or-map, get_or-eq_default, length-append, length-replicate}
 use Rattle.model.specs.declared.Field.{Field}
-use Rattle.model.specs.Rows.{void, action_rows, reading_rows, kind_field, field_of}
+use Rattle.model.specs.Rows.{void, action_rows, reading_rows}
 use Rattle.image.specs.Tables.{number_of}
 use Rattle.image.specs.declared.layout.Table.{Table}
 use Rattle.image.specs.declared.layout.Table.TheVariants.{Rules, Blocks, Triggers, Conditions, Actions, Values, Bounds, Pool}
@@ -55,10 +54,3 @@ kinded Actions r b p = (omega arith, omega arith)
 kinded Values r b p = (omega arith, omega arith)
 kinded Bounds r b p = (omega arith, omega arith)
 kinded Pool r b p = absurd (p refl)
-
--- field j of such a record, behind its kind
-pub later-is : (t : Table) (kind code j : ℕ) → (t ≡ Rules → ⊥) → (t ≡ Blocks → ⊥) → (t ≡ Pool → ⊥) → (j ≡ 0 → ⊥) → kind_field (number_of t) kind code (j - 1) ≡ field_of (number_of t) kind code j
-unfolding field_of
-later-is t kind code j r b p n =
-    let k = kinded t r b p in
-    rw (ne_eqb (number_of t) 0 (λ z. omega (arith, z, k.0)), ne_eqb (number_of t) 1 (λ z. omega (arith, z, k.0)), ne_eqb (number_of t) 7 (λ z. omega (arith, z, k.1)), ne_eqb j 0 n)

@@ -50,10 +50,6 @@ said-cut bytes = go (nat_lt 262144 (length bytes)) refl
     go false e = let h = ltb-false 262144 (length bytes) e in ap (said room) (take_all 262145 bytes (omega arith))
 
 -- A LINE ENDS ------------------------------------------------------------------------------------------------------------------------
-pub obeys_by : (q : Parsed) (s r : Player) (l : Line) → l ≡ q.line
-    → Does (obeyed 24576 327680 s.number l q.list q.text s.lent.settings s.lent.store) r.lent.store s.output r.output
-    → r.lent.settings ≡ settings_after l s.lent.settings → r.number ≡ s.number → Obeys q s r
-obeys_by q s r l e d t n = record { does = rw e at d; settings = rw e at t; number = n }
 
 pub line-ended : (s r : Player) (k : ℕ) (empty : ArrayVec ℕ) (p : Play) → Stands s p → k ≡ min (s.number + 1) max64 → empty.items ≡ []
     → Obeys (said room s.line.items) (record { number = k; line = s.line; list = s.list; lent = s.lent; output = s.output }) r

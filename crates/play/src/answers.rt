@@ -122,6 +122,7 @@ fn outcome_of(out: &mut Output, i: u32, outcomes: &[u32], effects: &[u32])
 fn outcomes_of(out: &mut Output, count: u32, outcomes: &[u32], effects: &[u32])
     ensures { Gathers out.old (outcome_lines outcomes.now effects.now count) out.new }
 {
+    // kept: places, for the reason at `rows`.
     for i in 0..count {
         outcome_of(out, i, outcomes, effects);
     }

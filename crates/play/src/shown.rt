@@ -20,6 +20,7 @@ impl fmt::Display for Words<'_> {
     ghost output = { λ w. Some (numbers (words_at w.words.now w.at w.count)) };
 
     fn fmt<W: fmt::Write>(&self, f: &mut fmt::Formatter<W>) -> fmt::Result {
+        // kept: places, since a word past the end is printed too, as zero.
         for i in 0..self.count {
             write!(f, " {}", fields::word(self.words, self.at + i))?;
         }

@@ -71,13 +71,3 @@ bodies_of before bodies size begin end own r ea ee eo er = omega arith
 pub part-ends : (f g : ℕ → ℕ) (i end begin own : ℕ) → end ≡ total i (λ k. f k + g k) → begin ≡ total i (λ k. f k + g k) + f i → own ≡ g i → begin + own ≡ total (i + 1) (λ k. f k + g k)
 unfolding total
 part-ends f g i end begin own ee ea eo = rw add-one (omega arith)
-
-pub all-summed : (img : List ℕ) (n i : ℕ) (s : Sums) → n ≤ i → i ≤ n → n ≡ size_of img rules → s.starts ≡ total i (starts_of img)
-    → s.effects ≡ total i (λ k. starts_of img k * effects_of_start img k) → s.longest ≡ greatest i (λ k. max (own_steps img k) (body_steps img k)) → Summed img s
-all-summed img n i s le ge en ea ee el =
-    let q : i ≡ size_of img rules = omega arith in
-    record {
-      starts = ea ∙ ap (λ k. total k (starts_of img)) q;
-      effects = ee ∙ ap (λ k. total k (λ j. starts_of img j * effects_of_start img j)) q;
-      longest = el ∙ ap (λ k. greatest k (λ j. max (own_steps img j) (body_steps img j))) q;
-    }

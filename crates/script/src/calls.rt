@@ -67,7 +67,7 @@ struct Shape {
 }
 
 impl Shape {
-    // kept: the struct's own literal, as it would be no plainer: with the names of its fields a row of the table would be four lines.
+    // kept: a function for the struct's literal, which would be no plainer: with the names of its fields a row of the table would be four lines.
     fn new(name: &'static str, params: &'static [Param], tail: Tail) -> Self
         ensures name { result.name.now ≡ name.now }
         ensures params { result.params.now ≡ params.now }

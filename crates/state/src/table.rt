@@ -19,7 +19,7 @@ fn row_of(t: &[u32], width: usize, i: usize) -> &[u32]
 }
 
 // How many of the first m rows stay: those whose value at word `at` passes.
-// kept: tried `(0..m).filter(..).count()`: its closure reads a row and calls `stays`, so it has to ask again all four clauses of this function.
+// kept: tried `(0..m).filter(..).count()`: its closure reads a row and calls `stays`, so it has to ask again all three clauses of this function.
 pub fn count_kept<R: Row, F: Fn(R) -> bool>(
     t: &[u32],
     width: usize,

@@ -56,7 +56,8 @@ impl State {
         Some(x.value)
     }
 
-    // The variable of the name holds the value, unless the name is new and 16 variables stand: whether it does. A bool, since where it does not there is one cause.
+    // The variable of the name holds the value, unless the name is new and 16 variables stand: whether it does.
+    // kept: a bool, for the reason at `try_arm_timer`.
     pub fn try_set_variable(&mut self, name: u32, value: VarValue) -> bool
         ensures means { Means self.new (base self.old) (assigned name value (meaning self.old)) }
         ensures room { result ≡ not (lacks_room name (meaning self.old)) }

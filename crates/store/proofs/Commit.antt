@@ -168,6 +168,3 @@ wrote w v w' a e =
       placed = e ∙ ap (laid w state_place) c;
       long = ap length (sym c) ∙ length-take-le changing_words v (omega (arith, a.sound.long));
     }
-
-pub state-fits : (w v : List ℕ) → length w ≡ 16384 → Sound v → state_place + length (take changing_words v) ≤ length w
-state-fits w v l s = rw (length-take-le changing_words v (omega (arith, s.long))) (omega arith)

@@ -59,7 +59,7 @@ fn sets(x: Effect, lamp: u32) -> bool
 }
 
 // Whether the lamp is set before a record that cuts.
-// kept: no chain. Tried, and proved: by take_while and any the list of 4,096 levels of as many lamps takes 11.1 ms, where the loop takes 5.7.
+// kept: no chain, which takes about twice the time: tried, and proved: by take_while and any the list of 4,096 levels of as many lamps takes 11.1 ms, where the loop takes 5.7.
 fn is_set_from(effects: &[u32], lamp: u32) -> bool
     ensures { result ≡ is_set zero lamp (effects_from zero effects.now) }
 {

@@ -44,6 +44,7 @@ impl Window {
     }
 
     // A minute of one day is due.
+    // kept: days and minute side by side, here and in next: a struct of both would be made at once where a trigger is taken apart, and hold a bound that two sums ask for.
     fn day_due(self, days: u32, minute: u64, day: u32) -> bool
         requires { (minute ≤ 61 * max32) × (day < 7) }
         ensures { result ≡ day_due self.base self.window days minute day }

@@ -42,6 +42,7 @@ fn no_kind(unsynced: bool) -> WallKind
 }
 
 // A trigger that is due at a minute of the day, as the sun has it.
+// kept: window and missed, here and below, side by side: each turn has a `missed` of its own, and a struct of both would be made anew in each.
 fn solar_kind(
     snapshot: &[u32],
     window: Window,

@@ -1,6 +1,7 @@
 -- `image::layout::Image::slots` meets its contract. Assumes nothing.
 use Prim.Native.Nat.{ℕ, ◌+◌}
 use mathlib.Core.Bool.{Bool}
+use native.Mathlib.Omega.{arith}
 use mathlib.Core.Path.{◌∙◌}
 use native.Mathlib.Nat.{sub-zero}
 use lib.Dec.{eqb}
@@ -18,4 +19,4 @@ returns c =
     let n = c.word_at-n.result in
     let test : ℕ → Bool = λ j. eqb (word_at c.args.self.now triggers (c.word_at-start.result + j) 0) 1 in
     rw (← c.word_at-n.ensures, ← c.word_at-start.ensures)
-    (count_from_yields_List _ _ c.count.ensures.ran (YieldsList-from_filter _ test (YieldsList-from_range 0 n n c.filter.ensures.source (sub-zero n)) c.filter.ensures.closure (λ x b q k. search rules)) ∙ (length-filter test _ ∙ counted test n))
+    ((count_from_yields_List _ _ c.count.ensures.ran (YieldsList-from_filter _ test (YieldsList-from_range 0 n n c.filter.ensures.source (sub-zero n)) c.filter.ensures.closure (λ x b q k. search rules)) ∙ (length-filter test _ ∙ counted test n)), omega arith)
