@@ -64,7 +64,6 @@ module _ (w img : List ℕ) (s : Store) (e : read w ≡ Some s) (i : Readable w 
       loaded-by w img s e set l (sym (i r.readable ∙ image-read w s r set l))
 
 module _ (w img : List ℕ) (s : Store) (l : LoadedImage w img s) where
-
   pub named-loaded : (name : ℕ) → rule_in s.loaded name ≡ rule_named img name
   named-loaded name = ap (λ (o : Option RuleSet). rule_in o name) l.is ∙ ap (λ (x : List ℕ). rule_named x name) l.image
 
@@ -78,7 +77,6 @@ inside None name i e = absurd (none-some i e)
 inside (Some set) name i e = (named_rule set.image name i e).0
 
 module _ (w : List ℕ) (s : Store) (e : read w ≡ Some s) (name : ℕ) (r : Option ℕ) (q : r ≡ rule_in s.loaded name) where
-
   module _ (i : ℕ) (n : r ≡ Some i) (x : Option ℕ) where
     kept_there : (xs : List (Option ℕ)) → get_or xs i None ≡ kept s.loaded (take (rule_count s.loaded) xs) name
     kept_there xs =
