@@ -8,17 +8,17 @@ use Rattle.model.specs.Lists.{present}
 use Rattle.model.specs.State.{Store}
 use Rattle.model.specs.Store.{read, write}
 use Rattle.model.specs.Calls as model
-use Rattle.model.specs.Calls.{Call, deadline, counters, done, refused, enabled, handled, due, counted, answered, counters_of, call}
+use Rattle.model.specs.Calls.{Call, done, refused, enabled, handled, due, counted, answered, call}
 use Rattle.model.specs.Answers as answers
 use Rattle.model.specs.OnWords.{result, store_refusal, store_after, outcome_words_of, effect_words_of, on_store, call_on}
 use Rattle.model.proofs.StoreLaws.{write_read}
-use Rattle.engine.specs.Seen.{seen, refusal_of}
+use Rattle.engine.specs.Seen.{Seen, seen, refusal_of}
 use Rattle.std.specs.Prelude.{Err, replicate}
 use Rattle.model.specs.Refusals.{refusal_code}
 use Rattle.model.specs.declared.Refusal.{Refusal}
 use Rattle.model.proofs.RefusalLaws.{refusal-some}
 use Rattle.model.specs.Asked.{Asked, declined, shown_result}
-use Rattle.engine.specs.Asked.{lowest_of, asked_of, asked, seen_asked}
+use Rattle.engine.specs.Asked.{lowest_of, asked_of, asked}
 use Rattle.engine.proofs.Seeing.{OnStore}
 
 -- THE CHECKS ----------------------------------------------------------------------------------------------------------------------------
@@ -58,6 +58,10 @@ unchanged (enabled b) s w e = e
 unchanged (handled os) s w e = e
 unchanged (due t) s w e = e
 unchanged (counted cs) s w e = e
+
+-- what is seen of a call that asks as of one of the eight calls: the store's words stay, and there are no outcomes
+abbrev pub seen_asked : Asked → List ℕ → Seen
+seen_asked a w = record { number = a.number; values = a.values; store = w; outcomes = []; effects = [] }
 
 -- a call whose answer has no outcomes, and which is lent nothing for them
 module _ (c : Call) (ow : outcome_words_of c ≡ 0) (ew : effect_words_of c ≡ 0) where

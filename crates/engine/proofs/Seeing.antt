@@ -1,6 +1,6 @@
 -- What a caller sees of the specification's calls on words, case by case. Assumes nothing.
 use mathlib.Core.Path.{◌≡◌, refl, sym, ap, ◌∙◌}
-use mathlib.Core.Bool.{Bool, true, false, cond, false≢true}
+use mathlib.Core.Bool.{Bool, true, false, cond}
 use mathlib.Core.List.{List, []}
 use Rattle.std.specs.Prelude.{Option, None, Some, Result, Ok, Err, ⊤}
 use Prim.Native.Nat.{ℕ, ◌-◌}
@@ -12,7 +12,6 @@ use Rattle.model.specs.State.{Store}
 use Rattle.model.specs.Refusals.{refusal_code, refusal_number}
 use Rattle.model.specs.declared.Refusal.{Refusal}
 use Rattle.model.specs.declared.Refusal.TheVariants.{StoreLength}
-use Rattle.model.specs.Lists.{present}
 use Rattle.model.specs.Field.{unless}
 use Rattle.model.specs.Store.{read, write}
 use Rattle.model.specs.Outcome.{Outcome}

@@ -9,10 +9,9 @@ use Rattle.model.specs.Lists.{present}
 use Rattle.model.specs.Codec.{wide}
 use Rattle.model.specs.Parts.{any, slot_row, loaded_part}
 use Rattle.model.specs.State.{Volatile, Store}
-use Rattle.model.specs.Store.{loaded_of, volatile_in, rule_count, read, write, Keeps}
+use Rattle.model.specs.Store.{loaded_of, read, write, Keeps}
 use Rattle.model.proofs.StoreLaws.{write_read}
 use Rattle.rows.specs.Places.{row_at, table_at, laid}
-use Rattle.state.specs.Meaning.{AllNumbered}
 use Rattle.store.specs.Places.{set_place, slots_place}
 use Rattle.store.specs.Volatile.{Wrote, changing_in}
 use Rattle.store.proofs.Parts.{slots_at}

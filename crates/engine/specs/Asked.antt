@@ -9,7 +9,6 @@ use Rattle.model.specs.World.{world_of}
 use Rattle.model.specs.Asked.{Asked, declined}
 use Rattle.next.specs.NextStart.{next_start, start_values}
 use Rattle.next.specs.declared.NextStart.{NextStart}
-use Rattle.engine.specs.Seen.{Seen}
 
 -- the lowest refusal: that of the words w, if they are no store, before the one of what else is given, `other`, 0 where that is accepted
 abbrev pub lowest_of : Option Store → List ℕ → ℕ → ℕ
@@ -24,10 +23,6 @@ asked_of (Some s) w (suc other) n answer = declined n (suc other)
 -- a call on the words w, lent n words, that answers from what a store holds
 unfoldable pub asked : List ℕ → ℕ → ℕ → (Store → Asked) → Asked
 asked w other n answer = asked_of (read w) w other n answer
-
--- what is seen of it as of one of the eight calls: the store's words stay, and there are no outcomes
-abbrev pub seen_asked : Asked → List ℕ → Seen
-seen_asked a w = record { number = a.number; values = a.values; store = w; outcomes = []; effects = [] }
 
 -- NEXT START: document 02, request 7
 abbrev pub start_asked : NextStart → Asked

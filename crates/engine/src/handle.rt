@@ -34,10 +34,9 @@ pub enum EngineInput {
 fn fits(lent: &Lent) -> Result<(), Refusal>
     ensures { refusal_number result ≡ over_of (length lent.now.outcomes.now) (length lent.now.effects.now) (carried_by lent.now) }
 {
-    if lent.outcomes.len() / activate::OUTCOME_WORDS < lent.handled.outcomes as usize {
-        return Err(Refusal::LentStores);
-    }
-    if lent.effects.len() / lent_words::EFFECT_WORDS < lent.handled.effects as usize {
+    if lent.outcomes.len() / activate::OUTCOME_WORDS < lent.handled.outcomes as usize
+        || lent.effects.len() / lent_words::EFFECT_WORDS < lent.handled.effects as usize
+    {
         return Err(Refusal::LentStores);
     }
     if !lent.state.next_fits() {

@@ -78,7 +78,8 @@ pub fn enable(store: &mut [u32], rule: u32, on: bool) -> Result<bool, Refusal>
     let mut v = State::new();
     checked.begin(&mut v);
     v.set_enabled(rule, i as usize, on);
-    // This opens the value, so that what is known of it can be cited; no code comes of it.
+    // kept: this opens the value, so that what its type says of the words can be cited; no code comes of it. Without it, a clause of
+    // each function that changes a `State` would say again that its words are sound.
     let _ = &v.words;
     store::volatile::put_state(words, &v);
     Ok(true)

@@ -23,7 +23,7 @@ pub fn without_set(store: &Checked, v: &mut State)
     v.drop_all();
     v.drop_every();
     v.unset_rules(0);
-    // This opens the value, so that what is known of it can be cited; no code comes of it.
+    // kept: see `enable`.
     let _ = &v.words;
 }
 
@@ -73,6 +73,6 @@ pub fn with_set(store: &Checked, image: &Loadable, time: u64, v: &mut State)
     every::rebuild_every(&tables, &old, time, v);
     v.drop_all();
     put_rules(store, &tables, v);
-    // This opens the value, so that what is known of it can be cited; no code comes of it.
+    // kept: see `enable`.
     let _ = &v.words;
 }

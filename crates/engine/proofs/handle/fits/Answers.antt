@@ -3,12 +3,13 @@ use borrow.Author.Tests.{not-true, not-false}
 use Rattle.activate.specs.Carried.{carried_by}
 use Rattle.engine.proofs.HandlingLaws.{outcomes-over, effects-over, numbers-over, last-over, all-fits}
 use Rattle.engine.proofs.handle.fits.Goals as goal
+use Rattle.engine.proofs.handle.fits.Goals.{then-lent-via-then-lent, then-lent-via-else-lent+then-lent-2}
 
 pub returns-then-lent : goal.returns-then-lent
-returns-then-lent c = outcomes-over _ _ (carried_by c.args.lent.now) c.if-lent.true
-
-pub returns-then-lent-2 : goal.returns-then-lent-2
-returns-then-lent-2 c = effects-over _ _ (carried_by c.args.lent.now) c.if-lent-2.true
+returns-then-lent c = elim c.then-lent.branch [
+  | then-lent-via-then-lent w ↦ outcomes-over _ _ (carried_by c.args.lent.now) w.if-lent.true
+  | then-lent-via-else-lent+then-lent-2 w ↦ effects-over _ _ (carried_by c.args.lent.now) w.if-lent-2.true
+]
 
 pub returns-then-not-next_fits : goal.returns-then-not-next_fits
 returns-then-not-next_fits c =
