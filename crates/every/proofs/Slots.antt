@@ -98,8 +98,8 @@ rule_slots img old now i = slots_from old now (name_of img i) 0 (triggers_of img
 
 -- rule k in order, and those behind it
 module _ (f : ℕ → List EverySlot) (order : List ℕ) (k : ℕ) where
-  pub rule-left : (i : ℕ) → k < length order → i ≡ get_or order k 0 → Next (flatten (map f (drop k order))) (f i) (flatten (map f (drop (k + 1) order)))
-  rule-left i h e = record { parts = rw (drop-cons order k 0 h, add-one, ← e) }
+  pub rule-left : (shown : List ℕ) → shown ≡ order → k < length shown → Next (flatten (map f (drop k order))) (f (get_or shown k 0)) (flatten (map f (drop (k + 1) order)))
+  rule-left shown e h = let l : k < length order = rw e at h in record { parts = rw (drop-cons order k 0 l, add-one, e) }
 
   pub no-rule-left : length order ≤ k → flatten (map f (drop k order)) ≡ []
   no-rule-left h = let e : drop k order ≡ [] = drop_of_length-le order {i = k} h in rw e
