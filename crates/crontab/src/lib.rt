@@ -23,6 +23,7 @@ fn fields_fit(line: &[u8]) -> bool
     Field::ALL.iter().all(|field| field.fits(line))
 }
 
+// kept: `line` and `sunday` side by side, here, below and in table.rt, as the call has them: a struct of both would be made by `read` alone.
 #[tactic(auto, unfolding(model::specs::Crontab::of_the_form))]
 fn of_the_form(line: &[u8], sunday: u32) -> bool
     ensures { result ≡ of_the_form line.now sunday }

@@ -17,22 +17,24 @@ pub struct Key {
     pub period: u32,
 }
 
-impl Key {
-    pub fn of(x: EverySlot) -> Key
-        ensures { result ≡ record { rule = x.rule; place = x.place; period = x.period } }
-    {
+impl From<EverySlot> for Key {
+    ghost from_gives = { λ x key. key ≡ record { rule = x.rule; place = x.place; period = x.period } };
+
+    fn from(x: EverySlot) -> Key {
         Key {
             rule: x.rule,
             place: x.place,
             period: x.period,
         }
     }
+}
 
+impl Key {
     // Whether a slot is the one known by this.
     pub fn is_of(self, x: EverySlot) -> bool
         ensures { result ≡ same_slot self.rule self.place self.period x }
     {
-        Key::of(x) == self
+        Key::from(x) == self
     }
 }
 
@@ -55,5 +57,5 @@ pub fn same(slots: &Slots, others: &Slots) -> bool
         && slots
             .iter()
             .zip(others.iter())
-            .all(|(x, y)| Key::of(y).is_of(x))
+            .all(|(x, y)| Key::from(y).is_of(x))
 }

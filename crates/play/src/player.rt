@@ -29,6 +29,7 @@ pub struct Player {
 }
 
 // What a line says.
+// kept: the clause `list`, which the type says too: without it `obey`, where the list is cut, is not proved (tried).
 fn say(line: &[u8], list: &mut [u32; LIST_WORDS]) -> Result<Option<Command>, Wrong>
     ensures parses { Parses (said room line.now) list.old list.new result }
     ensures finds { IfOk result (λ o. IfSome o (Finds (said room line.now) line.now list.new)) }

@@ -14,6 +14,11 @@ pub const EFFECT_WORDS: usize = 327680;
 
 pub const LIST_WORDS: usize = 8192;
 
+// The words of a store, and of the triggers of a line of a crontab at most.
+const STORE_WORDS: usize = 16384;
+
+const TRIGGER_WORDS: usize = 16384;
+
 #[derive(Clone, Copy, PartialEq, Eq)]
 pub enum Call {
     New,
@@ -199,9 +204,9 @@ impl Param {
             Param::Mark | Param::DryMark => 1,
             Param::OutcomeWords => OUTCOME_WORDS as u64,
             Param::EffectWords => EFFECT_WORDS as u64,
-            Param::Place => 16383,
+            Param::Place => STORE_WORDS as u64 - 1,
             Param::Room => LIST_WORDS as u64,
-            Param::TriggerWords => 16384,
+            Param::TriggerWords => TRIGGER_WORDS as u64,
         }
     }
 }

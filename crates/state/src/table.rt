@@ -63,6 +63,7 @@ fn move_row(t: &mut [u32], width: usize, from: usize, to: usize)
 }
 
 // The rows that stay close up; how many they are.
+// kept: the two clauses on the closure, here, in timers.rt and in pending.rt: one definition of both would take what F promises as arguments, and each caller open it again.
 pub fn close_up<R: Row, F: Fn(R) -> bool>(
     t: &mut [u32],
     width: usize,

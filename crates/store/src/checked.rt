@@ -64,6 +64,7 @@ impl<'a> Checked<'a> {
     }
 
     // The loaded image; nothing where no set is loaded.
+    // kept: no `then`, as it would be no plainer: its closure would ask what the branch knows, that a set is loaded.
     pub fn image(&self) -> Option<Image<'a>>
         ensures value { result ≡ option_map (λ (set : RuleSet). set.image) self.now.loaded }
         ensures accepted { MatchOption result ⊤ (λ img. image_refusal img ≡ 0) }
