@@ -16,13 +16,12 @@ use Rattle.model.specs.Wheel.{week_minute}
 use Rattle.model.specs.World.{World}
 use Rattle.model.specs.declared.WallTime.{WallTime}
 use Rattle.model.specs.declared.SunTimes.{SunTimes}
+use Rattle.next.proofs.BestStart.{made, made_same}
 use Rattle.next.specs.NextStart.{FirstStart, NextStart, NoStart, ClockUnknown, Start, clock_known, first_from, starts_in, minutes_ahead, name_ahead, start_or_none, next_from, next_of_set, next_start}
 use Rattle.next.proofs.First.{at_least, before, passes}
 use Rattle.next.proofs.Lowest.{Named, none_passes, all-fail, lowest-least, lowest-named}
 
 -- THE PARTS OF AN ANSWER ----------------------------------------------------------------------------------------------------------
-abbrev made : ℕ → ℕ → FirstStart
-made m r = record { minutes = m; name = r }
 
 minutes_of : NextStart → ℕ
 minutes_of NoStart = 0
@@ -43,9 +42,6 @@ is_unknown : NextStart → Bool
 is_unknown NoStart = false
 is_unknown ClockUnknown = true
 is_unknown (Start x) = false
-
-made_same : (m m' r r' : ℕ) → m ≡ m' → r ≡ r' → made m r ≡ made m' r'
-made_same m m' r r' e f = rw (e, f)
 
 took : (b : Bool) (m r m' r' : ℕ) → start_or_none b m r ≡ Some (made m' r') → (b ≡ true) × (m ≡ m') × (r ≡ r')
 unfolding minutes_of rule_of is_start

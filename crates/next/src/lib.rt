@@ -22,8 +22,9 @@ pub struct FirstStart {
 }
 
 // What starts next in the world of a snapshot.
-// kept: no Option, as it would be no plainer: there are three answers, and an unknown clock is neither a start nor none. Without a clock nothing is asked of
-// this crate, so that only `engine` makes this of the Option that it gets.
+// kept: no Option, as there are three answers; and no `Result<Option<FirstStart>, ClockUnknown>`, which would be no plainer: it stands in the Result of
+// `engine::next_start`, whose error is a refusal, and `Ok(Err(ClockUnknown))` is no refusal. Without a clock nothing is asked of this crate, so that only
+// `engine` makes this of the Option that it gets.
 #[derive(Clone, Copy)]
 pub enum NextStart {
     NoStart,
