@@ -38,7 +38,8 @@ fn numbers(text: &[u8], call: Call) -> Result<([u64; 4], &[u8]), Wrong>
 }
 
 // Word n of a list.
-// kept: the match of `number` once more, over the two errors that the specification has for a word of a list.
+// kept: the match of `number` once more, over the two errors that the specification has for a word of a list. One function of both would be no plainer: it would
+// be given both errors, made at each call, of which an arm names one here.
 fn item(word: &[u8], call: Call, n: usize) -> Result<u32, Wrong>
     ensures { result ≡ word_number call n (argument_of max32 word.now) }
 {
