@@ -94,6 +94,8 @@ pub struct Progress {
 
 // The bodies of a rule's afters: the words that they are written into, those that they are compared with, how many steps they are, and
 // whether they are so far those to be compared.
+// kept: words with a count beside them, and no `ArrayVec`: the words are a tail of the store's (document 01, "Where each form belongs"), which may be too short, and
+// steps are counted past its end.
 #[derive(Drop)]
 pub struct Bodies<'a> {
     pub words: &'a mut [u32],

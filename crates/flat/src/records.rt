@@ -8,8 +8,8 @@ ghost use Rattle.flat.specs.Outcome.{action_in, block_at, called_in, Resolved};
 use model::{FlowAction, Record};
 
 // The first six words of record i.
-// kept: no function shared with `Image::record_at` and `record_from`: those read through a table of an image, where a word past its end is 0, this one words that a
-// clause says are there. One function of six words would be given the six reads at each of the three, and be no shorter.
+// kept: no function shared with `Image::record_at`, which reads through fields' `Records`, where a word past the end is 0; here a clause says that the words are
+// there. Shared it would be no plainer: a method of `Records` that reads six words, which of tables with one word to a record are not one record's.
 pub fn read_record(t: &[u32], i: usize) -> Record
     requires { i < length t.now / 8 }
     ensures { result ≡ record_in t.now i }

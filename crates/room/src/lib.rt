@@ -21,6 +21,7 @@ const MOST_TIMERS: u64 = 16;
 const MOST_PENDING: u64 = 32;
 
 // The set of an image needs room for so many outcomes and so many effects.
+// kept: beside activate's `Handled`, of the same two fields, which says how many there were: one type would let a room be told for what was done.
 #[derive(Clone, Copy)]
 pub struct Needed {
     pub outcomes: u32,
