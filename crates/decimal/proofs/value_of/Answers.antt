@@ -1,11 +1,8 @@
 -- `decimal::value_of` meets its contract. Assumes nothing.
-use mathlib.Core.Path.{refl, ◌∙◌}
+use mathlib.Core.Path.{◌∙◌}
 use native.Mathlib.Omega.{arith}
 use Rattle.decimal.proofs.DigitLaws.{value-goes, value-over, value-ends}
 use Rattle.decimal.proofs.value_of.Goals as goal
-
-pub loop-b-init : goal.loop-b-init
-loop-b-init c = (omega arith, refl)
 
 pub returns-in_err-checked_mul : goal.returns-in_err-checked_mul
 returns-in_err-checked_mul c =
