@@ -188,9 +188,6 @@ module _ (ds : ℕ) (ts w : List ℕ) where
     pub long : length store ≡ length w
     pub ahead : written ds store k (drop k ts) ≡ written ds w 0 ts
 
-  pub none-wrote : Wrote 0 w
-  none-wrote = record { long = refl; ahead = refl }
-
   -- minute t is the next, in place n
   pub record Next (k n t : ℕ) : Type 0 where
     pub within : k < length ts

@@ -7,11 +7,8 @@ use Rattle.std.proofs.lemmas.List.FromFn.{length-enumerate_from}
 use Rattle.std.proofs.lemmas.Iterator.{YieldsList-from_range}
 use Rattle.std.proofs.lemmas.Iterator.Consumers.{YieldsList-at, YieldsList-from_filter, YieldsList-from_enumerate}
 use Rattle.crontab.specs.Scanned.{marked, marked_minutes}
-use Rattle.crontab.proofs.Lines.{marked-of-day, turn-by, end_by, none-wrote, next-of, room-for, one-wrote, all-wrote}
+use Rattle.crontab.proofs.Lines.{marked-of-day, turn-by, end_by, next-of, room-for, one-wrote, all-wrote}
 use Rattle.crontab.proofs.table.Marks.write.Goals as goal
-
-pub loop-n-init : goal.loop-n-init
-loop-n-init c = none-wrote _ _ _
 
 pub put-requires : goal.put-requires
 put-requires c =
