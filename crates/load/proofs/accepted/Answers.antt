@@ -20,6 +20,3 @@ returns-then-not-few_enough-clause-number c =
 pub returns-clause-number : goal.returns-clause-number
 returns-clause-number c =
     few _ _ (rw c.new-image.ensures at c.few_enough.ensures) (not-false _ c.if-not-few_enough.false-raw) ∙ steps _ _ _ c.in_ok-flatten_rules.ensures.value
-
-pub returns-clause-rows : goal.returns-clause-rows
-returns-clause-rows c = c.in_ok-flatten_rules.ensures.stored.rows
