@@ -1,11 +1,11 @@
 -- Counting the triggers of a rule, one after the other: those so far, and those that are left.
-use mathlib.Core.Path.{◌≡◌, refl, ◌∙◌, ap}
-use Prim.Native.Nat.{ℕ, suc, ◌+◌, ◌-◌, ◌*◌, min, max, ◌≤◌}
+use mathlib.Core.Path.{◌≡◌, refl}
+use Prim.Native.Nat.{ℕ, ◌+◌, ◌-◌, ◌*◌, min, max, ◌≤◌}
 use native.Mathlib.Nat.{mul-le-mul_right}
 use native.Mathlib.Numerals.{add-one}
 use native.Mathlib.Omega.{arith}
-use mathlib.Core.Bool.{Bool, true, false, cond}
-use mathlib.Core.List.{List, [], ◌∷◌}
+use mathlib.Core.Bool.{Bool}
+use mathlib.Core.List.{List, []}
 use lib.ListN.{length}
 use Rattle.model.specs.declared.Trigger.{Trigger}
 use Rattle.model.specs.Wheel.{is_wall_trigger}
@@ -21,23 +21,7 @@ pub record Counted (p : Trigger → Bool) (ts left : List Trigger) (x : ℕ) : T
   pub few : x + length left ≤ length ts
   pub whole : x + count p left ≡ count p ts
 
-one_at_most : (b : Bool) → cond b 1 0 ≤ 1
-one_at_most true = omega arith
-one_at_most false = omega arith
-
 module _ (p : Trigger → Bool) (ts : List Trigger) where
-  pub begins : (left : List Trigger) (x : ℕ) → left ≡ ts → x ≡ 0 → Counted p ts left x
-  begins left x e z = let a : count p left ≡ count p ts = rw e in record { few = omega (arith, ap length e); whole = omega arith }
-
-  pub goes : (left rest : List Trigger) (x y : ℕ) (t : Trigger) → left ≡ t ∷ rest → y ≡ x + cond (p t) 1 0 → Counted p ts left x → Counted p ts rest y
-  goes left rest x y t e q h =
-      let a : count p left ≡ cond (p t) 1 0 + count p rest = rw e in
-      let l : length left ≡ suc (length rest) = rw e in
-      let c = one_at_most (p t) in
-      let f = h.few in
-      let g = h.whole in
-      record { few = omega arith; whole = omega arith }
-
   pub ends : (left : List Trigger) (x : ℕ) → left ≡ [] → Counted p ts left x → x ≡ count p ts
   ends left x e h = let a : count p left ≡ 0 = rw e in let b = h.whole in omega arith
 
