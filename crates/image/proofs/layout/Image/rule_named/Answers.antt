@@ -1,15 +1,18 @@
 -- `image::layout::Image::rule_named` meets its contract. Assumes nothing.
-use mathlib.Core.Path.{◌∙◌}
-use borrow.Author.Tests.{ne_eqb}
-use Rattle.model.specs.Rules.{rule_named}
-use Rattle.image.proofs.Numbers.{search-begins, search-goes}
+use mathlib.Core.Path.{◌≡◌}
+use mathlib.Core.Bool.{true, false}
+use Prim.Native.Nat.{ℕ}
+use lib.Dec.{eqb}
+use borrow.Author.Rules.{rules}
+use Rattle.std.proofs.lemmas.Iterator.{first_from_Range}
+use Rattle.model.specs.Image.{word_at, width_of}
+use Rattle.model.specs.Rules.{name_of, rule_named}
+use Rattle.image.proofs.Numbers.{first-passes}
 use Rattle.image.proofs.layout.Image.rule_named.Goals as goal
 
-pub loop-i-init : goal.loop-i-init
-unfolding rule_named
-loop-i-init c = search-begins _ _ _ c.size_of-n.ensures
-
-pub loop-i-preserved : goal.loop-i-preserved
-loop-i-preserved c =
-    search-goes _ _ _ c.loop-i-test.true (ne_eqb _ _ (λ e. c.if-word_at-name.false (c.word_at.ensures ∙ e)))
-    ∙ c.loop-i.invariant
+pub returns : goal.returns
+unfolding rule_named word_at width_of
+returns c =
+    let p = λ (i : ℕ). eqb (name_of c.args.self.now i) c.args.name in
+    rw (← c.size_of.ensures)
+    (first-passes p c.size_of.result _ (first_from_Range _ _ _ _ (λ i. p i ≡ true) (λ i. p i ≡ false) c.find.ensures.ran (λ x q k. search rules) (λ x q k. search rules)))
