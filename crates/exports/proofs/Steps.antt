@@ -5,7 +5,7 @@ use mathlib.Core.List.{List}
 use Prim.Native.Nat.{ℕ}
 use lib.Dec.{eqb}
 use lib.ListN.{length}
-use borrow.Author.Tests.{eq-eqb, ne_eqb}
+use borrow.Author.Tests.{eq-eqb}
 use Rattle.model.specs.Load.{image_refusal}
 use Rattle.model.specs.Flat.{flatten_rules}
 use Rattle.flat.specs.Load.{stored, loaded}
@@ -14,9 +14,6 @@ use Rattle.std.specs.Result.{result_unwrap_or}
 use Rattle.model.specs.declared.Refusal.{Refusal}
 use Rattle.flat.proofs.FlatPart.{passed}
 use Rattle.flat.proofs.RuleLists.{loaded-steps}
-
-pub refused : (r n steps : ℕ) → r ≡ n → (r ≡ 0 → ⊥) → 0 ≡ cond (eqb n 0) steps 0
-refused r n steps e h = rw (ne_eqb n 0 (λ z. h (e ∙ z))) refl
 
 pub told : (img w : List ℕ) (n : ℕ) (l : Result ℕ Refusal) → w ≡ img → image_refusal w ≡ 0 → l ≡ loaded (flatten_rules w) → n ≡ result_unwrap_or l 0
     → n ≡ cond (eqb (image_refusal img) 0) (length (stored (flatten_rules img))) 0
