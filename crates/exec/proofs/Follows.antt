@@ -3,7 +3,8 @@ use Prim.Native.Nat.{ℕ}
 use mathlib.Core.Path.{◌≡◌, refl, sym, ap, subst, ◌∙◌}
 use mathlib.Core.Bool.{Bool, true, false, not, true≢false}
 use mathlib.Core.List.{List}
-use Rattle.std.specs.Prelude.{None, Ok}
+use Rattle.std.specs.Prelude.{None, Ok, Err}
+use Rattle.std.specs.Result.{IsErr}
 use lib.Dec.{leb}
 use lib.ListN.{length}
 use Rattle.words.specs.Saturating.{saturating_add, max64}
@@ -14,14 +15,25 @@ use Rattle.model.specs.declared.VarValue.{VarValue}
 use Rattle.state.specs.Meaning.{Means, meaning, base}
 use Rattle.state.specs.Named.{armed, assigned, lacks_room}
 use Rattle.exec.specs.Results.{Does, struck}
-use Rattle.exec.specs.Done.{ActionDone, action_done}
+use Rattle.exec.specs.Done.{PrimResult, ActionDone, action_done, counted}
+use Rattle.exec.specs.declared.Unevaluable.{Unevaluable}
 
 pub answers : {v : List ℕ} {r : ActionDone} {a b : model.PrimResult} → Does v r a → a ≡ b → Does v r b
 answers {v} {r} d e = subst (λ (x : model.PrimResult). Does v r x) e d
 
 -- an action that does nothing
 pub does-nothing : {v : List ℕ} → Does v (action_done v (Ok None)) (model.no_effect (meaning v).rest)
-does-nothing = record { state = record { says = refl; based = refl }; effect = refl; reason = refl }
+does-nothing = record { state = refl; based = refl; effect = refl; reason = refl }
+
+-- an action that fails leaves the state as it is
+pub does-fail : {v : List ℕ} {u : Unevaluable} → Does v (action_done v (Err u)) (model.fails (meaning v).rest)
+unfolding model.fails
+does-fail = record { state = refl; based = refl; effect = refl; reason = refl }
+
+-- so does one whose error `?` hands on
+pub hands-on : {v : List ℕ} (r : PrimResult) → IsErr r → Does v (action_done v r) (model.fails (meaning v).rest)
+hands-on (Ok x) h = absurd (true≢false (sym h))
+hands-on (Err u) h = does-fail
 
 -- w has the rest s in place of v's: what is answered of w is answered of v
 pub follows :
@@ -29,9 +41,8 @@ pub follows :
     → Does v r (f s)
 follows f v w r s m d =
     record {
-      state =
-          subst (λ (n : ℕ). Means r.vol n (struck (f s).disables (with_rest (f s).rest (meaning v)))) m.based
-          (subst (λ (x : model-state.Volatile). Means r.vol (base w) (struck (f x.rest).disables (with_rest (f x.rest).rest x))) m.says d.state);
+      state = subst (λ (x : model-state.Volatile). counted r.answer (meaning r.vol) ≡ struck (f x.rest).disables (with_rest (f x.rest).rest x)) m.says d.state;
+      based = d.based ∙ m.based;
       effect = d.effect ∙ ap (λ (x : model-state.Volatile). (f x.rest).effect) m.says;
       reason = d.reason ∙ ap (λ (x : model-state.Volatile). (f x.rest).reason) m.says;
     }

@@ -1,6 +1,7 @@
 -- What an action, a step and a run answer, with the words of the state as they are then.
 use Rattle.std.specs.Prelude.{ℕ, List, Option, None, Result, Ok, Err}
 use Rattle.model.specs.Actions.{condition_unevaluable}
+use Rattle.model.specs.State.{Volatile, with_rest, bump, actions_failed}
 use Rattle.model.specs.declared.Effect.{Effect}
 use Rattle.model.specs.declared.Point.{Point}
 use Rattle.state.specs.Reasons.{reason_number}
@@ -21,14 +22,18 @@ abbrev pub reason_of : PrimResult → ℕ
 reason_of (Ok x) = 0
 reason_of (Err u) = condition_unevaluable
 
--- what an action did
+-- the state with one more action failed, where it did
+abbrev pub counted : PrimResult → Volatile → Volatile
+counted (Ok x) v = v
+counted (Err u) v = with_rest (bump actions_failed v.rest) v
+
+-- what an action did; that it failed is not counted yet
 pub record ActionDone : Type 0 where
   pub vol : List ℕ
-  pub effect : Option Effect
-  pub reason : ℕ
+  pub answer : PrimResult
 
 abbrev pub action_done : List ℕ → PrimResult → ActionDone
-action_done w r = record { vol = w; effect = effect_of r; reason = reason_of r }
+action_done w r = record { vol = w; answer = r }
 
 -- what one paid step did
 pub record StepDone : Type 0 where

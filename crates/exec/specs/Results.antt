@@ -8,21 +8,22 @@ use Rattle.model.specs.declared.Action.{Action}
 use Rattle.model.specs.Steps.{FlatStep}
 use Rattle.model.specs.declared.VarValue.{VarValue}
 use Rattle.model.specs.Eval.{value_at}
-use Rattle.state.specs.Meaning.{Means, meaning, base}
+use Rattle.state.specs.Meaning.{meaning, base}
 use Rattle.eval.specs.Answers.{env_of}
 use Rattle.model.specs.declared.Job.{Job}
-use Rattle.exec.specs.Done.{PrimResult, ActionDone, action_done}
+use Rattle.exec.specs.Done.{PrimResult, ActionDone, action_done, counted, effect_of, reason_of}
 
 -- who disables a rule also strikes its continuations
 abbrev pub struck : Option ℕ → model-state.Volatile → model-state.Volatile
 struck None v = v
 struck (Some q) v = strike q v
 
--- from v the action came to r, and the specification to a
+-- from v the action came to r, and the specification to a: the state with what is counted then is a's
 pub record Does (v : List ℕ) (r : ActionDone) (a : model.PrimResult) : Type 0 where
-  pub state : Means r.vol (base v) (struck a.disables (with_rest a.rest (meaning v)))
-  pub effect : r.effect ≡ a.effect
-  pub reason : r.reason ≡ a.reason
+  pub state : counted r.answer (meaning r.vol) ≡ struck a.disables (with_rest a.rest (meaning v))
+  pub based : base r.vol ≡ base v
+  pub effect : effect_of r.answer ≡ a.effect
+  pub reason : reason_of r.answer ≡ a.reason
 
 -- the state stays as it is, and the answer is the specification's
 abbrev pub AnswersOnly : (Rest → model.PrimResult) → PrimResult → Type 0

@@ -2,8 +2,8 @@
 ghost use Rattle.exec.specs.Done.{action_done};
 ghost use Rattle.exec.specs.Results.{PerformsIn, PerformsAt};
 
-use crate::answers::{emits, fails};
-use crate::{Env, PrimResult, lights, rules, timers, variables};
+use crate::answers::emits;
+use crate::{Env, PrimResult, Unevaluable, lights, rules, timers, variables};
 use image::action::action_of;
 use image::layout::Table;
 use model::{Action, EffectKind};
@@ -93,8 +93,6 @@ pub fn run_prim(env: &Env, v: &mut State, action: Action) -> PrimResult
 pub fn prim_at(env: &Env, v: &mut State, i: u32) -> PrimResult
     ensures { PerformsAt env.now.snapshot.now env.now.image.now env.now.job v.old i (action_done v.new result) }
 {
-    match action_of(env.image.record_at(Table::Actions, i)) {
-        Some(action) => run_prim(env, v, action),
-        None => fails(v),
-    }
+    let action = action_of(env.image.record_at(Table::Actions, i)).ok_or(Unevaluable)?;
+    run_prim(env, v, action)
 }

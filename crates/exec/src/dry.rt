@@ -17,13 +17,11 @@ fn exec_dry(env: &Env, v: &mut State, here: Placed) -> StepResult
     requires { env.now.job.dry ≡ true }
     ensures { DryStepsIn env.now.snapshot.now env.now.image.now env.now.job v.old here.point here.step (step_done v.new result) }
 {
-    let sp = here.point;
     match here.step {
-        Step::Primitive(i) => steps::primitive(env, v, sp, i),
-        Step::Wait(_) => steps::goes_on(advance(sp, 0)),
-        Step::Branch(c, t, n) => steps::run_branch(env, v, sp, c, t, n),
-        Step::After(_) => steps::goes_on(advance(sp, 0)),
-        Step::Fail => steps::fail(v, sp),
+        Step::Primitive(i) => steps::primitive(env, v, here, i),
+        Step::Wait(_) | Step::After(_) => steps::goes_on(advance(here.point, 0)),
+        Step::Branch(c, t, n) => steps::run_branch(env, v, here.point, c, t, n),
+        Step::Fail => steps::fail(v, here),
     }
 }
 

@@ -2,7 +2,7 @@
 // equation with a definition of the specification, on what the words mean before it and after it.
 #![tactic(auto)]
 
-pub mod actions;
+mod actions;
 mod answers;
 pub mod dry;
 mod effects;
@@ -25,9 +25,11 @@ use state::State;
 use state::reasons::Reason;
 
 // What a run is given: the words of the snapshot and of the image, and what it knows of its rule.
-// kept: the state stands beside it in each function, `env, v`: an Env with `&mut State` could not be copied, and would have to be lent again at each call, and taken
-// apart where conditions and values are evaluated, since `eval::Env` has the state shared. A run has its rule's steps beside it too: only what finds the next step
-// reads them, and no action.
+// kept: the state stands beside it in each function, `env, v`. One struct of the four, lent as `&mut`, would let a function change all of them: beside what it does to
+// `env.old.state.now` and `env.new.state.now`, each contract, also that of a `prim_*` which changes nothing else, would have to say that the call goes on with what it was
+// given, `(env.new.snapshot ≡ env.old.snapshot) × (env.new.image ≡ env.old.image) × (env.new.job ≡ env.old.job)`, and each loop to carry it along; and the struct would be
+// taken apart where conditions and values are evaluated, since `eval::Env` has the state shared. As it is, what stays is lent as `&Env`, and needs no clause.
+// A run has its rule's steps beside it too: only what finds the next step reads them, and no action.
 // kept: functions that take it, and no methods, as they would be no plainer: what they change is the state, so that `env` and `v` stand beside each other in both.
 #[derive(Clone, Copy)]
 pub struct Env<'a> {
@@ -56,7 +58,7 @@ impl Env<'_> {
     }
 }
 
-// An action that cannot be evaluated.
+// An action that cannot be evaluated. It is an error up to `steps::after_prim`, which counts it.
 #[derive(Clone, Copy)]
 pub struct Unevaluable;
 

@@ -7,14 +7,14 @@ ghost use Rattle.state.specs.Meaning.{meaning};
 ghost use Rattle.exec.specs.Done.{action_done};
 ghost use Rattle.exec.specs.Results.{Performs, PerformsIn, LevelAt};
 
-use crate::answers::{emits, fails};
-use crate::{Env, PrimResult};
+use crate::answers::emits;
+use crate::{Env, PrimResult, Unevaluable};
 use image::layout::Table;
 use model::{EffectKind, LightAnswer};
 use state::State;
 
 // A light's own hold_hcl, or the rule's.
-#[tactic(auto, unfolding(model::specs::Actions::run_prim, model::specs::Actions::prim_light))]
+#[tactic(auto, unfolding(model::specs::Actions::run_prim, model::specs::Actions::prim_light, model::specs::Actions::fails))]
 pub fn prim_light(
     env: &Env,
     v: &mut State,
@@ -33,7 +33,7 @@ pub fn prim_light(
             0,
         ),
         LightAnswer::Nothing => Ok(None),
-        LightAnswer::Unevaluable => fails(v),
+        LightAnswer::Unevaluable => Err(Unevaluable),
     }
 }
 
@@ -47,20 +47,16 @@ pub fn prim_recall(
 ) -> PrimResult
     ensures { Performs env.now.job v.old (Recall scene mark target) (action_done v.new result) }
 {
-    match scene {
-        Some(scene) => emits(EffectKind::SceneRecall, scene, mark, target, env.job.hold),
-        None => fails(v),
-    }
+    let scene = scene.ok_or(Unevaluable)?;
+    emits(EffectKind::SceneRecall, scene, mark, target, env.job.hold)
 }
 
 #[tactic(auto, unfolding(model::specs::Actions::run_prim, model::specs::Actions::prim_apply))]
 pub fn prim_apply(env: &Env, v: &mut State, scene: Option<u32>) -> PrimResult
     ensures { Performs env.now.job v.old (Apply scene) (action_done v.new result) }
 {
-    match scene {
-        Some(scene) => emits(EffectKind::SceneApply, scene, env.job.hold, 0, 0),
-        None => fails(v),
-    }
+    let scene = scene.ok_or(Unevaluable)?;
+    emits(EffectKind::SceneApply, scene, env.job.hold, 0, 0)
 }
 
 // The rule's position, modulo the length of the list at hand.
@@ -71,12 +67,12 @@ fn cycle_place(v: &State, index: u32, count: u32) -> u32
     v.cycle_pos(index as usize).unwrap_or(0) % count
 }
 
-#[tactic(auto, unfolding(model::specs::Actions::run_prim, model::specs::Actions::prim_cycle))]
+#[tactic(auto, unfolding(model::specs::Actions::run_prim, model::specs::Actions::prim_cycle, model::specs::Actions::fails))]
 pub fn prim_cycle(env: &Env, v: &mut State, first: u32, count: u32) -> PrimResult
     ensures { (snapshot : List ℕ) → PerformsIn snapshot env.now.image.now env.now.job v.old (Cycle first count) (action_done v.new result) }
 {
     if count == 0 {
-        return fails(v);
+        return Err(Unevaluable);
     }
     let at = cycle_place(v, env.job.index, count);
     let scene = env.image.word_from(Table::Pool, first, at, 0);
@@ -104,14 +100,12 @@ pub fn prim_percent(
 ) -> PrimResult
     ensures { PerformsIn env.now.snapshot.now env.now.image.now env.now.job v.old (Percent target hold value) (action_done v.new result) }
 {
-    match level_at(env, v, value) {
-        Some(level) => emits(
-            EffectKind::Level,
-            target,
-            level,
-            hold.unwrap_or(env.job.hold),
-            0,
-        ),
-        None => fails(v),
-    }
+    let level = level_at(env, v, value).ok_or(Unevaluable)?;
+    emits(
+        EffectKind::Level,
+        target,
+        level,
+        hold.unwrap_or(env.job.hold),
+        0,
+    )
 }

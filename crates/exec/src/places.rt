@@ -4,6 +4,7 @@ ghost use Rattle.words.specs.Saturating.{max32};
 ghost use Rattle.model.specs.Steps as model_steps;
 ghost use Rattle.model.specs.Exec as model_exec;
 
+use flat::Placed;
 use model::{Jump, Point};
 
 #[tactic(auto, unfolding(model::specs::Steps::arrive))]
@@ -21,7 +22,8 @@ pub fn arrive(to: Point) -> Point
 }
 
 // The point behind a step, and n steps further on.
-// kept: the room behind a point is a fact of the step that stands there (`Placed`), not of every point, and each call has an n of its own below that step's reach.
+// kept: the room behind a point is a fact of the step that stands there (`Placed`). What needs no more takes that; `advance`, `enter_then` and `run_branch` are given
+// numbers that stand in the step, and ask for the room behind them.
 pub fn advance(sp: Point, n: u32) -> Point
     requires { suc sp.place + n ≤ max32 }
     ensures { result ≡ model_exec.advance sp n }
@@ -49,13 +51,12 @@ pub fn enter_then(sp: Point, t: u32, n: u32) -> Point
     })
 }
 
-// The body of the after at a point of the rule's own list.
-pub fn body_start(sp: Point) -> Point
-    requires { suc sp.place ≤ max32 }
-    ensures { result ≡ model_exec.body_start sp }
+// The body of the after that stands at a point of the rule's own list.
+pub fn body_start(here: Placed) -> Point
+    ensures { result ≡ model_exec.body_start here.point }
 {
     Point {
-        list: sp.place + 1,
+        list: here.point.place + 1,
         place: 0,
         jump: None,
     }

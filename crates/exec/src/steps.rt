@@ -8,9 +8,9 @@ ghost use Rattle.exec.specs.Done.{action_done, step_done};
 ghost use Rattle.exec.specs.Paid.{Follows, GoesOn, SchedulesOf, StepsAlways, StepsAt, StepsIn};
 
 use crate::actions::prim_at;
-use crate::answers::fails;
 use crate::places::{advance, body_start, enter_then};
 use crate::{Env, PrimResult, StepResult, Unevaluable};
+use counters::Counter;
 use eval::conditions::condition_at;
 use flat::Placed;
 use model::{Point, Step};
@@ -18,19 +18,22 @@ use state::State;
 use state::pending::Continuation;
 use state::reasons::Reason;
 
-// What an action did, and the run goes on.
-fn after_prim(a: PrimResult, to: Point) -> StepResult
-    ensures { (w : List ℕ) → Follows (action_done w a) to (step_done w result) }
+// What an action did, and the run goes on. One that failed is counted, here and nowhere else.
+fn after_prim(v: &mut State, a: PrimResult, to: Point) -> StepResult
+    ensures { Follows (action_done v.old a) to (step_done v.new result) }
 {
     match a {
         Ok(effect) => StepResult {
             effect,
             ..goes_on(to)
         },
-        Err(Unevaluable) => StepResult {
-            reason: Some(Reason::ConditionUnevaluable),
-            ..goes_on(to)
-        },
+        Err(Unevaluable) => {
+            v.bump(Counter::ActionsFailed, 1);
+            StepResult {
+                reason: Some(Reason::ConditionUnevaluable),
+                ..goes_on(to)
+            }
+        }
     }
 }
 
@@ -45,11 +48,11 @@ pub fn goes_on(to: Point) -> StepResult
     }
 }
 
-pub fn primitive(env: &Env, v: &mut State, sp: Point, i: u32) -> StepResult
-    requires { suc sp.place ≤ max32 }
-    ensures { (b : ℕ) → StepsIn env.now.snapshot.now env.now.image.now env.now.job v.old b sp (Primitive i) (step_done v.new result) }
+pub fn primitive(env: &Env, v: &mut State, here: Placed, i: u32) -> StepResult
+    ensures { (b : ℕ) → StepsIn env.now.snapshot.now env.now.image.now env.now.job v.old b here.point (Primitive i) (step_done v.new result) }
 {
-    after_prim(prim_at(env, v, i), advance(sp, 0))
+    let done = prim_at(env, v, i);
+    after_prim(v, done, advance(here.point, 0))
 }
 
 // A continuation of the job to a point is scheduled, with what is left of the budget: the reason that it notes.
@@ -74,11 +77,11 @@ fn schedule(env: &Env, v: &mut State, left: u32, ms: u32, to: Point) -> Option<R
 // kept: that one more can be accepted is asked here, by `schedule`, `run_after` and `exec`. It follows from `Ready`, which is of the whole run: the state and the
 // budget left. A struct of the two would be made anew for each step, as the budget falls by one, and the state be lent through it again.
 #[tactic(auto, unfolding(model::specs::Exec::exec))]
-fn run_wait(env: &Env, v: &mut State, left: u32, sp: Point, ms: u32) -> StepResult
-    requires { (accepted v.old < max64) × (suc sp.place ≤ max32) }
-    ensures { StepsAt env.now.snapshot.now env.now.job v.old left sp (Wait ms) (step_done v.new result) }
+fn run_wait(env: &Env, v: &mut State, left: u32, here: Placed, ms: u32) -> StepResult
+    requires { accepted v.old < max64 }
+    ensures { StepsAt env.now.snapshot.now env.now.job v.old left here.point (Wait ms) (step_done v.new result) }
 {
-    let to = advance(sp, 0);
+    let to = advance(here.point, 0);
     let reason = schedule(env, v, left, ms, to);
     StepResult {
         effect: None,
@@ -89,13 +92,13 @@ fn run_wait(env: &Env, v: &mut State, left: u32, sp: Point, ms: u32) -> StepResu
 
 // The body is scheduled, and the run goes on behind the step: also where the continuation is dropped.
 #[tactic(auto, unfolding(model::specs::Exec::exec))]
-fn run_after(env: &Env, v: &mut State, left: u32, sp: Point, ms: u32) -> StepResult
-    requires { (accepted v.old < max64) × (suc sp.place ≤ max32) }
-    ensures { StepsAt env.now.snapshot.now env.now.job v.old left sp (After ms) (step_done v.new result) }
+fn run_after(env: &Env, v: &mut State, left: u32, here: Placed, ms: u32) -> StepResult
+    requires { accepted v.old < max64 }
+    ensures { StepsAt env.now.snapshot.now env.now.job v.old left here.point (After ms) (step_done v.new result) }
 {
-    let body = body_start(sp);
+    let body = body_start(here);
     let reason = schedule(env, v, left, ms, body);
-    let to = advance(sp, 0);
+    let to = advance(here.point, 0);
     StepResult {
         reason,
         ..goes_on(to)
@@ -111,15 +114,14 @@ pub fn run_branch(env: &Env, v: &mut State, sp: Point, c: u32, t: u32, n: u32) -
     match condition_at(&env.given(v), c) {
         Some(true) => goes_on(enter_then(sp, t, n)),
         Some(false) => goes_on(advance(sp, t)),
-        None => after_prim(fails(v), advance(sp, t + n)),
+        None => after_prim(v, Err(Unevaluable), advance(sp, t + n)),
     }
 }
 
-pub fn fail(v: &mut State, sp: Point) -> StepResult
-    requires { suc sp.place ≤ max32 }
-    ensures { StepsAlways v.old sp Fail (step_done v.new result) }
+pub fn fail(v: &mut State, here: Placed) -> StepResult
+    ensures { StepsAlways v.old here.point Fail (step_done v.new result) }
 {
-    after_prim(fails(v), advance(sp, 0))
+    after_prim(v, Err(Unevaluable), advance(here.point, 0))
 }
 
 #[tactic(auto, unfolding(model::specs::Exec::exec))]
@@ -127,12 +129,11 @@ pub fn exec(env: &Env, v: &mut State, left: u32, here: Placed) -> StepResult
     requires { accepted v.old < max64 }
     ensures { StepsIn env.now.snapshot.now env.now.image.now env.now.job v.old left here.point here.step (step_done v.new result) }
 {
-    let sp = here.point;
     match here.step {
-        Step::Primitive(i) => primitive(env, v, sp, i),
-        Step::Wait(ms) => run_wait(env, v, left, sp, ms),
-        Step::Branch(c, t, n) => run_branch(env, v, sp, c, t, n),
-        Step::After(ms) => run_after(env, v, left, sp, ms),
-        Step::Fail => fail(v, sp),
+        Step::Primitive(i) => primitive(env, v, here, i),
+        Step::Wait(ms) => run_wait(env, v, left, here, ms),
+        Step::Branch(c, t, n) => run_branch(env, v, here.point, c, t, n),
+        Step::After(ms) => run_after(env, v, left, here, ms),
+        Step::Fail => fail(v, here),
     }
 }

@@ -4,8 +4,7 @@ ghost use Rattle.model.specs.declared.Action.TheVariants.{TimerStart, TimerResta
 ghost use Rattle.exec.specs.Done.{action_done};
 ghost use Rattle.exec.specs.Results.{Performs, PerformsIn, Arms};
 
-use crate::answers::fails;
-use crate::{Env, PrimResult};
+use crate::{Env, PrimResult, Unevaluable};
 use state::State;
 
 #[tactic(auto, unfolding(model::specs::Actions::arm_timer))]
@@ -15,11 +14,11 @@ fn arm_timer(env: &Env, v: &mut State, name: u32, ms: u32) -> PrimResult
     if env.job.dry {
         return Ok(None);
     }
-    let due = world::now_ms(env.snapshot).saturating_add(ms as u64);
-    if v.try_arm_timer(name, due) {
-        return Ok(None);
+    let due = world::now_ms(env.snapshot).saturating_add(u64::from(ms));
+    if !v.try_arm_timer(name, due) {
+        return Err(Unevaluable);
     }
-    fails(v)
+    Ok(None)
 }
 
 #[tactic(auto, unfolding(model::specs::Actions::run_prim))]

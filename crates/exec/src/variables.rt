@@ -4,8 +4,8 @@ ghost use Rattle.model.specs.declared.Action.TheVariants.{VarSet, VarAdd, PanelS
 ghost use Rattle.exec.specs.Done.{action_done};
 ghost use Rattle.exec.specs.Results.{PerformsIn, Assigns, Adds};
 
-use crate::answers::{emits, fails};
-use crate::{Env, PrimResult};
+use crate::answers::emits;
+use crate::{Env, PrimResult, Unevaluable};
 use model::{EffectKind, VarConstant, VarValue};
 use state::State;
 
@@ -16,21 +16,21 @@ fn assign(env: &Env, v: &mut State, name: u32, value: VarValue) -> PrimResult
     if env.job.dry {
         return Ok(None);
     }
-    if v.try_set_variable(name, value) {
-        return Ok(None);
+    if !v.try_set_variable(name, value) {
+        return Err(Unevaluable);
     }
-    fails(v)
+    Ok(None)
 }
 
 // A text of more bytes than the limit is refused, in a dry run too.
-#[tactic(auto, unfolding(model::specs::Actions::run_prim, model::specs::Actions::prim_var_set))]
+#[tactic(auto, unfolding(model::specs::Actions::run_prim, model::specs::Actions::prim_var_set, model::specs::Actions::fails))]
 pub fn var_set(env: &Env, v: &mut State, name: u32, value: VarConstant) -> PrimResult
     ensures { (snapshot : List ℕ) → PerformsIn snapshot env.now.image.now env.now.job v.old (VarSet name value) (action_done v.new result) }
 {
     match value {
         VarConstant::Text { text, bytes } => {
             if env.image.text_limit() < bytes {
-                return fails(v);
+                return Err(Unevaluable);
             }
             assign(env, v, name, VarValue::Text(text))
         }
@@ -39,6 +39,7 @@ pub fn var_set(env: &Env, v: &mut State, name: u32, value: VarConstant) -> PrimR
 }
 
 // A number is added to what a variable holds: to 0 where there is none, to no text.
+#[tactic(auto, unfolding(model::specs::Actions::fails))]
 fn add_to(env: &Env, v: &mut State, name: u32, step: i64) -> PrimResult
     ensures { Adds env.now.job v.old name step (action_done v.new result) }
 {
@@ -48,7 +49,7 @@ fn add_to(env: &Env, v: &mut State, name: u32, step: i64) -> PrimResult
             let sum = n.cast_signed().saturating_add(step);
             assign(env, v, name, VarValue::Int(sum.cast_unsigned()))
         }
-        Some(VarValue::Text(_)) => fails(v),
+        Some(VarValue::Text(_)) => Err(Unevaluable),
     }
 }
 
@@ -56,23 +57,19 @@ fn add_to(env: &Env, v: &mut State, name: u32, step: i64) -> PrimResult
 pub fn var_add(env: &Env, v: &mut State, name: u32, delta: u32) -> PrimResult
     ensures { PerformsIn env.now.snapshot.now env.now.image.now env.now.job v.old (VarAdd name delta) (action_done v.new result) }
 {
-    match env.value_at(v, delta) {
-        Some(step) => add_to(env, v, name, step),
-        None => fails(v),
-    }
+    let step = env.value_at(v, delta).ok_or(Unevaluable)?;
+    add_to(env, v, name, step)
 }
 
 // From 0 to the group limit.
-#[tactic(auto, unfolding(model::specs::Actions::run_prim))]
+#[tactic(auto, unfolding(model::specs::Actions::run_prim, model::specs::Actions::fails))]
 pub fn panel_select(env: &Env, v: &mut State, adapter: u32, group: u32, selected: u32) -> PrimResult
     ensures { PerformsIn env.now.snapshot.now env.now.image.now env.now.job v.old (PanelSelect adapter group selected) (action_done v.new result) }
 {
-    let Some(n) = env.value_at(v, selected) else {
-        return fails(v);
-    };
+    let n = env.value_at(v, selected).ok_or(Unevaluable)?;
     let most = env.image.group_limit();
     match u32::try_from(n) {
         Ok(n) if n <= most => emits(EffectKind::PanelSelect, adapter, group, n, 0),
-        _ => fails(v),
+        _ => Err(Unevaluable),
     }
 }

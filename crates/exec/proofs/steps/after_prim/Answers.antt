@@ -1,21 +1,23 @@
 -- `exec::steps::after_prim` meets its contract. Assumes nothing.
-use mathlib.Core.Path.{◌≡◌}
-use Rattle.std.specs.Prelude.{None, Some}
+use mathlib.Core.Path.{◌≡◌, refl}
+use Rattle.std.specs.Prelude.{None, Some, Err}
 use Rattle.state.specs.Reasons.{reason_number}
 use Rattle.exec.specs.Done.{action_done}
 use Rattle.exec.proofs.Stepped.{after-does}
 use Rattle.exec.proofs.steps.after_prim.Goals as goal
 
 pub returns-in-Ok : goal.returns-in-Ok
-returns-in-Ok c w v x d =
+returns-in-Ok c v x d =
+    let w = c.args.v.now in
     let r = c.goes_on.result in
     let reason : reason_number r.reason ≡ 0 = (c.goes_on.ensures w).reason in
     let next : r.next ≡ Some c.args.to = (c.goes_on.ensures w).next in
-    rw (reason, next) (rw c.in-Ok.is at (after-does v (action_done w c.args.a) x c.args.to d))
+    rw (reason, next) (rw c.in-Ok.is at (after-does v w (action_done w c.args.a) x c.args.to (rw c.in-Ok.is (record { says = refl; based = refl })) d))
 
 pub returns-in-Err : goal.returns-in-Err
-returns-in-Err c w v x d =
+returns-in-Err c v x d =
+    let w = c.args.v.now in
     let r = c.goes_on-in-Err.result in
     let effect : r.effect ≡ None = (c.goes_on-in-Err.ensures w).effect in
     let next : r.next ≡ Some c.args.to = (c.goes_on-in-Err.ensures w).next in
-    rw (effect, next) (rw c.in-Err.is at (after-does v (action_done w c.args.a) x c.args.to d))
+    rw (effect, next) (after-does v _ (action_done w (Err (record {}))) x c.args.to c.bump.ensures (rw c.in-Err.is at d))
