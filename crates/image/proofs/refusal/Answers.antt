@@ -36,4 +36,4 @@ returns c =
     (rw (← q.1)
     (passed _ _ _ _ _ c.limits_fit.ensures c.if-not-limits_fit.false-raw
     (passed _ _ _ _ _ c.places_fit.ensures c.if-not-places_fit.false-raw
-    c.records_refusal.ensures)))
+    (rw c.new.ensures at c.records_refusal.ensures))))

@@ -17,8 +17,8 @@ all-requires-clause-callable c =
     let t = number_of c.args.t in
     let h = numbered c.args.t in
     let source = c.enumerate.ensures.source in
-    let road = YieldsList-from_records img c.requires t h _ (ap chunks_exact_size source ∙ (c.chunks_exact.ensures.size ∙ c.width.ensures.0)) (ap chunks_exact_rest source ∙ (c.chunks_exact.ensures.rest ∙ c.table.ensures)) c.enumerate.ensures.count in
-    serves_from_places road (λ x q k. search rules) (λ x i l e. λ κs r g m n q u v z. numbered-record img c.requires t h (x.0, x.1.now) i l e)
+    let road = YieldsList-from_records img c.args.self.now.placed t h _ (ap chunks_exact_size source ∙ (c.chunks_exact.ensures.size ∙ c.width.ensures.0)) (ap chunks_exact_rest source ∙ (c.chunks_exact.ensures.rest ∙ c.table.ensures)) c.enumerate.ensures.count in
+    serves_from_places road (λ x q k. search rules) (λ x i l e. λ κs r g m n q u v z. numbered-record img c.args.self.now.placed t h (x.0, x.1.now) i l e)
 
 pub returns : goal.returns
 unfolding table_both
@@ -27,6 +27,6 @@ returns c =
     let t = number_of c.args.t in
     let h = numbered c.args.t in
     let source = c.enumerate.ensures.source in
-    let road = YieldsList-from_records img c.requires t h _ (ap chunks_exact_size source ∙ (c.chunks_exact.ensures.size ∙ c.width.ensures.0)) (ap chunks_exact_rest source ∙ (c.chunks_exact.ensures.rest ∙ c.table.ensures)) c.enumerate.ensures.count in
+    let road = YieldsList-from_records img c.args.self.now.placed t h _ (ap chunks_exact_size source ∙ (c.chunks_exact.ensures.size ∙ c.width.ensures.0)) (ap chunks_exact_rest source ∙ (c.chunks_exact.ensures.rest ∙ c.table.ensures)) c.enumerate.ensures.count in
     all_from_yields_List (λ q. record_both img t q.0) _ _ _ c.all.ensures.ran road (λ x b q k. search rules)
-    ∙ numbered_all (record_both img t) (records img c.requires t h) (size_of img t) (length-pieces (width_of t) (size_of img t) (table_of img t))
+    ∙ numbered_all (record_both img t) (records img c.args.self.now.placed t h) (size_of img t) (length-pieces (width_of t) (size_of img t) (table_of img t))
