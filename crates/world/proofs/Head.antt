@@ -1,5 +1,5 @@
 -- The words of a snapshot beside their largest values: a word that is missing is 0, which is in range. Assumes nothing.
-use mathlib.Core.Path.{◌≡◌, refl, sym, ◌∙◌}
+use mathlib.Core.Path.{◌≡◌, refl, sym}
 use mathlib.Core.Bool.{Bool, true, false, ◌&&◌, and-true}
 use mathlib.Core.List.{List, [], ◌∷◌}
 use Prim.Native.Nat.{ℕ, zero, suc}
@@ -16,7 +16,7 @@ assoc : (a b c : Bool) → (a && b) && c ≡ a && (b && c)
 assoc true b c = refl
 assoc false b c = refl
 
-every_first : (n : ℕ) (f : ℕ → Bool) → every (suc n) f ≡ f zero && every n (λ i. f (suc i))
+pub every_first : (n : ℕ) (f : ℕ → Bool) → every (suc n) f ≡ f zero && every n (λ i. f (suc i))
 unfolding every
 every_first zero f = sym (and-true (f zero))
 every_first (suc n) f = rw (every_first n f) (assoc (f zero) (every n (λ i. f (suc i))) (f (suc n)))

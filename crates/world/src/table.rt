@@ -1,5 +1,5 @@
 // Where the words of a snapshot stand: 14 words before the rows, then the rows of five tables.
-ghost use Rattle.std.specs.Prelude.{◌≡◌, ◌+◌, ◌*◌, ◌<◌, ◌≤◌, ◌^◌};
+ghost use Rattle.std.specs.Prelude.{◌≡◌, ◌+◌, ◌*◌, ◌<◌, ◌≤◌, ◌^◌, length, take, drop};
 ghost use Rattle.model.specs.Snapshot.{row_width, key_of, count_of, start_of};
 ghost use Rattle.world.specs.Tables.{number};
 
@@ -57,7 +57,7 @@ impl Table {
         fields::word(s, 9 + self as usize)
     }
 
-    // The words of its rows.
+    // How many words its rows have.
     fn length(self, s: &[u32]) -> usize
         ensures { (result ≡ row_width (number self) * count_of s.now (number self)) × (result < 2 ^ 36) }
     {
@@ -80,6 +80,15 @@ impl Table {
             Table::Inputs => inputs,
             Table::HclTargets => hcl,
         }
+    }
+
+    // The words of its rows, in a snapshot of as many words as it counts.
+    pub fn words(self, s: &[u32]) -> &[u32]
+        requires { length s.now ≡ start_of s.now 5 }
+        ensures { result.now ≡ take (row_width (number self) * count_of s.now (number self)) (drop (start_of s.now (number self)) s.now) }
+    {
+        let start = self.start(s);
+        &s[start..start + self.length(s)]
     }
 
     // Its rows: words past the end of the snapshot are 0.
