@@ -2,8 +2,9 @@
 use mathlib.Core.Path.{◌≡◌, refl, sym, ap, ◌∙◌}
 use mathlib.Core.Bool.{Bool, true, false, ◌||◌}
 use mathlib.Core.List.{List, [], ◌∷◌}
-use Rattle.std.specs.Option.{is_some}
-use Rattle.std.specs.Prelude.{Option, None, Some}
+use Rattle.std.specs.Bool.{then_some}
+use Rattle.std.specs.Option.{ok_or}
+use Rattle.std.specs.Prelude.{Option, None, Some, Result, Ok, Err}
 use Prim.Native.Nat.{ℕ, ◌+◌, ◌*◌}
 use Rattle.model.specs.Eval.{solar_of}
 use Rattle.model.specs.State.{Env}
@@ -17,12 +18,17 @@ use Rattle.model.specs.declared.Trigger.{Trigger}
 use Rattle.model.specs.declared.Trigger.TheVariants.{TimerFires, Every, AtTime, AtSolar, Other}
 use Rattle.model.proofs.Bools.{or-true, or-false}
 use Rattle.model.specs.declared.SunTimes.{SunTimes}
-use Rattle.wheel.specs.Wall.{kind_if, no_kind, number_if, wall_kind, missed_too}
-use Rattle.wheel.specs.declared.wall.WallKind.{WallKind}
+use Rattle.wheel.specs.Wall.{number_if, kind_and_sun, kind_of_one, missed_too}
+use Rattle.wheel.specs.declared.wall.NoSun.{NoSun}
 
-or_assoc : (a b c : Bool) → a || (b || c) ≡ (a || b) || c
-or_assoc true b c = refl
-or_assoc false b c = refl
+-- an answer that a `?` takes, or hands on
+pub known : {A E : Type 0} (o : Option A) (e : E) {x : A} → ok_or o e ≡ Ok x → o ≡ Some x
+known None e h = cc
+known (Some y) e h = cc
+
+pub unknown : {A E : Type 0} (o : Option A) (e : E) {x : E} → ok_or o e ≡ Err x → o ≡ None
+unknown None e h = refl
+unknown (Some y) e h = cc
 
 abbrev nothing : model.WallKind
 nothing = record { kind = None; unsynced = false }
@@ -34,62 +40,49 @@ time_kind due kind rest = elim due [ true ↦ record { kind = Some kind; unsynce
 abbrev solar_kind : Option Bool → model.WallKind → model.WallKind
 solar_kind o rest = elim o [ None ↦ without_sun rest | Some due ↦ time_kind due by_solar rest ]
 
--- there is a number where there is a kind
-number-some : (o : Option TriggerKind) → is_some (number_if o) ≡ is_some o
-number-some None = refl
-number-some (Some kind) = refl
-
 -- ONE TRIGGER -------------------------------------------------------------------------------------------------------------------------------
-due-or-not : (b missed : Bool) (kind : TriggerKind) → wall_kind (kind_if b kind missed) ≡ missed_too missed (time_kind b (trigger_number kind) nothing)
-due-or-not true missed kind = rw or-false
-due-or-not false missed kind = rw or-false
+due-or-not : (b : Bool) (kind : TriggerKind) → kind_and_sun (then_some b kind) false ≡ time_kind b (trigger_number kind) nothing
+due-or-not true kind = refl
+due-or-not false kind = refl
 
-module _ (e : Env) (base window : ℕ) (missed : Bool) where
-  pub at-time : (h m days : ℕ) {b : Bool} → b ≡ minute_due base window days (h * 60 + m) → wall_kind (kind_if b by.AtTime missed) ≡ missed_too missed (due_wall_kind e base window (AtTime h m days ∷ []))
+module _ (e : Env) (base window : ℕ) where
+  pub at-time : (h m days : ℕ) {b : Bool} → b ≡ minute_due base window days (h * 60 + m) → kind_and_sun (then_some b by.AtTime) false ≡ due_wall_kind e base window (AtTime h m days ∷ [])
   unfolding due_wall_kind
-  at-time h m days is = ap (λ (b : Bool). wall_kind (kind_if b by.AtTime missed)) is ∙ due-or-not (minute_due base window days (h * 60 + m)) missed by.AtTime
+  at-time h m days is = ap (λ (b : Bool). kind_and_sun (then_some b by.AtTime) false) is ∙ due-or-not (minute_due base window days (h * 60 + m)) by.AtTime
 
   sun-due : (event : SolarEvent) (offset : ℕ) {sun : SunTimes} {b : Bool} → e.world.sun ≡ Some sun → b ≡ minute_due base window 127 (solar_of sun event offset) → solar_due e base window event offset ≡ Some b
   unfolding solar_due
   sun-due event offset h is = rw h (ap Some (sym is))
 
-  pub at-sun : (event : SolarEvent) (offset : ℕ) {sun : SunTimes} {b : Bool} → e.world.sun ≡ Some sun → b ≡ minute_due base window 127 (solar_of sun event offset) → wall_kind (kind_if b by.AtSolar missed) ≡ missed_too missed (due_wall_kind e base window (AtSolar event offset ∷ []))
+  pub at-sun : (event : SolarEvent) (offset : ℕ) {sun : SunTimes} {b : Bool} → e.world.sun ≡ Some sun → b ≡ minute_due base window 127 (solar_of sun event offset) → kind_and_sun (then_some b by.AtSolar) false ≡ due_wall_kind e base window (AtSolar event offset ∷ [])
   unfolding due_wall_kind
-  at-sun event offset {b = b} h is = due-or-not b missed by.AtSolar ∙ ap (λ (o : Option Bool). missed_too missed (solar_kind o nothing)) (sym (sun-due event offset h is))
+  at-sun event offset {b = b} h is = due-or-not b by.AtSolar ∙ ap (λ (o : Option Bool). solar_kind o nothing) (sym (sun-due event offset h is))
 
   without : (event : SolarEvent) (offset : ℕ) → e.world.sun ≡ None → solar_due e base window event offset ≡ None
   unfolding solar_due
   without event offset h = rw h
 
-  pub no-sun : (event : SolarEvent) (offset : ℕ) → e.world.sun ≡ None → wall_kind (no_kind true) ≡ missed_too missed (due_wall_kind e base window (AtSolar event offset ∷ []))
+  pub no-sun : (event : SolarEvent) (offset : ℕ) → e.world.sun ≡ None → kind_and_sun None true ≡ due_wall_kind e base window (AtSolar event offset ∷ [])
   unfolding due_wall_kind
-  no-sun event offset h = (let z : wall_kind (no_kind true) ≡ missed_too missed (without_sun nothing) = rw (or-true missed) in z) ∙ ap (λ (o : Option Bool). missed_too missed (solar_kind o nothing)) (sym (without event offset h))
+  no-sun event offset h = ap (λ (o : Option Bool). solar_kind o nothing) (sym (without event offset h))
 
-  pub no-timer : (x : ℕ) → wall_kind (no_kind missed) ≡ missed_too missed (due_wall_kind e base window (TimerFires x ∷ []))
+  pub no-timer : (x : ℕ) → nothing ≡ due_wall_kind e base window (TimerFires x ∷ [])
   unfolding due_wall_kind
-  no-timer x = rw (or-false missed)
+  no-timer x = refl
 
-  pub no_slot : (ms : ℕ) → wall_kind (no_kind missed) ≡ missed_too missed (due_wall_kind e base window (Every ms ∷ []))
+  pub no_slot : (ms : ℕ) → nothing ≡ due_wall_kind e base window (Every ms ∷ [])
   unfolding due_wall_kind
-  no_slot ms = rw (or-false missed)
+  no_slot ms = refl
 
-  pub no_other : wall_kind (no_kind missed) ≡ missed_too missed (due_wall_kind e base window (Other ∷ []))
+  pub no_other : nothing ≡ due_wall_kind e base window (Other ∷ [])
   unfolding due_wall_kind
-  no_other = rw (or-false missed)
+  no_other = refl
 
 -- THE TRIGGERS ------------------------------------------------------------------------------------------------------------------------------
 -- the first due of two
 abbrev first_of : Option ℕ → model.WallKind → model.WallKind → model.WallKind
 first_of None w rest = record { kind = rest.kind; unsynced = w.unsynced || rest.unsynced }
 first_of (Some kind) w rest = w
-
-chosen : (o : Option ℕ) (w rest : model.WallKind) → is_some o ≡ true → first_of o w rest ≡ w
-chosen None w rest e = cc
-chosen (Some kind) w rest e = refl
-
-passed : (now b : Bool) (o : Option ℕ) (w rest : model.WallKind) → is_some o ≡ false → b ≡ now || w.unsynced → missed_too b rest ≡ missed_too now (first_of o w rest)
-passed now b None w rest e f = rw (f, or_assoc now w.unsynced rest.unsynced)
-passed now b (Some kind) w rest e f = cc
 
 time-first : (b : Bool) (kind : ℕ) (rest : model.WallKind) → time_kind b kind rest ≡ first_of (time_kind b kind nothing).kind (time_kind b kind nothing) rest
 time-first true kind rest = refl
@@ -122,25 +115,31 @@ module _ (e : Env) (base window : ℕ) where
     starts missed left h = ap (λ (l : List Trigger). missed_too missed (due_wall_kind e base window l)) h
 
     -- a turn, by what the first that is left gives
-    module _ (missed now : Bool) (left rest : List Trigger) {t : Trigger} (r : WallKind) (inv : Left missed left now) (first : left ≡ t ∷ rest) (is : wall_kind r ≡ missed_too now (one t)) where
-      kind-is : number_if r.kind ≡ (one t).kind
-      kind-is = ap (λ (w : model.WallKind). w.kind) is
-
+    module _ (missed now : Bool) (left rest : List Trigger) {t : Trigger} (r : Result (Option TriggerKind) NoSun) (inv : Left missed left now) (first : left ≡ t ∷ rest) (is : kind_of_one r ≡ one t) where
       others : model.WallKind
       others = due_wall_kind e base window rest
 
-      turn : missed_too now (first_of (one t).kind (one t) others) ≡ missed_too missed (due_wall_kind e base window ts)
+      turn : (w : model.WallKind) → w ≡ one t → missed_too now (first_of w.kind w others) ≡ missed_too missed (due_wall_kind e base window ts)
       unfolding Left others
-      turn =
-          ap (missed_too now) (sym (first_then t rest)) ∙ ap (λ (l : List Trigger). missed_too now (due_wall_kind e base window l)) (sym first) ∙ inv
+      turn w h =
+          ap (λ (x : model.WallKind). missed_too now (first_of x.kind x others)) h
+          ∙ ap (missed_too now) (sym (first_then t rest)) ∙ ap (λ (l : List Trigger). missed_too now (due_wall_kind e base window l)) (sym first) ∙ inv
 
-      pub ends-here : is_some r.kind ≡ true → wall_kind r ≡ missed_too missed (due_wall_kind e base window ts)
-      ends-here h = is ∙ ap (missed_too now) (sym (chosen (one t).kind (one t) others (rw kind-is at (number-some r.kind ∙ h)))) ∙ turn
+      pub ends-here : (kind : TriggerKind) → r ≡ Ok (Some kind) → kind_and_sun (Some kind) now ≡ missed_too missed (due_wall_kind e base window ts)
+      ends-here kind h =
+          (let z : kind_and_sun (Some kind) now ≡ missed_too now (kind_and_sun (Some kind) false) = rw (or-false now) in z)
+          ∙ turn (kind_and_sun (Some kind) false) (ap kind_of_one (sym h) ∙ is)
 
-      pub goes : is_some r.kind ≡ false → Left missed rest r.unsynced
+      pub goes : r ≡ Ok None → Left missed rest now
       unfolding Left others
-      goes h = passed now r.unsynced (one t).kind (one t) others (rw kind-is at (number-some r.kind ∙ h)) (ap (λ (w : model.WallKind). w.unsynced) is) ∙ turn
+      goes h = turn (kind_and_sun None false) (ap kind_of_one (sym h) ∙ is)
 
-    pub ends : (missed now : Bool) (left : List Trigger) → left ≡ [] → Left missed left now → wall_kind (no_kind now) ≡ missed_too missed (due_wall_kind e base window ts)
+      pub misses : (e : NoSun) → r ≡ Err e → Left missed rest true
+      unfolding Left others
+      misses e h =
+          (let z : missed_too true others ≡ missed_too now (first_of None (kind_and_sun None true) others) = rw (or-true now) in z)
+          ∙ turn (kind_and_sun None true) (ap kind_of_one (sym h) ∙ is)
+
+    pub ends : (missed now : Bool) (left : List Trigger) → left ≡ [] → Left missed left now → kind_and_sun None now ≡ missed_too missed (due_wall_kind e base window ts)
     unfolding Left due_wall_kind
-    ends missed now left h inv = (let z : wall_kind (no_kind now) ≡ missed_too now nothing = rw (or-false now) in z) ∙ rw h at inv
+    ends missed now left h inv = (let z : kind_and_sun None now ≡ missed_too now nothing = rw (or-false now) in z) ∙ rw h at inv

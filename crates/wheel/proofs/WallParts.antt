@@ -2,16 +2,17 @@
 use Prim.Native.Nat.{ℕ}
 use native.Mathlib.Omega.{arith}
 use mathlib.Core.Path.{◌≡◌, refl, sym, ap, ◌∙◌}
-use mathlib.Core.Bool.{Bool, true, false, not}
+use mathlib.Core.Bool.{Bool, true, false}
 use mathlib.Core.List.{List}
 use Rattle.std.specs.Prelude.{Option, None, Some}
 use Rattle.model.specs.Activate.{no_outcome}
-use Rattle.model.specs.Flat.{flatten_rules, set_of}
+use Rattle.model.specs.Flat.{set_of}
 use Rattle.model.specs.Rules.{triggers_of}
 use Rattle.model.specs.State as model-state
 use Rattle.model.specs.State.{Env, is_enabled, with_rest, with_prev_week_min, bump_by, ticks_time_unsynced}
 use Rattle.model.specs.Wheel as wheel
 use Rattle.model.specs.Wheel.{start_wall, due_wall_kind, has_wall_triggers, week_minute, window_of, fire_window, make_up, is_set_back, fire_wall_at, fire_wall_schedules}
+use Rattle.model.specs.declared.TriggerKind.{TriggerKind}
 use Rattle.model.specs.declared.WallTime.{WallTime}
 use Rattle.model.specs.World.{world_of}
 use Rattle.state.specs.Meaning.{Means, meaning, base}
@@ -21,8 +22,7 @@ use Rattle.activate.specs.Carried.{Carried}
 use Rattle.activate.proofs.Continues.{with_vol}
 use Rattle.wheel.specs.Tick.{tick_env, Fires, turn_handled, count_missed, remembering, without_wall}
 use Rattle.wheel.specs.Turns.{Turns}
-use Rattle.wheel.specs.Wall.{number_if, wall_kind, missed_too, Kind}
-use Rattle.wheel.specs.declared.wall.WallKind.{WallKind}
+use Rattle.wheel.specs.Wall.{number_if, kind_and_sun, missed_too}
 use Rattle.wheel.proofs.Fires.{same-part, more-part, skips, changed, after-change, room_after}
 use Rattle.wheel.proofs.WallTurns.{turn-off, missed-off, turn_on, missed-on}
 
@@ -43,23 +43,20 @@ module _ (snapshot image : List ℕ) (from window i : ℕ) (missed : Bool) (x : 
   abbrev env : Env
   env = tick_env snapshot image
 
-  pub passes-by : (ow ew : List ℕ) → not on ≡ true → Turns env from window i missed missed x ow ew x ow ew
+  pub passes-by : (ow ew : List ℕ) → on ≡ false → Turns env from window i missed missed x ow ew x ow ew
   passes-by ow ew h = record {
     fires = skips 1 (turn_handled env from window i) x ow ew (turn-off env from window i missed (meaning x.vol) is h);
     missed = missed-off env from window i missed (meaning x.vol) is h;
   }
 
-  due-here : (w : WallKind) → Kind snapshot from window missed (triggers_of image i) w → wall_kind w ≡ missed_too missed (due_wall_kind env from window (triggers_of env.set.image i))
+  pub takes-turn : (kind : Option TriggerKind) (after : Bool) {ow ew : List ℕ} {r : Carried} {ow' ew' : List ℕ} → on ≡ true
+      → kind_and_sun kind after ≡ missed_too missed (due_wall_kind env from window (triggers_of image i))
+      → Fires 1 (start_wall (number_if kind) env i) x ow ew r ow' ew' → Turns env from window i missed after x ow ew r ow' ew'
   unfolding tick_env set_of
-  due-here w k = k image (set_of image (flatten_rules image)).flat
-
-  pub takes-turn : (w : WallKind) {ow ew : List ℕ} {r : Carried} {ow' ew' : List ℕ} → not on ≡ false → Kind snapshot from window missed (triggers_of image i) w
-      → Fires 1 (start_wall (number_if w.kind) env i) x ow ew r ow' ew' → Turns env from window i missed w.unsynced x ow ew r ow' ew'
-  takes-turn w h k f =
-      let d = due-here w k in
+  takes-turn kind after h d f =
       let m = meaning x.vol in
       record {
-        fires = same-part 1 (start_wall (number_if w.kind) env i) (turn_handled env from window i) (turn_on env from window i missed m is h ∙ ap (λ (o : Option ℕ). start_wall o env i m) (sym (ap (λ (y : wheel.WallKind). y.kind) d))) f;
+        fires = same-part 1 (start_wall (number_if kind) env i) (turn_handled env from window i) (turn_on env from window i missed m is h ∙ ap (λ (o : Option ℕ). start_wall o env i m) (sym (ap (λ (y : wheel.WallKind). y.kind) d))) f;
         missed = ap (λ (y : wheel.WallKind). y.unsynced) d ∙ sym (missed-on env from window i missed m is h);
       }
 

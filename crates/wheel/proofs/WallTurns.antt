@@ -9,6 +9,7 @@ use lib.ListN.{length, drop, get_or, drop_of_length-le}
 use lib.Seq.{drop-cons}
 use lib.Dec.{leb}
 use borrow.Author.Tests.{le-leb, not-true, not-false}
+use Rattle.std.proofs.lemmas.Bool.{and_right}
 use Rattle.model.specs.Activate.{Handled, no_outcome, and_then}
 use Rattle.model.specs.Flat.{set_of}
 use Rattle.model.specs.Rules.{triggers_of, name_order}
@@ -48,31 +49,27 @@ keeps-last missed v = refl
 
 -- ---- one rule's turn
 module _ (e : Env) (base window i : ℕ) (missed : Bool) (v : Volatile) {on : Bool} (is : on ≡ is_enabled v.rest i) where
-  pub turn-off : not on ≡ true → turn_handled e base window i v ≡ no_outcome v
+  pub turn-off : on ≡ false → turn_handled e base window i v ≡ no_outcome v
   unfolding turn_handled
-  turn-off h = rw (← is, not-true on h)
+  turn-off h = rw (← is, h)
 
-  pub missed-off : not on ≡ true → missed ≡ turn_missed e base window i missed v
+  pub missed-off : on ≡ false → missed ≡ turn_missed e base window i missed v
   unfolding turn_missed
-  missed-off h = rw (← is, not-true on h)
+  missed-off h = rw (← is, h)
 
-  pub turn_on : not on ≡ false → turn_handled e base window i v ≡ start_wall (due_wall_kind e base window (triggers_of e.set.image i)).kind e i v
+  pub turn_on : on ≡ true → turn_handled e base window i v ≡ start_wall (due_wall_kind e base window (triggers_of e.set.image i)).kind e i v
   unfolding turn_handled
-  turn_on h = rw (← is, not-false on h)
+  turn_on h = rw (← is, h)
 
-  pub missed-on : not on ≡ false → turn_missed e base window i missed v ≡ missed || (due_wall_kind e base window (triggers_of e.set.image i)).unsynced
+  pub missed-on : on ≡ true → turn_missed e base window i missed v ≡ missed || (due_wall_kind e base window (triggers_of e.set.image i)).unsynced
   unfolding turn_missed
-  missed-on h = rw (← is, not-false on h)
+  missed-on h = rw (← is, h)
 
 -- ---- the window
-no-second : (a b : Bool) → b ≡ false → (a && b) ≡ false
-no-second true b e = e
-no-second false b e = refl
-
 pub no-window : (snapshot image : List ℕ) (minute window : ℕ) (v : Volatile) → window ≡ 0 → fire_window (tick_env snapshot image) minute window v ≡ no_outcome v
 unfolding fire_window tick_env set_of
 no-window snapshot image minute window v z =
-    let l : (has_wall_triggers image v.rest && leb 1 window) ≡ false = no-second (has_wall_triggers image v.rest) (leb 1 window) (rw z) in rw l
+    let l : (has_wall_triggers image v.rest && leb 1 window) ≡ false = and_right (has_wall_triggers image v.rest) (leb 1 window) (rw z) in rw l
 
 module _ (snapshot image : List ℕ) (minute window : ℕ) (v : Volatile) {has : Bool} (is : has ≡ has_wall_triggers image v.rest) where
   abbrev env : Env

@@ -15,7 +15,7 @@ ghost use Rattle.wheel.specs.Wall.{number_if};
 ghost use Rattle.wheel.specs.Turns.{Turns};
 
 use crate::minutes::{WEEK_MINUTES, Window, cyclic_dist, week_minute};
-use crate::wall::{due_wall_kind, has_wall_triggers};
+use crate::wall::has_wall_triggers;
 use crate::{Env, Rule};
 use activate::Lent;
 use counters::Counter;
@@ -66,18 +66,15 @@ impl Rule<'_, '_> {
         }
     }
 
-    // A rule's turn: whether a sun was missed so far.
-    fn wall_turn(&self, lent: &mut Lent, window: Window, missed: bool) -> bool
+    // A rule's turn. That a sun is missed in it is noted.
+    fn wall_turn(&self, lent: &mut Lent, window: Window, solar_unsynced: &mut bool)
         requires { Room 1 (carried_by lent.old) }
-        ensures { Over (Turns (env_of self.now.env.now) window.base window.window self.now.i missed result) lent.old lent.new }
+        ensures { Over (Turns (env_of self.now.env.now) window.base window.window self.now.i solar_unsynced.old solar_unsynced.new) lent.old lent.new }
     {
-        if !lent.state.is_enabled(self.i as usize) {
-            return missed;
+        if lent.state.is_enabled(self.i as usize) {
+            let due = self.due_wall_kind(window, solar_unsynced);
+            self.start_wall(lent, due);
         }
-        let env = self.env;
-        let w = due_wall_kind(env.snapshot, env.image, window, self.i, missed);
-        self.start_wall(lent, w.kind);
-        w.unsynced
     }
 }
 
@@ -86,12 +83,12 @@ impl Env<'_> {
         requires { Room 64 (carried_by lent.old) }
         ensures { Over (Fires 64 (fire_due_wall_rules (env_of self.now) window.base window.window false (name_order self.now.image.now))) lent.old lent.new }
     {
-        let mut missed = false;
+        let mut solar_unsynced = false;
         for i in self.order {
             let rule = Rule { env: self, i: *i };
-            missed = rule.wall_turn(lent, window, missed);
+            rule.wall_turn(lent, window, &mut solar_unsynced);
         }
-        count_missed(lent.state, missed);
+        count_missed(lent.state, solar_unsynced);
     }
 
     fn fire_window(&self, lent: &mut Lent, minute: u64, window: u64)

@@ -1,111 +1,63 @@
 // Wall schedules: which trigger of a rule is due, and whether a rule has one.
 ghost use Rattle.std.specs.Prelude.{◌≡◌, [], ◌∷◌};
 ghost use Rattle.model.specs.Rules.{triggers_of};
-ghost use Rattle.model.specs.Wheel.{is_wall_trigger, has_wall_triggers};
-ghost use Rattle.model.specs.declared.Trigger.TheVariants as trigger;
+ghost use Rattle.model.specs.Wheel.{due_wall_kind, is_wall_trigger, has_wall_triggers};
 ghost use Rattle.state.specs.Meaning.{meaning};
-ghost use Rattle.wheel.specs.Wall.{kind_if, no_kind, Kind, KindAnywhere, enabled_wall};
+ghost use Rattle.wheel.specs.Given.{env_of};
+ghost use Rattle.wheel.specs.Wall.{kind_of_one, kind_and_sun, missed_too, enabled_wall};
 
 use crate::minutes::Window;
+use crate::{Env, Rule};
 use image::layout::{Image, Table};
-use model::{SolarEvent, Trigger, TriggerKind};
+use model::{Trigger, TriggerKind};
 use state::State;
 
 // The days of a week, a bit each.
 const EVERY_DAY: u32 = 127;
 
-// The kind of the first due trigger, and whether a sun was asked for that is not known.
-// kept: no Option or Result says both: a trigger can be due where one before it missed the sun. The specification's record has the same two fields.
+// A trigger asks for a sun that is not known.
 #[derive(Clone, Copy)]
-pub struct WallKind {
-    pub kind: Option<TriggerKind>,
-    pub unsynced: bool,
-}
+struct NoSun;
 
-// No trigger is due, or one of a kind is.
-fn kind_if(due: bool, kind: TriggerKind, unsynced: bool) -> WallKind
-    ensures { result ≡ kind_if due kind unsynced }
-{
-    WallKind {
-        kind: due.then_some(kind),
-        unsynced,
-    }
-}
-
-fn no_kind(unsynced: bool) -> WallKind
-    ensures { result ≡ no_kind unsynced }
-{
-    WallKind {
-        kind: None,
-        unsynced,
-    }
-}
-
-// A trigger that is due at a minute of the day, as the sun has it.
-// kept: window and missed, here and below, side by side: each turn has a `missed` of its own, and a struct of both would be made anew in each.
-fn solar_kind(
-    snapshot: &[u32],
-    window: Window,
-    event: SolarEvent,
-    offset_ms: u32,
-    missed: bool,
-) -> WallKind
-    ensures { Kind snapshot.now window.base window.window missed (trigger.AtSolar event offset_ms ∷ []) result }
-{
-    match world::sun(snapshot) {
-        Some(t) => {
-            let minute = eval::time::solar_minute(t, event, offset_ms) as u64;
-            kind_if(
-                window.minute_due(EVERY_DAY, minute),
-                TriggerKind::AtSolar,
-                missed,
-            )
+impl Env<'_> {
+    // The kind of a trigger, where a minute of the window is its minute.
+    fn trigger_kind(&self, window: Window, trigger: Trigger) -> Result<Option<TriggerKind>, NoSun>
+        ensures { kind_of_one result ≡ due_wall_kind (env_of self.now) window.base window.window (trigger ∷ []) }
+    {
+        match trigger {
+            Trigger::AtTime { hour, minute, days } => {
+                let at = eval::time::minute_of_day(hour, minute);
+                Ok(window.minute_due(days, at).then_some(TriggerKind::AtTime))
+            }
+            Trigger::AtSolar { event, offset_ms } => {
+                let times = world::sun(self.snapshot).ok_or(NoSun)?;
+                let at = u64::from(eval::time::solar_minute(times, event, offset_ms));
+                Ok(
+                    window
+                        .minute_due(EVERY_DAY, at)
+                        .then_some(TriggerKind::AtSolar),
+                )
+            }
+            Trigger::TimerFires { .. } | Trigger::Every { .. } | Trigger::Other => Ok(None),
         }
-        None => no_kind(true),
     }
 }
 
-fn time_kind(window: Window, hour: u32, minute: u32, days: u32, missed: bool) -> WallKind
-    ensures { KindAnywhere window.base window.window missed (trigger.AtTime hour minute days ∷ []) result }
-{
-    let minute = eval::time::minute_of_day(hour, minute);
-    kind_if(window.minute_due(days, minute), TriggerKind::AtTime, missed)
-}
-
-// What one trigger gives, where a sun was missed before it or not.
-fn trigger_kind(snapshot: &[u32], window: Window, trigger: Trigger, missed: bool) -> WallKind
-    ensures { Kind snapshot.now window.base window.window missed (trigger ∷ []) result }
-{
-    match trigger {
-        Trigger::AtTime { hour, minute, days } => time_kind(window, hour, minute, days, missed),
-        Trigger::AtSolar { event, offset_ms } => solar_kind(
-            snapshot, window, event, offset_ms, missed,
-        ),
-        Trigger::TimerFires { .. } | Trigger::Every { .. } | Trigger::Other => no_kind(missed),
-    }
-}
-
-// What the triggers of rule i give.
-// kept: the words and the place, which a `Rule` has. It is public, and a `Rule` would ask more of its callers than these do.
-// kept: a sun that one trigger misses goes into what the next one gives, so that this is no `find_map`, whose turns know nothing of each other.
-pub fn due_wall_kind(
-    snapshot: &[u32],
-    image: &Image,
-    window: Window,
-    i: u32,
-    missed: bool,
-) -> WallKind
-    ensures { Kind snapshot.now window.base window.window missed (triggers_of image.now i) result }
-{
-    let mut unsynced = missed;
-    for trigger in image.triggers(i) {
-        let w = trigger_kind(snapshot, window, trigger, unsynced);
-        if w.kind.is_some() {
-            return w;
+impl Rule<'_, '_> {
+    // The kind of the first due trigger of the rule. That one before it asks for a sun that is not known is noted.
+    pub fn due_wall_kind(&self, window: Window, solar_unsynced: &mut bool) -> Option<TriggerKind>
+        ensures { kind_and_sun result solar_unsynced.new ≡ missed_too solar_unsynced.old (due_wall_kind (env_of self.now.env.now) window.base window.window (triggers_of self.now.env.now.image.now self.now.i)) }
+    {
+        let env = self.env;
+        for trigger in env.image.triggers(self.i) {
+            match env.trigger_kind(window, trigger) {
+                Ok(Some(kind)) => return Some(kind),
+                Ok(None) => {}
+                Err(NoSun) => *solar_unsynced = true,
+            }
         }
-        unsynced = w.unsynced;
+        None
     }
-    no_kind(unsynced)
 }
 
 fn is_wall_trigger(trigger: Trigger) -> bool

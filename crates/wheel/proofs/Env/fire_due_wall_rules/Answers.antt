@@ -16,17 +16,17 @@ loop-i-init c =
 pub invariant_of-rule : goal.invariant_of-rule
 invariant_of-rule c = record { inside = order-at _ _ c.args.self.now.ordered _ c.loop-i-test.true }
 
-pub wall_turn-missed-requires : goal.wall_turn-missed-requires
-wall_turn-missed-requires c =
+pub wall_turn-requires : goal.wall_turn-requires
+wall_turn-requires c =
     let f = order-few _ _ c.args.self.now.ordered c.args.self.now.holds.accepted in
     room-here _ _ _ _ _ _ _ _ _ _ c.loop-i.invariant.does 64 (omega (arith, c.loop-i-test.true, f)) c.requires
 
 pub loop-i-preserved : goal.loop-i-preserved
 loop-i-preserved c =
     let a = c.loop-i.invariant.same in
-    let b = c.wall_turn-missed.ensures.same in
+    let b = c.wall_turn.ensures.same in
     record {
-      does = turning-goes _ _ _ _ _ c.loop-i.invariant.does 0 _ _ c.loop-i-test.true refl c.wall_turn-missed.ensures.does;
+      does = turning-goes _ _ _ _ _ c.loop-i.invariant.does 0 _ _ c.loop-i-test.true refl c.wall_turn.ensures.does;
       same = (b.0 ∙ a.0, b.1 ∙ a.1, b.2 ∙ a.2);
     }
 

@@ -6,4 +6,4 @@ use Rattle.wheel.proofs.Env.fire_due_wall_rules.Given as goal
 
 abbrev pub invariant-loop-i : goal.invariant-loop-i
 invariant-loop-i l =
-    Over (λ x ow ew. Turning (tick_env l.self.snapshot.now l.self.image.now) l.window.base l.window.window l.self.order.now x ow ew l.missed l.i-index) l.initial.lent l.lent
+    Over (λ x ow ew. Turning (tick_env l.self.snapshot.now l.self.image.now) l.window.base l.window.window l.self.order.now x ow ew l.solar_unsynced l.i-index) l.initial.lent l.lent
