@@ -22,7 +22,7 @@ use Rattle.activate.specs.Handled.{Handles, Activates, Resumes}
 use Rattle.activate.specs.Outcomes.{Pushes}
 use Rattle.model.specs.Activate.{is_dry}
 use Rattle.activate.specs.Decisions.{decision_of, Decides}
-use Rattle.activate.specs.Executes.{Changes, begun_in, numbered_job, NotesPartial, Starts, RunsWet, RunsDry, Executes, dry_outcome}
+use Rattle.activate.specs.Executes.{Changes, begun_in, NotesPartial, Starts, RunsWet, RunsDry, Executes, dry_outcome}
 use Rattle.activate.specs.Carried.{Carried, carried}
 use Rattle.activate.specs.declared.Handled.{Handled}
 use Rattle.model.specs.declared.Mode.{Mode}
@@ -62,7 +62,7 @@ module _ (snapshot image part : List ℕ) (own : ℕ) (j : Job) (x : Carried) (w
       → Executes snapshot image part own j x ow ew r ow' ew'
   unfolding model.execute_wet model.numbered
   executes-wet b begun f e a h =
-      let u : Job = numbered_job (next_number (meaning x.vol).last_number) j in
+      let u : Job = model.numbered (next_number (meaning x.vol).last_number) j in
       let k : List (List FlatStep) → model-state.Volatile → model.Handled =
       λ flat m. model.finished u (started j.rule) (run_steps (budget image) (env_of snapshot image flat) u start m) in
       let run : RunsWet snapshot image part own u start (budget image) (with_vol w x) ow ew r ow' ew' =

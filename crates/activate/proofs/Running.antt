@@ -34,7 +34,7 @@ use Rattle.exec.specs.Runs as exec
 use Rattle.model.specs.declared.Job.{Job}
 use Rattle.activate.specs.Handled.{Continues, Within, Room, Handles, put_outcome, put_outcomes}
 use Rattle.activate.specs.Outcomes.{Pushes}
-use Rattle.activate.specs.Executes.{Changes, RunRoom, numbered_job, Starts, FinishesWet, RunsWet, RunsDry, dry_outcome}
+use Rattle.activate.specs.Executes.{Changes, RunRoom, Starts, FinishesWet, RunsWet, RunsDry, dry_outcome}
 use Rattle.activate.specs.Carried.{Carried, carried}
 use Rattle.activate.specs.declared.Handled.{Handled}
 use Rattle.activate.proofs.Continues.{with_vol, then-continues, no-outcome, within_by, within-then, room-left}
@@ -138,12 +138,12 @@ module _ (snapshot : List ℕ) (j : Job) (v w r : List ℕ) (time : ℕ) (a : Me
   pub same-last : (meaning r).last_number ≡ (meaning v).last_number
   same-last = ap (λ (m : model-state.Volatile). m.last_number) b.says ∙ ap (λ (m : model-state.Volatile). m.last_number) a.says
 
-  pub starts : (u : List ℕ) (number : ℕ) → time ≡ (world_of snapshot).now → Means u (base r) (take_number (meaning r)) → number ≡ next_number (meaning r).last_number → Starts snapshot j v u (numbered_job number j)
-  unfolding bump_by
+  pub starts : (u : List ℕ) (number : ℕ) → time ≡ (world_of snapshot).now → Means u (base r) (take_number (meaning r)) → number ≡ next_number (meaning r).last_number → Starts snapshot j v u (model.numbered number j)
+  unfolding bump_by model.numbered
   starts u number e t n =
       let two = follows (keep_time j.index time) w r (base v) (add_to activations_total 1 (meaning v)) a b in
       let three = follows take_number r u (base v) _ two t in
-      (rw e at three, ap (λ (k : ℕ). numbered_job k j) (n ∙ ap next_number same-last))
+      (rw e at three, ap (λ (k : ℕ). model.numbered k j) (n ∙ ap next_number same-last))
 
 module _ (v w : List ℕ) (count reason : ℕ) (a : Means w (base v) (add_to effects_emitted count (meaning v))) where
   pub finishes-whole : reason ≡ 0 → FinishesWet v count reason w
@@ -204,7 +204,7 @@ module _ (snapshot image part : List ℕ) (own : ℕ) (j : Job) (v : List ℕ) (
 
       last-stays : (meaning w).last_number ≡ (meaning v).last_number
       unfolding model.finish_wet
-      last-stays = ap (λ (m : model-state.Volatile). m.last_number) finished-means.says ∙ k.last
+      last-stays = ap (λ (m : model-state.Volatile). m.last_number) finished-means.says ∙ k.ran.last
 
       pub runs-wet : RunsWet snapshot image part own j from b x ow ew (carried w r) ow' ew'
       runs-wet = (
@@ -215,7 +215,7 @@ module _ (snapshot image part : List ℕ) (own : ℕ) (j : Job) (v : List ℕ) (
                   record {
                     accepted = omega (arith, same-next, k.accepted, few);
                     outcomes = omega (arith, p.outcomes);
-                    effects = omega (arith, p.effects, k.counted, few);
+                    effects = omega (arith, p.effects, k.ran.counted, few);
                     numbers = omega (arith, last-stays);
                   };
             },
@@ -241,7 +241,7 @@ module _ (snapshot image part : List ℕ) (own : ℕ) (j : Job) (v : List ℕ) (
               record {
                 accepted = omega (arith, k.accepted);
                 outcomes = omega (arith, p.outcomes);
-                effects = omega (arith, p.effects, k.counted, few);
-                numbers = omega (arith, k.last);
+                effects = omega (arith, p.effects, k.ran.counted, few);
+                numbers = omega (arith, k.ran.last);
               };
         }

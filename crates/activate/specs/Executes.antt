@@ -27,10 +27,6 @@ Changes w s r = Means r (base w) (with_rest s (meaning w))
 abbrev pub NotesPartial : Bool → List ℕ → List ℕ → Type 0
 NotesPartial dry w r = let s = (meaning w).rest in Changes w (cond dry s (bump partial_outcomes s)) r
 
--- a job under another number
-abbrev pub numbered_job : ℕ → Job → Job
-numbered_job n j = record j { number = n }
-
 -- the activation is counted, its time is kept, and it takes the next number
 abbrev pub begun_in : List ℕ → Job → model-state.Volatile → model-state.Volatile
 begun_in snapshot j v =
@@ -38,7 +34,7 @@ begun_in snapshot j v =
     with_number (suc v.last_number) (with_rest (with_last_activation (set s.last_activation j.index (Some (world_of snapshot).now)) (bump activations_total s)) v)
 
 abbrev pub Starts : List ℕ → Job → List ℕ → List ℕ → Job → Type 0
-Starts snapshot j w r begun = Means r (base w) (begun_in snapshot j (meaning w)) × (begun ≡ numbered_job (next_number (meaning w).last_number) j)
+Starts snapshot j w r begun = Means r (base w) (begun_in snapshot j (meaning w)) × (begun ≡ model.numbered (next_number (meaning w).last_number) j)
 
 -- numbers that have room for one run, which has taken its own already: `Room 1` without its last field
 pub record RunRoom (x : Carried) : Type 0 where

@@ -27,7 +27,7 @@ use Rattle.state.specs.Reasons.{reason_number}
 use Rattle.eval.specs.Answers.{env_of}
 use Rattle.lent_words.specs.PutEffects.{put_effects}
 use Rattle.flat.specs.Near.{step_in}
-use Rattle.exec.specs.Runs.{Taken, unpaid_of}
+use Rattle.exec.specs.Runs.{Taken, RanFrom, unpaid_of}
 use Rattle.exec.specs.DryRuns.{body_point, bodies_of, queued_by, Queues, next_found, Moves, DrySteps, RunsDry}
 use Rattle.model.specs.declared.Job.{Job}
 use Rattle.flat.specs.declared.Placed.{Placed}
@@ -201,24 +201,21 @@ module _ (snapshot image part : List ℕ) (own : ℕ) (job : Job) (budget : ℕ)
 
   -- what a whole run comes to
   runs :
-      (v : List ℕ) (r : RunResult) (w : List ℕ) → base v ≡ base v₀ → accepted v ≡ accepted v₀ → count ≤ r.count → r.count ≤ count + budget → (meaning v).last_number ≡ (meaning v₀).last_number
+      (v : List ℕ) (r : RunResult) (w : List ℕ) → accepted v ≡ accepted v₀ → RanFrom v₀ budget count (run_done v r)
       → ((flat : List (List FlatStep)) → Says part own (get_or flat job.index []) → finished v r w ≡ left_dry budget (env_of snapshot image flat) job from)
       → RunsDry snapshot image part own job v₀ start budget count w₀ (run_done v r) w
   unfolding finish_dry
-  runs v r w b a g n l h =
+  runs v r w a k h =
       record {
         says = λ flat e.
             let f = h flat e in (
-              record { says = ap (λ (x : Finished). x.vol) f; based = b },
+              record { says = ap (λ (x : Finished). x.vol) f; based = k.based },
               ap (λ (x : Finished). x.reason) f,
               ap (λ (x : Finished). x.count) f,
               ap (λ (x : Finished). x.words) f,
             );
-        based = b;
         accepted = a;
-        grows = g;
-        counted = n;
-        last = l;
+        ran = k;
       }
 
   module _
@@ -227,7 +224,7 @@ module _ (snapshot image part : List ℕ) (own : ℕ) (job : Job) (budget : ℕ)
     where
       pub runs-past : o ≡ None → RunsDry snapshot image part own job v₀ start budget count w₀ (run_done v run) w
       runs-past h =
-          runs v run w inv.based inv.accepts inv.grows (omega (arith, inv.counts)) inv.last
+          runs v run w inv.accepts (record { based = inv.based; grows = inv.grows; counted = omega (arith, inv.counts); last = inv.last })
           (λ flat s.
           let e = env_of snapshot image flat in
           ap (λ (n : ℕ). record { vol = meaning v; reason = n; count = run.count; words = w }) (sym (reason-none (reason_number run.reason)))
@@ -237,7 +234,7 @@ module _ (snapshot image part : List ℕ) (own : ℕ) (job : Job) (budget : ℕ)
       pub runs-spent : (r : RunResult) → left ≤ 0 → reason_number r.reason ≡ first_reason (reason_number run.reason) (unpaid_of o) → r.count ≡ run.count
           → RunsDry snapshot image part own job v₀ start budget count w₀ (run_done v r) w
       runs-spent r z n c =
-          runs v r w inv.based inv.accepts (omega (arith, inv.grows, c)) (omega (arith, inv.counts, c)) inv.last
+          runs v r w inv.accepts (record { based = inv.based; grows = omega (arith, inv.grows, c); counted = omega (arith, inv.counts, c); last = inv.last })
           (λ flat s.
           let e = env_of snapshot image flat in
           let m = dry_machine v point ns run w in

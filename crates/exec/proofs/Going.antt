@@ -25,7 +25,7 @@ use Rattle.eval.specs.Answers.{env_of}
 use Rattle.exec.specs.Paid.{Steps}
 use Rattle.lent_words.specs.PutEffects.{put_effects}
 use Rattle.flat.specs.Near.{step_in}
-use Rattle.exec.specs.Runs.{Taken, Runs, unpaid_of}
+use Rattle.exec.specs.Runs.{Taken, RanFrom, Runs, unpaid_of}
 use Rattle.flat.specs.Stands.{step_of_placed}
 use Rattle.model.specs.declared.Job.{Job}
 use Rattle.flat.specs.declared.Placed.{Placed}
@@ -155,30 +155,27 @@ module _ (snapshot image part : List ℕ) (own : ℕ) (job : Job) (budget : ℕ)
 
   -- what a whole run comes to
   runs :
-      (v : List ℕ) (r : RunResult) (w : List ℕ) → base v ≡ base v₀ → accepted v ≤ accepted v₀ + budget → count ≤ r.count → r.count ≤ count + budget → (meaning v).last_number ≡ (meaning v₀).last_number
+      (v : List ℕ) (r : RunResult) (w : List ℕ) → accepted v ≤ accepted v₀ + budget → RanFrom v₀ budget count (run_done v r)
       → ((flat : List (List FlatStep)) → Says part own (get_or flat job.index []) → finished v r w ≡ left_of budget (env_of snapshot image flat) job from)
       → Runs snapshot image part own job v₀ start budget count w₀ (run_done v r) w
   unfolding finish
-  runs v r w b a g n l h =
+  runs v r w a k h =
       record {
         says = λ flat e.
             let f = h flat e in (
-              record { says = ap (λ (x : Finished). x.vol) f; based = b },
+              record { says = ap (λ (x : Finished). x.vol) f; based = k.based },
               ap (λ (x : Finished). x.reason) f,
               ap (λ (x : Finished). x.count) f,
               ap (λ (x : Finished). x.words) f,
             );
-        based = b;
         accepted = a;
-        grows = g;
-        counted = n;
-        last = l;
+        ran = k;
       }
 
   module _ (v : List ℕ) (point : Point) (run : RunResult) (w : List ℕ) (left : ℕ) (inv : Going snapshot image part own job budget from v₀ v point run w left) where
     pub runs-past : None ≡ step_in part own point → Runs snapshot image part own job v₀ start budget count w₀ (run_done v run) w
     runs-past h =
-        runs v run w inv.based (omega (arith, inv.accepts)) inv.grows (omega (arith, inv.counts)) inv.last
+        runs v run w (omega (arith, inv.accepts)) (record { based = inv.based; grows = inv.grows; counted = omega (arith, inv.counts); last = inv.last })
         (λ flat s.
         let e = env_of snapshot image flat in
         ap (λ (n : ℕ). record { vol = meaning v; reason = n; count = run.count; words = w }) (sym (reason-none (reason_number run.reason)))
@@ -188,7 +185,7 @@ module _ (snapshot image part : List ℕ) (own : ℕ) (job : Job) (budget : ℕ)
     pub runs-spent : (o : Option Placed) (r : RunResult) → left ≤ 0 → step_of_placed o ≡ step_in part own point → reason_number r.reason ≡ first_reason (reason_number run.reason) (unpaid_of o) → r.count ≡ run.count
         → Runs snapshot image part own job v₀ start budget count w₀ (run_done v r) w
     runs-spent o r z h n c =
-        runs v r w inv.based (omega (arith, inv.accepts)) (omega (arith, inv.grows, c)) (omega (arith, inv.counts, c)) inv.last
+        runs v r w (omega (arith, inv.accepts)) (record { based = inv.based; grows = omega (arith, inv.grows, c); counted = omega (arith, inv.counts, c); last = inv.last })
         (λ flat s.
         let e = env_of snapshot image flat in
         let none_left : 0 ≡ left = omega arith in
@@ -222,7 +219,7 @@ module _ (snapshot image part : List ℕ) (own : ℕ) (job : Job) (budget : ℕ)
 
         pub runs-ended : None ≡ d.next → Runs snapshot image part own job v₀ start budget count w₀ (run_done v' r) exit
         runs-ended h =
-            runs v' r exit stays (omega (arith, accepts, inv.accepts)) grows (omega (arith, counts, inv.counts)) last
+            runs v' r exit (omega (arith, accepts, inv.accepts)) (record { based = stays; grows = grows; counted = omega (arith, counts, inv.counts); last = last })
             (λ flat s.
             let e = env_of snapshot image flat in
             let m = machine v point run w in

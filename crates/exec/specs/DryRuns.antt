@@ -13,6 +13,7 @@ use Rattle.state.specs.Meaning.{Means, meaning, base, accepted}
 use Rattle.eval.specs.Answers.{env_of}
 use Rattle.lent_words.specs.PutEffects.{put_effects}
 use Rattle.exec.specs.Done.{RunDone, StepDone}
+use Rattle.exec.specs.Runs.{RanFrom}
 use Rattle.model.specs.declared.Job.{Job}
 use Rattle.flat.specs.declared.Placed.{Placed}
 
@@ -68,8 +69,5 @@ pub record RunsDry (snapshot image part : List ℕ) (own : ℕ) (job : Job) (v :
       (flat : List (List FlatStep)) → Says part own (get_or flat job.index [])
       → let o = model.run_steps_dry budget (env_of snapshot image flat) job from [] (meaning v).rest in
       Means r.vol (base v) (with_rest o.rest (meaning v)) × (r.reason ≡ o.reason) × (r.count ≡ count + length o.effects) × (exit ≡ put_effects words count o.effects)
-  pub based : base r.vol ≡ base v
   pub accepted : accepted r.vol ≡ accepted v
-  pub grows : count ≤ r.count
-  pub counted : r.count ≤ count + budget
-  pub last : (meaning r.vol).last_number ≡ (meaning v).last_number
+  pub ran : RanFrom v budget count r

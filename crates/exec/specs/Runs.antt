@@ -31,13 +31,17 @@ pub record Ready (v : List ℕ) (budget count : ℕ) : Type 0 where
   pub accepts : accepted v + budget ≤ max64
   pub counts : count + budget ≤ max32
 
+-- what a run, wet or dry, keeps from v and count to r: pending records count from the same base, effects grow by at most the budget, and no activation number is taken
+pub record RanFrom (v : List ℕ) (budget count : ℕ) (r : RunDone) : Type 0 where
+  pub based : base r.vol ≡ base v
+  pub grows : count ≤ r.count
+  pub counted : r.count ≤ count + budget
+  pub last : (meaning r.vol).last_number ≡ (meaning v).last_number
+
 pub record Runs (snapshot image part : List ℕ) (own : ℕ) (job : Job) (v : List ℕ) (from : Point) (budget count : ℕ) (words : List ℕ) (r : RunDone) (exit : List ℕ) : Type 0 where
   pub says :
       (flat : List (List FlatStep)) → Says part own (get_or flat job.index [])
       → let o = model.run_steps budget (env_of snapshot image flat) job from (meaning v) in
       Means r.vol (base v) o.vol × (r.reason ≡ o.reason) × (r.count ≡ count + length o.effects) × (exit ≡ put_effects words count o.effects)
-  pub based : base r.vol ≡ base v
   pub accepted : accepted r.vol ≤ accepted v + budget
-  pub grows : count ≤ r.count
-  pub counted : r.count ≤ count + budget
-  pub last : (meaning r.vol).last_number ≡ (meaning v).last_number
+  pub ran : RanFrom v budget count r
