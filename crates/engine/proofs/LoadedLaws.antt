@@ -7,8 +7,6 @@ use Rattle.std.proofs.lemmas.Option.{none-some, same_Some}
 use Prim.Native.Nat.{ℕ, ◌<◌}
 use lib.ListN.{get_or, take}
 use lib.Seq.{get_or-take}
-use Rattle.model.specs.Image.{size_of}
-use Rattle.model.specs.Rows.{rules}
 use Rattle.model.specs.Rules.{rule_named}
 use Rattle.model.specs.Flat.{flatten_rules, set_of}
 use Rattle.model.specs.Load.{image_refusal}
@@ -21,7 +19,7 @@ use Rattle.store.specs.FlatPart.{Kept}
 use Rattle.store.specs.Volatile.{Readable, changing_in}
 use Rattle.store.proofs.Stored.{from-read, volatile-read}
 use Rattle.store.proofs.LoadedSet.{image-read, accepted-read, form-read, kept_read}
-use Rattle.store.proofs.RecordRules.{found_none, found_at}
+use Rattle.store.proofs.RecordRules.{found_at}
 
 -- the set, by the words of its image
 pub record LoadedImage (w img : List ℕ) (s : Store) : Type 0 where

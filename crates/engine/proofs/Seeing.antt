@@ -12,7 +12,6 @@ use Rattle.model.specs.State.{Store}
 use Rattle.model.specs.Refusals.{refusal_code, refusal_number}
 use Rattle.model.specs.declared.Refusal.{Refusal}
 use Rattle.model.specs.declared.Refusal.TheVariants.{StoreLength}
-use Rattle.model.specs.Field.{unless}
 use Rattle.model.specs.Store.{read, write}
 use Rattle.model.specs.Outcome.{Outcome}
 use Rattle.model.specs.Calls as model

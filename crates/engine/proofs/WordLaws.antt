@@ -3,18 +3,17 @@ use mathlib.Core.Path.{◌≡◌, refl, sym, ap, ◌∙◌, subst}
 use mathlib.Core.Bool.{true, false≢true}
 use mathlib.Core.List.{List}
 use Rattle.std.specs.Prelude.{Option, None, Some}
-use Prim.Native.Nat.{ℕ, ◌+◌}
+use Prim.Native.Nat.{ℕ}
 use lib.ListN.{length}
 use Rattle.model.specs.Lists.{present}
 use Rattle.model.specs.Codec.{wide}
-use Rattle.model.specs.Parts.{any, slot_row, loaded_part}
+use Rattle.model.specs.Parts.{loaded_part}
 use Rattle.model.specs.State.{Volatile, Store}
 use Rattle.model.specs.Store.{loaded_of, read, write, Keeps}
 use Rattle.model.proofs.StoreLaws.{write_read}
-use Rattle.rows.specs.Places.{row_at, table_at, laid}
-use Rattle.store.specs.Places.{set_place, slots_place}
+use Rattle.rows.specs.Places.{laid}
+use Rattle.store.specs.Places.{set_place}
 use Rattle.store.specs.Volatile.{Wrote, changing_in}
-use Rattle.store.proofs.Parts.{slots_at}
 use Rattle.store.proofs.Stored.{long, time-laid, set-laid, volatile-laid, from-read, volatile-read, ReadsAs}
 
 -- A STORE THAT READS ----------------------------------------------------------------------------------------------------------------------
@@ -41,8 +40,8 @@ said w p = go (read w) refl p
     go (Some s) e p = saying w s e
 
 -- its Every slots
-pub old-slots : (w : List ℕ) (s : Store) (n : ℕ) → read w ≡ Some s → n ≡ row_at any w slots_place → table_at slot_row n w (slots_place + 1) ≡ s.vol.rest.every
-old-slots w s n e q = ap (λ (m : ℕ). table_at slot_row m w (slots_place + 1)) q ∙ sym (slots_at w) ∙ ap (λ (v : Volatile). v.rest.every) (volatile-read w s (from-read w s e))
+pub old-slots : (w : List ℕ) (s : Store) → read w ≡ Some s → (changing_in w).slots ≡ s.vol.rest.every
+old-slots w s e = ap (λ (v : Volatile). v.rest.every) (volatile-read w s (from-read w s e))
 
 -- ALL THREE PARTS, AND TWO ----------------------------------------------------------------------------------------------------------------
 pub all-written : (s s' : Store) (w w₁ w₂ w₃ : List ℕ) → Keeps s → Keeps s' → write s ≡ w

@@ -7,13 +7,11 @@ ghost use Rattle.model.specs.Calls.{kept, rest_with, rest_without};
 ghost use Rattle.state.specs.Meaning.{AllNumbered, Means, meaning, base};
 ghost use Rattle.engine.specs.Sets.{cleared, rule_of, rules_of};
 
-use every::kept::Slots;
 use image::layout::{Image, Table};
 use load::Loadable;
-use rows::row::Row;
 use state::State;
 use store::checked::Checked;
-use store::table;
+use store::volatile::slots_in;
 
 // The state without a set.
 pub fn without_set(store: &Checked, v: &mut State)
@@ -65,10 +63,8 @@ fn put_rules(store: &Checked, image: &Image, v: &mut State)
 pub fn with_set(store: &Checked, image: &Loadable, time: u64, v: &mut State)
     ensures { AllNumbered v.new (cleared (rest_with image.now time store.now) store.now.vol) }
 {
-    let words = store.words();
+    let old = slots_in(store.words());
     store.begin(v);
-    let n = u32::at(words, table::SLOTS) as usize;
-    let old = Slots::new(words, table::SLOTS + 1, n);
     let tables = Image::new(image.words());
     every::rebuild_every(&tables, &old, time, v);
     v.drop_all();
