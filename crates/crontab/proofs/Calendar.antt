@@ -1,7 +1,7 @@
 -- The calendar: the triggers of a line are due at the minutes of the week that the line means. Assumes nothing.
 use mathlib.Core.Path.{◌≡◌, refl, sym, ap, ◌∙◌}
 use mathlib.Core.Logic.{⊎_elim}
-use mathlib.Core.Bool.{Bool, true, false, cond, not, ◌&&◌, ◌||◌, and-false}
+use mathlib.Core.Bool.{Bool, true, false, cond, not, ◌&&◌, ◌||◌, and-false, and-true, and_assoc}
 use mathlib.Core.List.{List, [], ◌∷◌}
 use Prim.Native.Nat.{ℕ, zero, suc, ◌+◌, ◌*◌, ◌-◌, ◌/◌, ◌%◌, ◌^◌, ◌≤◌, ◌<◌}
 use native.Mathlib.Nat.{div-add-mod, mod-lt, eq-or-lt_of_le}
@@ -10,9 +10,10 @@ use borrow.Author.Tests.{eq-eqb, ne_eqb, eqb-true, eqb-false, not-true, lt-leb}
 use lib.Dec.{eqb, leb, lit<}
 use lib.ListN.{get_or}
 use Rattle.model.specs.Arith.{has_day}
-use Rattle.model.specs.Lists.{any, every, keep, up_from, total}
+use Rattle.model.specs.Lists.{any, every, up_from, total}
 use Rattle.model.specs.Wheel.{cyclic_dist, in_window, minute_due}
 use Rattle.model.proofs.Bools.{both, every-at, or-false}
+use Rattle.model.proofs.SortLaws.{any-keep}
 use Rattle.model.specs.Crontab.{field_covers, starts, minutes, day_here, days}
 use Rattle.model.specs.CrontabMeaning.{matches, day_there, minute_before}
 
@@ -20,14 +21,6 @@ use Rattle.model.specs.CrontabMeaning.{matches, day_there, minute_before}
 pub any_same : (f g : ℕ → Bool) (i n : ℕ) → ((x : ℕ) → i ≤ x → x < i + n → f x ≡ g x) → any f (up_from i n) ≡ any g (up_from i n)
 any_same f g i zero h = refl
 any_same f g i (suc n) h = rw (h i (omega arith) (omega arith), any_same f g (suc i) n (λ x a b. h x (omega arith) (omega arith)))
-
-pub any-keep : (f g : ℕ → Bool) (xs : List ℕ) → any g (keep f xs) ≡ any (λ x. f x && g x) xs
-any-keep f g [] = refl
-any-keep f g (x ∷ xs) = go (f x) (any-keep f g xs)
-  where
-    go : (t : Bool) → any g (keep f xs) ≡ any (λ y. f y && g y) xs → any g (cond t (x ∷ keep f xs) (keep f xs)) ≡ (t && g x) || any (λ y. f y && g y) xs
-    go true e = rw e
-    go false e = e
 
 le-ne : (i q : ℕ) → i ≤ q → (i ≡ q → ⊥) → suc i ≤ q
 le-ne i q a k = ⊎_elim (λ e. absurd (k e)) (λ l. l) (eq-or-lt_of_le a)
@@ -44,10 +37,6 @@ pub one-equal : (f : ℕ → Bool) (q i n : ℕ) → i ≤ q → q < i + n → a
 one-equal f q i zero a b = absurd (omega arith)
 one-equal f q i (suc n) a b = go (eqb i q) refl (λ k. one-equal f q (suc i) n (omega arith) (omega arith))
   where
-    and-true : (t : Bool) → t && true ≡ t
-    and-true true = refl
-    and-true false = refl
-
     go : (t : Bool) → eqb i q ≡ t → (suc i ≤ q → any (λ d. f d && eqb d q) (up_from (suc i) n) ≡ f q) → (f i && t) || any (λ d. f d && eqb d q) (up_from (suc i) n) ≡ f q
     go true e z =
         let k : i ≡ q = eqb-true i q e in
@@ -210,10 +199,6 @@ rearranged true false c = refl
 rearranged false true c = refl
 rearranged false false c = refl
 
-grouped : (a b c : Bool) → a && (b && c) ≡ (a && b) && c
-grouped true b c = refl
-grouped false b c = refl
-
 same-minute : (w : ℕ) → w % 1440 % 60 ≡ w % 60
 same-minute w =
     omega (
@@ -238,8 +223,8 @@ minutes-due line sunday w l h =
     let ds = days line sunday in
     let q : w / 1440 < 7 = omega (arith, div-add-mod w 1440) in
     let r : w % 1440 < 1440 = mod-lt w {m = 1440} (lit< tt) in
-    any-keep (starts line) (λ t. minute_due (minute_before w) 1 ds t) (up_from 0 1440)
+    any-keep (λ t. minute_due (minute_before w) 1 ds t) (starts line) (up_from 0 1440)
     ∙ any_same (λ t. starts line t && minute_due (minute_before w) 1 ds t) (λ t. (starts line t && has_day ds (w / 1440)) && eqb t (w % 1440)) 0 1440
-    (λ t a b. rw (trigger-due w ds t h (omega arith)) (grouped (starts line t) (has_day ds (w / 1440)) (eqb t (w % 1440))))
+    (λ t a b. rw (trigger-due w ds t h (omega arith)) (sym (and_assoc (starts line t) (has_day ds (w / 1440)) (eqb t (w % 1440)))))
     ∙ one-equal (λ t. starts line t && has_day ds (w / 1440)) (w % 1440) 0 1440 (omega arith) (omega arith)
     ∙ meant line sunday w l q

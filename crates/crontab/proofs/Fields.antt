@@ -1,19 +1,13 @@
 -- A test that holds of each field holds of each number below 5. Assumes nothing.
-use mathlib.Core.Path.{◌≡◌, refl}
-use mathlib.Core.Bool.{Bool, true, false, ◌&&◌, and-true}
+use mathlib.Core.Path.{◌≡◌}
+use mathlib.Core.Bool.{Bool}
 use mathlib.Core.List.{List, [], ◌∷◌}
 use Prim.Native.Nat.{ℕ}
 use Rattle.model.specs.Lists.{all, every}
+use Rattle.model.proofs.TestLaws.{regrouped}
 use Rattle.crontab.specs.declared.parts.Field.{Field}
 use Rattle.crontab.specs.declared.parts.Field.TheVariants.{Minute, Hour, Day, Month, Weekday}
 use Rattle.crontab.specs.Fields.{number}
-
-regrouped : (a b c d e : Bool) → a && (b && (c && (d && (e && true)))) ≡ (((a && b) && c) && d) && e
-regrouped true true true true e = and-true e
-regrouped true true true false e = refl
-regrouped true true false d e = refl
-regrouped true false c d e = refl
-regrouped false b c d e = refl
 
 abbrev pub fields : List Field
 fields = Minute ∷ Hour ∷ Day ∷ Month ∷ Weekday ∷ []

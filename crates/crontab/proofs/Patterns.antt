@@ -1,7 +1,7 @@
 -- Patterns as lists of elements. Assumes nothing.
 use mathlib.Core.Path.{◌≡◌, refl, ◌∙◌}
 use mathlib.Core.Bool.{Bool, true, false, cond, ◌&&◌, and-false}
-use mathlib.Core.List.{List, [], ◌∷◌, map}
+use mathlib.Core.List.{List, [], ◌∷◌}
 use Rattle.std.specs.Prelude.{Option, None, Some}
 use Rattle.std.specs.Option.{is_some}
 use Rattle.std.specs.List.{slice_split, onto_first, position_or_len}
@@ -13,6 +13,7 @@ use lib.ListN.{length, take, drop, length-drop}
 use lib.Seq.{take_all}
 use Rattle.model.specs.Lists.{all, any}
 use Rattle.model.specs.Crontab.{split, onto, is_comma, is_hyphen, until, number_of, range_of, element_of, elements_of, holds, is_asterisk, is_pattern, covers}
+use Rattle.model.proofs.SortLaws.{all_map, any-map}
 use Rattle.crontab.specs.Scanned.{word_sized}
 use Rattle.crontab.proofs.Scans.{place-some, place-none}
 
@@ -69,14 +70,6 @@ fits lo hi e = is_some (element_of lo hi e)
 abbrev pub covered : ℕ → ℕ → ℕ → List ℕ → Bool
 covered lo hi v e = holds v (element_of lo hi e)
 
-all-map : {A B : Type 0} (p : B → Bool) (f : A → B) (l : List A) → all p (map f l) ≡ all (λ x. p (f x)) l
-all-map p f [] = refl
-all-map p f (x ∷ l) = rw (all-map p f l)
-
-any-map : {A B : Type 0} (p : B → Bool) (f : A → B) (l : List A) → any p (map f l) ≡ any (λ x. p (f x)) l
-any-map p f [] = refl
-any-map p f (x ∷ l) = rw (any-map p f l)
-
 module _ (lo hi : ℕ) (s : List ℕ) where
   module _ {r : Bool} (e : r ≡ is_asterisk s) (t : r ≡ true) where
     pub starred : r ≡ is_pattern lo hi s
@@ -90,8 +83,8 @@ module _ (lo hi : ℕ) (s : List ℕ) where
   module _ (star : is_asterisk s ≡ false) {r : Bool} where
     pub fits-by-elements : r ≡ all (fits lo hi) (slice_split is_comma s) → r ≡ is_pattern lo hi s
     unfolding is_pattern elements_of
-    fits-by-elements q = rw (star, split-is is_comma s, all-map is_some (element_of lo hi) (slice_split is_comma s)) q
+    fits-by-elements q = rw (star, split-is is_comma s, all_map (element_of lo hi) is_some (slice_split is_comma s)) q
 
     pub covers-by-elements : (v : ℕ) → r ≡ any (covered lo hi v) (slice_split is_comma s) → r ≡ covers lo hi s v
     unfolding covers elements_of
-    covers-by-elements v q = rw (star, split-is is_comma s, any-map (holds v) (element_of lo hi) (slice_split is_comma s)) q
+    covers-by-elements v q = rw (star, split-is is_comma s, any-map (element_of lo hi) (holds v) (slice_split is_comma s)) q

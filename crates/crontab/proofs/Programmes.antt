@@ -22,6 +22,7 @@ use Rattle.model.specs.Rules.{trigger_of, record_in}
 use Rattle.model.specs.Wheel.{minute_due, due_wall_kind, WallKind, by_time}
 use Rattle.model.specs.State.{Env}
 use Rattle.model.proofs.Bools.{both, every-at, not-refused, neither}
+use Rattle.model.proofs.SortLaws.{any-map}
 use Rattle.model.specs.Crontab.{until, is_hyphen, split, onto, is_comma, range_of, element_of, elements_of, holds, is_asterisk, is_pattern, covers, number_of, field_fits, field_covers, field, starts, minutes, day_here, days, of_the_form, refusal, trigger_words, table_words, crontab, answer_of}
 use Rattle.model.specs.Asked.{declined}
 use Rattle.model.specs.CrontabMeaning.{matches, day_there, triggers_in, minute_before, due_at, earlier, in_order, on_days}
@@ -69,10 +70,6 @@ read_behind ds (t ∷ ts) xs rest n e =
     (λ j. h j ∷ q j)
 
 -- EVERY TRIGGER
-any-map : {A : Type 0} (f : A → Bool) (g : ℕ → A) (ts : List ℕ) → any f (map g ts) ≡ any (λ t. f (g t)) ts
-any-map f g [] = refl
-any-map f g (t ∷ ts) = rw (any-map f g ts)
-
 any-as : (f g : ℕ → Bool) → ((t : ℕ) → f t ≡ g t) → (ts : List ℕ) → any f ts ≡ any g ts
 any-as f g h [] = refl
 any-as f g h (t ∷ ts) = rw (h t, any-as f g h ts)
@@ -82,7 +79,7 @@ minute-of t = omega (arith, div-add-mod t 60)
 
 triggers-due : (line : List ℕ) (sunday w : ℕ) → sunday < 7 → w < 10080 → any (due_at w) (map (at_minute (days line sunday)) (minutes line)) ≡ matches line sunday w
 triggers-due line sunday w l h =
-    any-map (due_at w) (at_minute (days line sunday)) (minutes line)
+    any-map (at_minute (days line sunday)) (due_at w) (minutes line)
     ∙ any-as (λ t. minute_due (minute_before w) 1 (days line sunday) (t / 60 * 60 + t % 60)) (λ t. minute_due (minute_before w) 1 (days line sunday) t)
     (λ t. rw (minute-of t)) (minutes line)
     ∙ minutes-due line sunday w l h

@@ -6,11 +6,11 @@ use Prim.Native.Nat.{ℕ, suc, ◌+◌, ◌-◌, ◌≤◌, ◌<◌}
 use native.Mathlib.Omega.{arith}
 use borrow.Author.Tests.{ltb-true, ltb-false}
 use lib.Dec.{leb, ltb}
-use lib.ListN.{length, take, drop, length-drop}
-use lib.Seq.{take_all}
+use lib.ListN.{length, take, drop}
 use Rattle.std.specs.Prelude.{Result, Ok, Err, Option, None, Some}
 use Rattle.std.specs.List.{position_or_len}
 use Rattle.std.specs.Option.{unwrap_or}
+use Rattle.std.proofs.lemmas.List.{take_rest}
 use Rattle.std.proofs.lemmas.List.Recursion.{is_position_or_len}
 use Rattle.model.specs.Lists.{all}
 use Rattle.model.specs.Digits.{is_digit, value_from}
@@ -104,9 +104,6 @@ module _ (p : ℕ → Bool) (l : List ℕ) where
         go true w e = let z : ◌≡◌ {A = ℕ} 0 1 = cc in absurd (omega arith)
         go false w e = ltb-false (until p l) (length l) w
 
-take-rest : (l : List ℕ) (n : ℕ) → take (length l - n) (drop n l) ≡ drop n l
-take-rest l n = take_all (length l - n) (drop n l) (rw length-drop (omega arith))
-
 -- the blanks behind the first field, counted in what is left of the line
 pub behind-is : (l : List ℕ) {at : ℕ} → at ≡ until is_blank l → {r : Option ℕ} {n : ℕ}
     → (let rest = take (length l - at) (drop at l) in
@@ -116,7 +113,7 @@ unfolding behind_first
 behind-is l {at = at} e {n = n} f q =
     let rest = take (length l - at) (drop at l) in
     let d : n ≡ until (λ b. not (is_blank b)) rest = q ∙ place-or-end (λ b. not (is_blank b)) rest f in
-    take-rest rest n ∙ rw (d, ← skip-is is_blank rest, take-rest l at, e)
+    take_rest rest n ∙ rw (d, ← skip-is is_blank rest, take_rest l at, e)
 
 -- the loop that counts fields: field `left` of what is left is field k of the line
 pub field-on : (l rest next : List ℕ) (k at : ℕ) → at < k → field (k - at) rest ≡ field k l → next ≡ behind_first rest → field (k - (at + 1)) next ≡ field k l

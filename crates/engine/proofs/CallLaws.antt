@@ -19,7 +19,7 @@ use Rattle.model.specs.Store.{read, write, loaded_of, rule_count, variable_of, K
 use Rattle.model.specs.Flat.{flatten_rules, set_of}
 use Rattle.model.specs.Load.{image_refusal}
 use Rattle.model.specs.Calls as calls
-use Rattle.model.specs.Calls.{load, unload, enable, done, refused, enabled, answered, rest_with, rest_without, loading, call_load, call_unload, flipped, enabling, rule_in, call_enable, rules_loaded, counters_of, call}
+use Rattle.model.specs.Calls.{load, unload, enable, done, refused, enabled, answered, rest_with, rest_without, loading, call_load, call_unload, flipped, enabling, rule_in, call_enable, counters_of, call}
 use Rattle.model.proofs.Bools.{join}
 use Rattle.model.proofs.PartsLaws.{variable-laws, timer-laws}
 use Rattle.model.proofs.PartsLaws as parts_laws
@@ -194,10 +194,6 @@ enable-yes rule i on w w₁ u k r e n a h =
     call-seen enabled_values (enable rule on) w w₁ [] [] s (Ok true) b (enable-on rule on w) k.is (ap (λ (x : calls.Done). x.answer) d) (same-enabled true) (q ∙ sym (ap (λ (x : calls.Done). write x.store) d)) (no-outcomes 0 b refl) (no-effects 0 b refl)
 
 -- COUNTERS ----------------------------------------------------------------------------------------------------------------------------------
-rules-loaded : (o : Option RuleSet) → rule_count o ≡ rules_loaded o
-rules-loaded None = refl
-rules-loaded (Some set) = refl
-
 -- rows of one word are the words
 any_words : (n : ℕ) (v : List ℕ) → n ≤ length v → take n v ≡ rows_at any n v
 unfolding rows_at
@@ -221,5 +217,4 @@ counters-are w s p t n q i ep et en eq =
     et ∙ sym (ap length (timers-at w) ∙ table-long timer_row timer-laws (row_at any w timers_place) w (timers_place + 1)) ∙ ap (λ (x : model.Volatile). length x.rest.timers) v in
     let k : q ≡ length s.vol.rest.vars =
     eq ∙ sym (ap length (variables-at w) ∙ table-long variable_row variable-laws (row_at any w variables_place) w (variables_place + 1)) ∙ sym (length-map m.variables variable_of) ∙ ap (λ (x : model.Volatile). length x.rest.vars) v in
-    let h = en ∙ rules-loaded s.loaded in
-    λ i. a i ++ (f i ∷ g i ∷ h i ∷ k i ∷ [])
+    λ i. a i ++ (f i ∷ g i ∷ en i ∷ k i ∷ [])

@@ -20,7 +20,7 @@ use Rattle.model.specs.Image.{width_of, image_sized, trailer, call_depth, repeat
 use Rattle.model.specs.Rules.{record_in, flow_of}
 use Rattle.model.specs.Flat.{block_named, flatten_rule, flatten_rules}
 use Rattle.model.proofs.Bools as bools
-use Rattle.model.proofs.ImageLaws.{table-follows, last-first}
+use Rattle.model.proofs.ImageLaws.{table-follows, starts-inside}
 use Rattle.flat.specs.Outcome.{Behind, NestedIn, BlockIn, action_in}
 use Rattle.flat.specs.Load.{Checked, CheckedTables, rule_at, rules_up_to, flatten_tables}
 
@@ -161,14 +161,8 @@ module _ (img : List ℕ) (h : Checked img) where
   pub table-order : (t : ℕ) → t < 7 → first_of img t ≤ first_of img (t + 1)
   table-order t l = table-follows img h.placed t (omega arith)
 
-  ends : (k : ℕ) → k ≤ 8 → first_of img (8 - k) ≤ length img
-  ends zero l = omega (arith, last-first img, long)
-  ends (suc k) l =
-      let e : 8 - suc k + 1 ≡ 8 - k = omega arith in
-      omega (arith, rw e at (table-follows img h.placed (8 - suc k) (omega arith)), ends k (omega arith))
-
   pub table-end : (t : ℕ) → t < 7 → first_of img (t + 1) ≤ length img
-  table-end t l = let e : 8 - (7 - t) ≡ t + 1 = omega arith in rw e at (ends (7 - t) (omega arith))
+  table-end t l = starts-inside img h.placed (t + 1) (omega arith)
 
   -- 14, at word j of record i
   led : (t i j : ℕ) → t < 8 → i < size_of img t → j < width_of t

@@ -14,8 +14,9 @@ use Rattle.model.specs.Steps.{FlatStep, steps_of}
 use Rattle.model.specs.Image.{call_depth, repeat_limit}
 use Rattle.model.specs.Flat.{Flattened, again, within_after, copies, flatten_after, flatten_rule, flatten_rules, steps_in, taken_in, too_many_steps}
 use Rattle.model.proofs.Bools as bools
+use Rattle.model.proofs.TestLaws.{by}
 use Rattle.flat.specs.Load.{rule_context, stored}
-use Rattle.flat.proofs.Induction.{by, Closed}
+use Rattle.flat.proofs.Induction.{Closed}
 use Rattle.flat.proofs.Lengths.{OfAction, OfList, lengths, most-le}
 use Rattle.flat.proofs.EachRule.{of-rule}
 use Rattle.flat.proofs.RuleLists.{stored-count}

@@ -23,6 +23,7 @@ use Rattle.model.specs.Steps.{FlatStep}
 use Rattle.model.specs.declared.Point.{Point}
 use Rattle.model.specs.declared.Step.{Step}
 use Rattle.model.proofs.Bools.{both}
+use Rattle.model.proofs.RowLaws.{rows-count}
 use Rattle.flat.specs.Words.{step_of, steps_in, body_words, list_words, Says}
 use Rattle.flat.specs.Near.{reach, step_in, is_near, NearLists, IsNear}
 
@@ -52,14 +53,9 @@ row-there zero p w h = absurd (not-suc-le-zero h)
 row-there (suc n) zero w h = ap Some (sym (first-row w))
 row-there (suc n) (suc p) w h = ap Some (sym (next_row w p)) ∙ row-there n p (drop 4 w) (omega arith)
 
-rows-count : (n : ℕ) (w : List ℕ) → length (rows_at step_row n w) ≡ n
-unfolding rows_at
-rows-count zero w = refl
-rows-count (suc n) w = ap suc (rows-count n (drop 4 w))
-
-steps-count : (w : List ℕ) → length (steps_in w) ≡ length w / 4
+pub steps-count : (w : List ℕ) → length (steps_in w) ≡ length w / 4
 unfolding steps_in
-steps-count w = length-map (rows_at step_row (length w / 4) w) step_of ∙ rows-count (length w / 4) w
+steps-count w = length-map (rows_at step_row (length w / 4) w) step_of ∙ rows-count step_row (length w / 4) w
 
 map-there : {A B : Type 0} (f : A → B) (xs : List A) (p : ℕ) (x : A) → Some x ≡ slice_get xs p → Some (f x) ≡ slice_get (map f xs) p
 map-there f [] p x e = cc

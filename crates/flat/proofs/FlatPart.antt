@@ -1,6 +1,6 @@
 -- The words that flattening writes are those that model's codec puts into a store: the rows of 64 lists, and the counted steps.
 use mathlib.Core.Path.{◌≡◌, refl, sym, ap, ◌∙◌}
-use mathlib.Core.Bool.{Bool, true, false, not, ◌&&◌}
+use mathlib.Core.Bool.{Bool, true, false, not, ◌&&◌, and-false, and-true}
 use mathlib.Core.List.{List, [], ◌∷◌, ◌++◌}
 use Prim.Native.Nat.{ℕ, zero, suc, ◌*◌, ◌-◌, ◌≤◌}
 use borrow.Author.Tests.{eq-eqb, eqb-true, eqb-false, not-true}
@@ -19,9 +19,9 @@ use Rattle.model.specs.Load.{tables_refusal, image_refusal_with, image_refusal}
 use Rattle.model.proofs.Bools.{not-refused}
 use Rattle.model.proofs.StoreLaws.{rows-length}
 use Rattle.model.proofs.ListLaws.{length-up_from}
+use Rattle.model.proofs.TestLaws.{by}
 use Rattle.flat.specs.Load.{stored, step_part, list_part, Checked, MadeOf, same_flat}
-use Rattle.flat.proofs.Words.{layout_is, layout-length, and-false, and-true, same-all, not-all}
-use Rattle.flat.proofs.Induction.{by}
+use Rattle.flat.proofs.Words.{layout_is, layout-length, same-all, not-all}
 use Rattle.flat.proofs.RuleLists.{words_append}
 
 zero-rows : (k : ℕ) → words_of list_row (replicate k (0, 0)) ≡ replicate (k * 2) 0

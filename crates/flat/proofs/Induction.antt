@@ -1,6 +1,6 @@
 -- Induction over flattening: what holds of each form, if it holds of its lists, holds of every list of the action table.
-use mathlib.Core.Path.{◌≡◌, refl, sym, subst}
-use mathlib.Core.Bool.{Bool, true, false}
+use mathlib.Core.Path.{◌≡◌, sym, subst}
+use mathlib.Core.Bool.{true, false}
 use mathlib.Core.List.{List, [], ◌∷◌}
 use Rattle.std.specs.Prelude.{Option, None, Some}
 use Prim.Native.Nat.{ℕ, zero, suc, ◌+◌, ◌-◌, ◌/◌, ◌<◌}
@@ -14,12 +14,8 @@ use Rattle.model.specs.declared.FlattenCtx.{FlattenCtx}
 use Rattle.model.specs.declared.Step.TheVariants as step
 use Rattle.model.specs.Rules.{record_in, flow_of}
 use Rattle.model.specs.Flat.{Flattened, Flattening, no_steps, one_step, append, within_after, within_repeat, within_conditional, flatten_list, flatten_after, flatten_repeat, repeat_fails, flatten_branch, flatten_action, flattenings_from, block_named, flatten_block, flatten_call, flattenings}
+use Rattle.model.proofs.TestLaws.{by}
 use Rattle.flat.specs.Outcome.{list_at}
-
--- by the two answers of a test
-pub by : {P : Type 0} (b : Bool) → (b ≡ true → P) → (b ≡ false → P) → P
-by true f g = f refl
-by false f g = g refl
 
 -- of what a list adds: calls left, where it stands, how many steps the list around it has and how many the bodies
 abbrev pub Of : Type 1

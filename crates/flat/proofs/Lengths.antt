@@ -9,8 +9,9 @@ use lib.Dec.{leb}
 use lib.ListN.{length, length-append}
 use Rattle.model.specs.declared.FlattenCtx.{FlattenCtx}
 use Rattle.model.specs.Flat.{Flattened, again, within_after, within_conditional, copies, flatten_branch}
+use Rattle.model.proofs.TestLaws.{by}
 use Rattle.flat.specs.Outcome.{list_at}
-use Rattle.flat.proofs.Induction.{by, Closed, of-table}
+use Rattle.flat.proofs.Induction.{Closed, of-table}
 
 -- how many steps a list has behind an action, inside a conditional or not, with d calls left
 abbrev pub most : Bool → ℕ → ℕ

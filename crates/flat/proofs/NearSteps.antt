@@ -14,9 +14,10 @@ use Rattle.model.specs.Steps.{FlatStep, steps_of}
 use Rattle.model.specs.declared.FlattenCtx.{FlattenCtx}
 use Rattle.model.specs.declared.Step.{Step}
 use Rattle.model.proofs.Bools.{both, join, all_append}
+use Rattle.model.proofs.TestLaws.{by}
 use Rattle.flat.proofs.Counts.{short_bodies, longer}
 use Rattle.flat.proofs.EachRule.{of-rule}
-use Rattle.flat.proofs.Induction.{by, Closed}
+use Rattle.flat.proofs.Induction.{Closed}
 use Rattle.flat.specs.Near.{reach}
 
 -- so far leads a step at most

@@ -18,10 +18,10 @@ use Rattle.model.specs.Rules.{record_in, flow_of}
 use Rattle.model.specs.Image.{word_at, table_of, trailer, call_depth, repeat_limit, limit_fits, limits_fit}
 use Rattle.model.specs.Flat.{Flattening, within_after, within_repeat, within_conditional, flatten_list, repeat_fails, flattenings_from, block_named, flatten_call, flattenings}
 use Rattle.model.proofs.Bools.{both, every-at}
+use Rattle.model.proofs.TestLaws.{by}
 use Rattle.flat.specs.Load.{rule_context}
 use Rattle.flat.specs.OpenLists.{Opening, greater, open_list, open_part, open_action, openings_from, open_block, open_call, openings, open_lists}
 use Rattle.flat.proofs.Definition.{repeats-outside}
-use Rattle.flat.proofs.Induction.{by}
 
 greater-le : (a b k : ℕ) → a ≤ k → b ≤ k → greater a b ≤ k
 unfolding greater

@@ -1,7 +1,7 @@
 -- Laws of the parts of several rules, one behind the other.
 use mathlib.Core.Path.{◌≡◌, refl, sym, ap, ◌∙◌}
-use mathlib.Core.Bool.{Bool, true, false, ◌&&◌}
-use mathlib.Core.List.{List, [], ◌∷◌, ◌++◌, map, append-nil, append_assoc}
+use mathlib.Core.Bool.{Bool, true, false, ◌&&◌, and_assoc}
+use mathlib.Core.List.{List, [], ◌∷◌, ◌++◌, map, append-nil, append_assoc, map-append}
 use Prim.Native.Nat.{ℕ, zero, suc, ◌+◌, ◌*◌, ◌-◌, ◌/◌, ◌≤◌, ◌<◌}
 use native.Mathlib.Nat.{add-zero, zero-add}
 use native.Mathlib.Numerals.{add-one}
@@ -16,13 +16,13 @@ use Rattle.model.specs.Codec.{words_of}
 use Rattle.model.specs.Parts.{list_row}
 use Rattle.model.specs.Store.{list_rows}
 use Rattle.model.specs.Flat.{Row, Flattened, part_of, steps_in, taken_in, too_many_steps}
-use Rattle.model.proofs.ListLaws.{length-up_from, up_from-last, map-append}
+use Rattle.model.proofs.ListLaws.{length-up_from, up_from-last}
 use Rattle.model.proofs.Bools.{or-true}
 use Rattle.std.specs.Prelude.{Ok}
 use Rattle.flat.specs.Words.{layout, same_at}
 use Rattle.flat.specs.Outcome.{so_far, Start, Behinds, holds_at, Wrote}
 use Rattle.flat.specs.Load.{stored, step_part, list_part, loaded, RuleWrote, EachWrote, MadeOf, CheckedTables, rule_context, rule_at, rules_up_to, flatten_tables}
-use Rattle.flat.proofs.Words.{layout-append, and_assoc, same_none, same-rows-append, same_drop, tail_of, tail-drop}
+use Rattle.flat.proofs.Words.{layout-append, same_none, same-rows-append, same_drop, tail_of, tail-drop}
 use Rattle.flat.proofs.Rows.{whole_length, tail-behinds}
 use Rattle.flat.proofs.Parts.{Placed, drop-placed}
 use Rattle.flat.proofs.Lengths.{list_length}

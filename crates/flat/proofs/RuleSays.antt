@@ -16,9 +16,10 @@ use Rattle.model.specs.Steps.{FlatStep, steps_of}
 use Rattle.model.specs.Codec.{rows_at}
 use Rattle.model.specs.Parts.{step_row}
 use Rattle.model.specs.Flat.{Row, Flattened, again, copies, flatten_after, flatten_rule, body_in, list_in, part_of}
+use Rattle.model.proofs.TestLaws.{by}
 use Rattle.flat.specs.Words.{layout, step_of, steps_in, body_words, Says}
 use Rattle.flat.proofs.Words.{layout-length, four-more, drop-words, take_words}
-use Rattle.flat.proofs.Induction.{by, Closed}
+use Rattle.flat.proofs.Induction.{Closed}
 use Rattle.flat.proofs.EachRule.{of-rule}
 
 -- ROWS AND STEPS ----------------------------------------------------------------------------------------------------------------------

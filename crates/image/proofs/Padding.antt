@@ -4,12 +4,13 @@ use mathlib.Core.List.{List, [], ◌∷◌, map}
 use Prim.Native.Nat.{ℕ, ◌<◌, ◌≤◌}
 use native.Mathlib.Omega.{arith}
 use lib.ListN.{length, get_or, get_or-map, get_or-eq_default, length-append, length-replicate}
+use Rattle.std.proofs.lemmas.List.{get_or_default}
 use Rattle.model.specs.declared.Field.{Field}
 use Rattle.model.specs.Rows.{void, action_rows, reading_rows}
 use Rattle.image.specs.Tables.{number_of}
 use Rattle.image.specs.declared.layout.Table.{Table}
 use Rattle.image.specs.declared.layout.Table.TheVariants.{Rules, Blocks, Triggers, Conditions, Actions, Values, Bounds, Pool}
-use Rattle.fields.proofs.Padded.{padded, get_d_any, field_at}
+use Rattle.fields.proofs.Padded.{padded, field_at}
 
 -- row k of a table of padded rows
 pub row-is : (n : ℕ) (rows : List (List Field)) (k : ℕ) → get_or (map (padded void n) rows) k (padded void n []) ≡ padded void n (get_or rows k [])
@@ -19,12 +20,12 @@ row-is n rows k = get_or-map (padded void n) rows k []
 pub field-is : (n : ℕ) (row : List Field) (j : ℕ) (d : Field) → j < n → get_or (padded void n row) j d ≡ get_or row j void
 field-is n row j d h =
     let l : j < length (padded void n row) = omega (arith, length-append {A = Field}, length-replicate {A = Field}) in
-    get_d_any (padded void n row) j d void l ∙ field_at void n (row ∷ []) 0 j (padded void n row) _ refl refl
+    get_or_default (padded void n row) j d void l ∙ field_at void n (row ∷ []) 0 j (padded void n row) _ refl refl
 
 -- field j of an action of a kind that has no more than n fields, where n is read off their lengths with some default
 pub past-fields : (kind j n d : ℕ) → n ≡ get_or (map length action_rows) kind d → kind < 29 → n ≤ j → void ≡ get_or (get_or action_rows kind []) j void
 past-fields kind j n d e k h =
-    let m : n ≡ length (get_or action_rows kind []) = e ∙ (get_d_any (map length action_rows) kind d 0 k ∙ get_or-map length action_rows kind []) in
+    let m : n ≡ length (get_or action_rows kind []) = e ∙ (get_or_default (map length action_rows) kind d 0 k ∙ get_or-map length action_rows kind []) in
     let l : length (get_or action_rows kind []) ≤ j = rw (← m) h in
     sym (get_or-eq_default (get_or action_rows kind []) void l)
 

@@ -22,7 +22,7 @@ use Rattle.model.specs.Steps.{FlatStep, plain, steps_of}
 use Rattle.model.specs.State.{RuleSet}
 use Rattle.ledger.specs.Trace.{effects_in, RunOf, ended, exhausted, waits, continues, ActivationsOf, no_more, activation, unevaluable, TraceOf, activations, resumption}
 use Rattle.ledger.specs.FlatForm.{flow_at, nested, Context, ListForm, at-end, action, cut_off, ActionForm, is_plain, is-wait, is-after, after-in-after, is_call, call-past-limit, call-unknown, is-repeat, repeat-refused, is-branch, branch-in-branch}
-use Rattle.ledger.proofs.ListLaws.{and_l, and_r, and_i}
+use Rattle.ledger.proofs.ListLaws.{and_l, and_r, and_from}
 use Rattle.ledger.proofs.Reasons.{is_drop, drops_one, reason-two}
 
 -- EFFECTS WITH EACH OUTCOME --------------------------------------------------------------------------------------------------------
@@ -212,7 +212,7 @@ body-waits-append (x ∷ xs) ys = let i = body-waits-append xs ys in omega arith
 no-fails-append : (xs ys : List FlatStep) → no_fails (xs ++ ys) ≡ true → (no_fails xs ≡ true) × (no_fails ys ≡ true)
 no-fails-append [] ys h = (refl, h)
 no-fails-append (x ∷ xs) ys h =
-    let i = no-fails-append xs ys (and_r (no_fail (x.step ∷ x.body)) _ h) in (and_i (no_fail (x.step ∷ x.body)) _ (and_l _ _ h) i.0, i.1)
+    let i = no-fails-append xs ys (and_r (no_fail (x.step ∷ x.body)) _ h) in (and_from (no_fail (x.step ∷ x.body)) _ (and_l _ _ h) i.0, i.1)
 
 action-body-waits : {img : List ℕ} {p : Context} {n i : ℕ} {xs : List FlatStep} → ActionForm img p n i xs → no_fails xs ≡ true → nested_wait img i (flow_at img i) ≤ body_waits xs
 action-body-waits {img} {i = i} (is_plain e) h = let z = ap (nested_wait img i) e in omega arith

@@ -32,7 +32,7 @@ use Rattle.model.specs.Calls.{Call, new, load, unload, enable, tick, run, deadli
 use Rattle.ledger.specs.Ledger.{made, cleared, disabled, ticked, ran, Activation, Posting, Ledger, leaves_before, leaving, staying, resumed_payer, post_item, post_items, post, post_all, events_of, entry_of, is_refused, budget_of, start_ledger, notices, post_call, final_ledger}
 use Rattle.ledger.specs.Effects.{same_activation, from, only_if, effects_from}
 use Rattle.ledger.proofs.Sound.{Sound}
-use Rattle.ledger.proofs.ListLaws.{and_l, and_r, and_i, by}
+use Rattle.ledger.proofs.ListLaws.{and_l, and_r, and_from, by}
 use Rattle.ledger.proofs.Simulation.{Aged, aged_pending, aged_posting, Sim, post-append, post-traced}
 use Rattle.ledger.proofs.TickSimulation.{dues}
 use Rattle.ledger.proofs.History.{Agree, follows, starts}
@@ -238,7 +238,7 @@ module _ (ρ : Activation) where
   unfolding own_ok
   all-rules img [] = refl
   all-rules img (i ∷ is) =
-      and_i (own_ok (flatten_rule img i).steps) _ (and_i (list_ok (steps_of (flatten_rule img i).steps)) _ (rule-shape img i).own (rule-shape img i).bodies) (all-rules img is)
+      and_from (own_ok (flatten_rule img i).steps) _ (and_from (list_ok (steps_of (flatten_rule img i).steps)) _ (rule-shape img i).own (rule-shape img i).bodies) (all-rules img is)
 
   loads : (n t : ℕ) (img : List ℕ) (s : Store) (l : Ledger) → flats_ok s.loaded ≡ true → Within l → Stays (load t img) l (loading n t img (flatten_rules img) s)
   unfolding events_of post flat_ok set_of flatten_rules

@@ -6,7 +6,7 @@ use mathlib.Core.Bool.{Bool, true, false, not, false≢true}
 use mathlib.Core.List.{List, [], ◌∷◌, ◌++◌, tail}
 use lib.Dec.{leb, eqb}
 use lib.ListN.{length}
-use borrow.Author.Tests.{lt-ltb, le-ltb, eqb-true}
+use borrow.Author.Tests.{lt-ltb, le-ltb, eqb-true, not-true}
 use Rattle.words.specs.Saturating.{max64}
 use Rattle.model.specs.Lists.{all, keep}
 use Rattle.model.specs.State.{next_number}
@@ -149,10 +149,6 @@ item-gapless (paid x (defers d ms sp) g) l f h = by (eqb (length l.standing.post
 abbrev pub none_made : List Event → Bool
 none_made ms = all (λ m. not (is_made m)) ms
 
-is-not : (b : Bool) → not b ≡ true → b ≡ false
-is-not true h = absurd (false≢true h)
-is-not false h = refl
-
 last-event : (m : Event) (l : Ledger) → not (is_made m) ≡ true → last_of l ≤ last_of (post m l)
 unfolding post
 last-event made l e = absurd (false≢true e)
@@ -172,7 +168,7 @@ last-events (m ∷ ms) l e =
 module _ (G : ℕ → ℕ → Type 0) (law : Lasting G) where
   pub events-hold : (ms : List Event) (l : Ledger) → none_made ms ≡ true → Holds G law l → Holds G law (post_all ms l)
   events-hold [] l e h = h
-  events-hold (m ∷ ms) l e h = events-hold ms (post m l) (and_r (not (is_made m)) _ e) (event-holds G law m l (is-not (is_made m) (and_l _ _ e)) h)
+  events-hold (m ∷ ms) l e h = events-hold ms (post m l) (and_r (not (is_made m)) _ e) (event-holds G law m l (not-true (is_made m) (and_l _ _ e)) h)
 
   shown-event : (m : Event) (l : Ledger) → Holds G law l → Every (G (last_of l)) (number_on m l)
   shown-event made l h = tt
@@ -186,7 +182,7 @@ module _ (G : ℕ → ℕ → Type 0) (law : Lasting G) where
   events-shown [] l e h = tt
   events-shown (m ∷ ms) l e h =
       let p = post m l in
-      let k = event-holds G law m l (is-not (is_made m) (and_l _ _ e)) h in
+      let k = event-holds G law m l (not-true (is_made m) (and_l _ _ e)) h in
       every_append (G (last_of (post_all ms p))) (number_on m p) (numbers_of ms p)
       (every-imp (G (last_of p)) (G (last_of (post_all ms p))) (λ x. law.later (last_of p) (last_of (post_all ms p)) x (last-events ms p (and_r (not (is_made m)) _ e))) (number_on m p) (shown-event m p k))
       (events-shown ms p (and_r (not (is_made m)) _ e) k)
@@ -205,7 +201,7 @@ events-gapless [] l e f h = record { gapless = tt; top = refl }
 events-gapless (m ∷ ms) l e f h =
     let last = last-events ms (post m l) (and_r (not (is_made m)) _ e) in
     gapless-append (last_of l) (last_of (post m l)) (last_of (post_all ms (post m l))) (number_on m (post m l)) (numbers_of ms (post m l)) (event-gapless m l (and_l _ _ e) (omega arith) h)
-    (events-gapless ms (post m l) (and_r (not (is_made m)) _ e) f (event-holds Given given-lasts m l (is-not (is_made m) (and_l _ _ e)) h))
+    (events-gapless ms (post m l) (and_r (not (is_made m)) _ e) f (event-holds Given given-lasts m l (not-true (is_made m) (and_l _ _ e)) h))
 
 -- numbers that are all 0 change nothing
 pub zeros-gapless : (g : ℕ) (ns : List ℕ) → all is_zero ns ≡ true → Gapless g ns g

@@ -21,7 +21,7 @@ use Rattle.model.proofs.Bools.{all_append}
 use Rattle.ledger.proofs.Sound.{Sound}
 use Rattle.ledger.specs.Ledger.{Event, made, cleared, disabled, ticked, ran, traced, Posting, Standing, Ledger, leaves_before, leaving, staying, struck, accept, post_report, post_item, post, post_all, entry_of, start_ledger, Notice, events_of, leaving_at, leaving_at_each, notices, post_call}
 use Rattle.ledger.specs.Resumptions.{all_events, change_at, tick_number, ticks_in, expected, leaving_on, all_leaving, of_age, resumptions_of, continuation}
-use Rattle.ledger.proofs.ListLaws.{all_keep, and_l, and_r, and_i, by}
+use Rattle.ledger.proofs.ListLaws.{all_keep, and_l, and_r, and_from, by}
 use Rattle.ledger.proofs.Distinct.{distinct_by}
 use Rattle.ledger.proofs.SortLaws.{keep-comm, keep_append, keep-sort-none, keep-sort-one}
 
@@ -157,7 +157,7 @@ below l = all (λ (h : Posting). ltb h.age l.standing.next) l.standing.postings
 below_suc : (n : ℕ) (hs : List Posting) → all (λ (h : Posting). ltb h.age n) hs ≡ true → all (λ (h : Posting). ltb h.age (suc n)) hs ≡ true
 below_suc n [] h = refl
 below_suc n (x ∷ xs) h =
-    and_i (ltb x.age (suc n)) _ (lt-ltb x.age (suc n) (omega (arith, ltb-true x.age n (and_l _ _ h)))) (below_suc n xs (and_r (ltb x.age n) _ h))
+    and_from (ltb x.age (suc n)) _ (lt-ltb x.age (suc n) (omega (arith, ltb-true x.age n (and_l _ _ h)))) (below_suc n xs (and_r (ltb x.age n) _ h))
 
 below-accept : (h : Posting) (s : Standing) → h.age ≡ s.next → all (λ (x : Posting). ltb x.age s.next) s.postings ≡ true
     → all (λ (x : Posting). ltb x.age (accept h s).next) (accept h s).postings ≡ true
@@ -168,7 +168,7 @@ below-accept h s e b =
     (λ f.
     rw f
     (all_append (λ (x : Posting). ltb x.age (suc s.next)) s.postings (h ∷ []) (below_suc s.next s.postings b)
-    (and_i (ltb h.age (suc s.next)) true (lt-ltb h.age (suc s.next) (omega arith)) refl)))
+    (and_from (ltb h.age (suc s.next)) true (lt-ltb h.age (suc s.next) (omega arith)) refl)))
 
 below-post : (m : Event) (l : Ledger) → below l ≡ true → below (post m l) ≡ true
 unfolding post post_item post_report struck staying
@@ -191,7 +191,7 @@ below-posts (m ∷ ms) l h = below-posts ms (post m l) (below-post m l h)
 below-start : (cs : List Pending) (n : ℕ) → all (λ (c : Pending). ltb c.seq n) cs ≡ true
     → all (λ (h : Posting). ltb h.age n) (map (λ (c : Pending). record { entry = entry_of c; age = c.seq; number = c.number; origin = None }) cs) ≡ true
 below-start [] n h = refl
-below-start (c ∷ cs) n h = and_i (ltb c.seq n) _ (and_l _ _ h) (below-start cs n (and_r (ltb c.seq n) _ h))
+below-start (c ∷ cs) n h = and_from (ltb c.seq n) _ (and_l _ _ h) (below-start cs n (and_r (ltb c.seq n) _ h))
 
 none-of-next : (n : ℕ) (hs : List Posting) → all (λ (h : Posting). ltb h.age n) hs ≡ true → of_age n hs ≡ []
 none-of-next n [] h = refl

@@ -5,7 +5,7 @@ use mathlib.Core.Path.{◌≡◌, refl, sym, ◌∙◌, ap, ap₂, subst}
 use Prim.Native.Nat.{ℕ, zero, suc, pred, ◌+◌, ◌≤◌, ◌<◌}
 use native.Mathlib.Omega.{arith}
 use mathlib.Core.Bool.{Bool, true, false, not, true≢false, ◌&&◌}
-use mathlib.Core.List.{List, [], ◌∷◌, ◌++◌, map, tail, cons≢nil, head-eq_of_cons-eq, tail-eq_of_cons-eq, append_assoc}
+use mathlib.Core.List.{List, [], ◌∷◌, ◌++◌, map, tail, cons≢nil, head-eq_of_cons-eq, tail-eq_of_cons-eq, append_assoc, map-append}
 use Rattle.std.specs.Prelude.{Option, None, Some}
 use lib.Dec.{leb, eqb}
 use lib.ListN.{length, set, length-append, length-map}
@@ -33,11 +33,10 @@ use Rattle.model.specs.Rules.{name_order}
 use Rattle.model.specs.Calls.{rule_in}
 use Rattle.model.specs.Store.{is_given}
 use Rattle.ledger.specs.Effects.{number_begun, numbers_in, number_of}
-use Rattle.model.proofs.ListLaws.{map-append}
 use Rattle.model.proofs.Bools.{all_append}
 use Rattle.ledger.specs.Ledger.{traced, Entry, Posting, Standing, Payer, Ledger, struck, accept, post_report, pay, resumed_payer, post_item, post_items, post, post_all, entry_of}
 use Rattle.ledger.proofs.NextNumber.{next-positive, next-given}
-use Rattle.ledger.proofs.ListLaws.{map-keep, length-keep, all_keep, and_l, and_r, and_i, by, Every, every-sort, every-all}
+use Rattle.ledger.proofs.ListLaws.{map-keep, length-keep, all_keep, and_l, and_r, and_from, by, Every, every-sort, every-all}
 use Rattle.ledger.proofs.Known.{indices-known, named-known}
 use Rattle.ledger.proofs.Wheel.{WheelLaws}
 
@@ -153,9 +152,9 @@ module _ (o : Option RuleSet) (j k : ℕ) where
         same = map-append (aged_pending k) v.pending _ ∙ ap₂ ◌++◌ h.same (cc (h.nexts, nu.same)) ∙ sym (map-append (aged_posting j) s.postings _);
         nexts = let e = h.nexts in omega arith;
         few = rw (length-append v.pending) (omega arith);
-        known = all_append (λ (c : Pending). known_to o c.rule) v.pending _ h.known (and_i (known_to o w.rule) true kr refl);
+        known = all_append (λ (c : Pending). known_to o c.rule) v.pending _ h.known (and_from (known_to o w.rule) true kr refl);
         last = h.last;
-        given = all_append (is_given v.last_number) v.pending _ h.given (and_i (number_given v.last_number w.number) true (ap (λ n. number_given n w.number) h.last ∙ nu.given) refl);
+        given = all_append (is_given v.last_number) v.pending _ h.given (and_from (number_given v.last_number w.number) true (ap (λ n. number_given n w.number) h.last ∙ nu.given) refl);
       }))
 
   schedules-tell : (e : Env) (w : Job) (b ms : ℕ) (sp : Point) (v : Volatile) (s : Standing) → Sim o j k v s
@@ -311,7 +310,7 @@ module _ (o : Option RuleSet) (j k : ℕ) where
   given-later n (c ∷ cs) h =
       let a = and_l (is_given n c) _ h in
       let le = leb-true c.number n (and_r (leb 1 c.number) _ a) in
-      and_i (is_given (suc n) c) _ (and_i (leb 1 c.number) _ (and_l (leb 1 c.number) _ a) (le-leb c.number (suc n) (omega arith))) (given-later n cs (and_r (is_given n c) _ h))
+      and_from (is_given (suc n) c) _ (and_from (leb 1 c.number) _ (and_l (leb 1 c.number) _ a) (le-leb c.number (suc n) (omega arith))) (given-later n cs (and_r (is_given n c) _ h))
 
   takes-number : (r : Rest) (v : Volatile) (s : Standing) → Sim o j k v s
       → Sim o j k (with_number (suc v.last_number) (with_rest r v)) (record { postings = s.postings; next = s.next; last_number = suc s.last_number })
@@ -326,7 +325,7 @@ module _ (o : Option RuleSet) (j k : ℕ) where
       let u = numbered n w in
       let s : Rest = with_last_activation (set v.rest.last_activation w.index (Some e.world.now)) (bump activations_total v.rest) in
       let x = runs (budget e.set.image) e u start (with_number (suc v.last_number) (with_rest s v)) (post_item (started w.rule) l) kr
-      (record { sim = takes-number s v l.standing h; now = hn; rule = refl; left = hb; numbers = record { same = ap next_number h.last; given = and_i (leb 1 n) _ (le-leb 1 n (next-positive v.last_number)) (le-leb n _ (let z = h.last in let g = next-given v.last_number in omega arith)) } }) in
+      (record { sim = takes-number s v l.standing h; now = hn; rule = refl; left = hb; numbers = record { same = ap next_number h.last; given = and_from (leb 1 n) _ (le-leb 1 n (next-positive v.last_number)) (le-leb n _ (let z = h.last in let g = next-given v.last_number in omega arith)) } }) in
       record {
         sim = any-rest o j k _ _ _ x.sim;
         now = x.kept.now;

@@ -6,6 +6,7 @@ use Rattle.std.specs.Prelude.{None, Some}
 use Rattle.std.proofs.lemmas.Option.{none-some, same_Some}
 use Prim.Native.Nat.{ℕ, zero, suc, ◌+◌, ◌-◌, ◌*◌, ◌≤◌}
 use native.Mathlib.Nat.{add-zero, zero-add, add_assoc, one-mul, add-mul, mul-one}
+use native.Mathlib.Numerals.{one-add}
 use native.Mathlib.Omega.{arith}
 use lib.Dec.{leb, eqb}
 use lib.ListN.{length, drop, replicate, length-append, length-replicate, drop_of_length-le}
@@ -62,7 +63,7 @@ all_laws n {r} p =
       writes =
           λ w f.
           let (v, g) = rows-writes r p n w (sym (fit w) ∙ f) in
-          (rw size v, join (eq-eqb _ _ (rows-count r p n w)) g);
+          (rw size v, join (eq-eqb _ _ (rows-count r n w)) g);
     }
   where
     size : sizes (all n r).parts ≡ n * length r.cells
@@ -113,7 +114,7 @@ module _ {A : Type 0} (n : ℕ) {r : Row A} (p : RowLaws r) where
       let (a, b) = both (leb x n) (rows_fit x r.cells w && zeros ((n - x) * f) (drop (x * f) w)) (sym (fit (x ∷ w)) ∙ e) in
       let (q, z) = both (rows_fit x r.cells w) (zeros ((n - x) * f) (drop (x * f) w)) b in
       let (v, g) = rows-writes r p x w q in
-      let m = rows-count r p x w in
+      let m = rows-count r x w in
       let y = zeros-back ((n - x) * f) (drop (x * f) w) z in
       let d : drop (n * f) w ≡ drop ((n - x) * f) (drop (x * f) w) = ap (λ (k : ℕ). drop k w) (sym (rest_of x n f (leb-true x n a))) ∙ sym (drop-drop ((n - x) * f) (x * f) w) in
       let rows = rows_at r x w in
@@ -125,9 +126,6 @@ module _ {A : Type 0} (n : ℕ) {r : Row A} (p : RowLaws r) where
       let s : drop (sizes (most n r).parts) (x ∷ w) ≡ drop (n * f) w = ap (λ (k : ℕ). drop k (x ∷ w)) (size ∙ one-add (n * f)) in
       let t : (most n r).put rows ≡ x ∷ (words_of r rows ++ replicate ((n - x) * f) 0) = ap (λ (k : ℕ). k ∷ (words_of r rows ++ replicate ((n - k) * f) 0)) m in
       (ap (λ y. (most n r).put rows ++ y) s ∙ ap (λ y. y ++ drop (n * f) w) t ∙ ap (λ y. x ∷ y) whole, join (ap (λ (k : ℕ). leb k n) m ∙ a) g)
-    where
-      one-add : (k : ℕ) → 1 + k ≡ suc k
-      one-add k = omega arith
 
   pub most-laws : CodecLaws (most n r)
   most-laws = record { long = most-long; reads = most-reads; writes = most-writes }

@@ -27,6 +27,17 @@ pub last-first : (img : List ℕ) → first_of img 8 ≡ length img - 13
 unfolding first_of
 last-first img = refl
 
+-- each of the seven tables behind the first starts within the image, and so does the trailer
+module _ (img : List ℕ) (placed : places_fit img ≡ true) where
+  starts_before-last : (k : ℕ) → k ≤ 8 → first_of img (8 - k) ≤ length img
+  starts_before-last zero l = omega (arith, last-first img)
+  starts_before-last (suc k) l =
+      let e : 8 - suc k + 1 ≡ 8 - k = omega arith in
+      omega (arith, rw e at (table-follows img placed (8 - suc k) (omega arith)), starts_before-last k (omega arith))
+
+  pub starts-inside : (t : ℕ) → t ≤ 8 → first_of img t ≤ length img
+  starts-inside t l = let e : 8 - (8 - t) ≡ t = omega arith in rw e at (starts_before-last (8 - t) (omega arith))
+
 -- the number that is found, where none before it passes
 module _ (p : ℕ → Bool) where
   finds-case : (m i k : ℕ) (b : Bool) → p i ≡ b → p k ≡ true → (i < k → p i ≡ false) → (i < k → position_from p (suc i) (up_from (suc i) m) ≡ Some k) → (i ≡ k) ⊎ (i < k)

@@ -1,4 +1,6 @@
 pub mod Bools
+pub mod TestLaws
+pub mod InsertLaws
 pub mod ListLaws
 pub mod SortLaws
 pub mod DueIndices

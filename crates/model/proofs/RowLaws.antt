@@ -242,14 +242,14 @@ module _ {A : Type 0} (r : Row A) where
   words_long p [] = sym (zero-mul n)
   words_long p (a ∷ l) = length-append (r.put a) (words_of r l) ∙ rw (p a, words_long p l, next (length l))
 
+  pub rows-count : (m : ℕ) (w : List ℕ) → length (rows_at r m w) ≡ m
+  unfolding rows_at
+  rows-count zero w = refl
+  rows-count (suc m) w = ap suc (rows-count m (drop n w))
+
   module _ (p : RowLaws r) where
     pub rows_long : (l : List A) → length (words_of r l) ≡ length l * n
     rows_long = words_long p.long
-
-    pub rows-count : (m : ℕ) (w : List ℕ) → length (rows_at r m w) ≡ m
-    unfolding rows_at
-    rows-count zero w = refl
-    rows-count (suc m) w = ap suc (rows-count m (drop n w))
 
     pub rows-reads : (l : List A) (rest : List ℕ) → all_good r l ≡ true
         → (rows_at r (length l) (words_of r l ++ rest) ≡ l) × (rows_fit (length l) r.cells (words_of r l ++ rest) ≡ true)

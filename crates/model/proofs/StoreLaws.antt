@@ -8,7 +8,7 @@ use Rattle.std.proofs.lemmas.Option.{none-some, same_Some}
 use Prim.Native.Nat.{ℕ, zero, suc, ◌+◌, ◌-◌, ◌^◌}
 use native.Mathlib.Omega.{arith}
 use lib.Dec.{leb, ltb, eqb}
-use lib.ListN.{length, take, drop, replicate, length-append, take-append-drop}
+use lib.ListN.{length, take, drop, replicate, length-append, length-map, take-append-drop}
 use lib.Seq.{take_at, drop_at}
 use borrow.Author.Tests.{leb-true, eqb-true, eq-eqb}
 use Rattle.model.specs.Lists.{all, present, ◌>>=◌}
@@ -23,10 +23,6 @@ use Rattle.model.proofs.CodecLaws.{Holds, decode-put, put-decode}
 use Rattle.model.proofs.PartsLaws.{layout-laws}
 
 -- LISTS ---------------------------------------------------------------------------------------------------------------------------
-map-length : {A B : Type 0} (f : A → B) (l : List A) → length (map f l) ≡ length l
-map-length f [] = refl
-map-length f (x ∷ l) = ap suc (map-length f l)
-
 -- a list whose entries from n on are all x
 module _ {A : Type 0} (x : A) (is : A → Bool) (sure : (a : A) → is a ≡ true → a ≡ x) (here : is x ≡ true) where
   only : (l : List A) → all is l ≡ true → l ≡ replicate (length l) x
@@ -90,12 +86,12 @@ none_only : {A : Type 0} (a : Option A) → not (present a) ≡ true → a ≡ N
 none_only None e = refl
 none_only (Some a) e = absurd (false≢true e)
 
-bit-back : (b : ℕ) → leb b 1 ≡ true → bit_of (is_one b) ≡ b
+pub bit-back : (b : ℕ) → leb b 1 ≡ true → bit_of (is_one b) ≡ b
 bit-back zero e = refl
 bit-back (suc zero) e = refl
 bit-back (suc (suc b)) e = let l = leb-true (suc (suc b)) 1 e in absurd (omega arith)
 
-bits_back : (l : List ℕ) → all_good bit l ≡ true → map bit_of (map is_one l) ≡ l
+pub bits_back : (l : List ℕ) → all_good bit l ≡ true → map bit_of (map is_one l) ≡ l
 unfolding all_good
 bits_back [] e = refl
 bits_back (b ∷ l) e = let (p, q) = both _ _ e in rw (bit-back b p) (ap (λ t. b ∷ t) (bits_back l q))
@@ -111,12 +107,12 @@ bools-back [] = refl
 bools-back (true ∷ l) = ap (λ t. true ∷ t) (bools-back l)
 bools-back (false ∷ l) = ap (λ t. false ∷ t) (bools-back l)
 
-row_back : (r : ℕ × (ℕ × ℕ)) → leb r.1.0 1 ≡ true → variable_row_of (variable_of r) ≡ r
+pub row_back : (r : ℕ × (ℕ × ℕ)) → leb r.1.0 1 ≡ true → variable_row_of (variable_of r) ≡ r
 row_back (n, (zero, v)) e = refl
 row_back (n, (suc zero, v)) e = refl
 row_back (n, (suc (suc t), v)) e = let l = leb-true (suc (suc t)) 1 e in absurd (omega arith)
 
-rows_back : (l : List (ℕ × (ℕ × ℕ))) → all_good variable_row l ≡ true → map variable_row_of (map variable_of l) ≡ l
+pub rows_back : (l : List (ℕ × (ℕ × ℕ))) → all_good variable_row l ≡ true → map variable_row_of (map variable_of l) ≡ l
 unfolding all_good
 rows_back [] e = refl
 rows_back (r ∷ l) e =
@@ -265,7 +261,7 @@ module _ (n : ℕ) (v : Volatile) (o : one_for_each n v.rest ≡ true) where
   volatile-back : volatile_in n (changing_of v) ≡ v
   volatile-back =
       let (a, (b, c)) = lengths in
-      let bits = ap (map is_one) (take-fill 0 (λ b. eqb b 0) (λ b e. eqb-true b 0 e) refl 64 n (map bit_of v.rest.enabled) (map-length bit_of v.rest.enabled ∙ a)) ∙ bools-back v.rest.enabled in
+      let bits = ap (map is_one) (take-fill 0 (λ b. eqb b 0) (λ b e. eqb-true b 0 e) refl 64 n (map bit_of v.rest.enabled) (length-map v.rest.enabled bit_of ∙ a)) ∙ bools-back v.rest.enabled in
       let activations = take-fill None (λ a. not (present a)) none_only refl 64 n v.rest.last_activation b in
       let positions = take-fill None (λ a. not (present a)) none_only refl 64 n v.rest.cycle_pos c in
       let variables = variables-back v.rest.vars in
@@ -289,7 +285,7 @@ module _ (n : ℕ) (v : Volatile) (o : one_for_each n v.rest ≡ true) where
   unused-zero : unused_past n (changing_of v) ≡ true
   unused-zero =
       let (a, (b, c)) = lengths in
-      join (drop-fill 0 (λ b. eqb b 0) (λ b e. eqb-true b 0 e) refl 64 n (map bit_of v.rest.enabled) (map-length bit_of v.rest.enabled ∙ a))
+      join (drop-fill 0 (λ b. eqb b 0) (λ b e. eqb-true b 0 e) refl 64 n (map bit_of v.rest.enabled) (length-map v.rest.enabled bit_of ∙ a))
       (join (drop-fill None (λ a. not (present a)) none_only refl 64 n v.rest.last_activation b)
       (drop-fill None (λ a. not (present a)) none_only refl 64 n v.rest.cycle_pos c))
 

@@ -9,7 +9,7 @@ use Prim.Native.Nat.{ℕ, zero, suc, ◌+◌, ◌≤◌, ◌<◌, min}
 use native.Mathlib.Omega.{arith}
 use lib.ListN.{length, get_or}
 use borrow.Author.Tests.{le-leb, lt-leb}
-use Rattle.words.proofs.Signed.{split}
+use Rattle.std.proofs.lemmas.Bool.{cases_lt}
 use Rattle.model.specs.Lists.{any, up_from}
 use Rattle.model.proofs.ListLaws.{length-up_from}
 use Rattle.next.specs.NextStart.{first_from}
@@ -67,21 +67,21 @@ module _ (a b : ℕ) where
       ⊎_elim
       (λ k. let e : b ≡ min a b = omega arith in ap within e)
       (λ k. within-none b (omega arith) ∙ sym (within-none (min a b) (omega arith)))
-      (split b 10081)
+      (cases_lt b 10081)
 
   near : a ≤ 10080 → joined min a (within b) ≡ within (min a b)
   near h =
       ⊎_elim
       (λ k. ap (joined min a) (within-some b (omega arith)) ∙ sym (within-some (min a b) (omega arith)))
       (λ k. ap (joined min a) (within-none b (omega arith)) ∙ sym (within-some a h) ∙ (let e : a ≡ min a b = omega arith in ap within e))
-      (split b 10081)
+      (cases_lt b 10081)
 
   one_more : (l : List ℕ) → reduce min l ≡ within b → reduce min (cons_option (within a) l) ≡ within (min a b)
   one_more l e =
       ⊎_elim
       (λ k. let h : a ≤ 10080 = omega arith in ap (λ (o : Option ℕ). reduce min (cons_option o l)) (within-some a h) ∙ from-front min min_assoc a l ∙ ap (joined min a) e ∙ near h)
       (λ k. let h : 10080 < a = omega arith in ap (λ (o : Option ℕ). reduce min (cons_option o l)) (within-none a h) ∙ e ∙ far h)
-      (split a 10081)
+      (cases_lt a 10081)
 
 -- the first minute at which any of them passes
 pub least-first :

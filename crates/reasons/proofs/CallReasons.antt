@@ -27,7 +27,7 @@ use Rattle.model.specs.Calls.{Call, new, load, unload, enable, tick, run, deadli
 use Rattle.model.proofs.Bools.{all_append}
 use Rattle.ledger.specs.Demand3.{in_words}
 use Rattle.ledger.specs.OnWords.{answers_on}
-use Rattle.ledger.proofs.ListLaws.{by, and_i}
+use Rattle.ledger.proofs.ListLaws.{by, and_from}
 use Rattle.ledger.proofs.OnWords.{on-readable}
 use Rattle.ledger.proofs.Wheel.{WheelLaws, every_any, wheel}
 use Rattle.reasons.specs.Reasons.{is_known, all_known, shallow, decide_at}
@@ -151,7 +151,7 @@ says counters s = refl
 pub known-reasons : (s : Store) (cs : List Call) → all all_known (answers s cs) ≡ true
 unfolding answers
 known-reasons s [] = refl
-known-reasons s (c ∷ cs) = and_i (all_known (call c s).answer) _ (says c s) (known-reasons (call c s).store cs)
+known-reasons s (c ∷ cs) = and_from (all_known (call c s).answer) _ (says c s) (known-reasons (call c s).store cs)
 
 -- and on words that say a store
 pub known-reasons-on-words : (w : List ℕ) (s : Store) (cs : List Call) → all in_words cs ≡ true → read w ≡ Some s → all all_known (answers_on w cs) ≡ true

@@ -1,7 +1,7 @@
 -- Counting the triggers of a rule, one after the other: those so far, and those that are left.
 use mathlib.Core.Path.{◌≡◌, refl}
 use Prim.Native.Nat.{ℕ, ◌+◌, ◌-◌, ◌*◌, min, max, ◌≤◌}
-use native.Mathlib.Nat.{mul-le-mul_right}
+use native.Mathlib.Nat.{mul-le-mul_right, min_comm}
 use native.Mathlib.Numerals.{add-one}
 use native.Mathlib.Omega.{arith}
 use mathlib.Core.Bool.{Bool}
@@ -25,13 +25,10 @@ module _ (p : Trigger → Bool) (ts : List Trigger) where
   pub ends : (left : List Trigger) (x : ℕ) → left ≡ [] → Counted p ts left x → x ≡ count p ts
   ends left x e h = let a : count p left ≡ 0 = rw e in let b = h.whole in omega arith
 
-swapped : (x y : ℕ) → min x y ≡ min y x
-swapped x y = omega arith
-
 pub starts-sum : (ts : List Trigger) (a b x y z : ℕ) → x ≡ count is_timer_trigger ts → y ≡ count is_every_trigger ts → z ≡ count is_wall_trigger ts → a ≡ min x 16 → b ≡ min z 1
     → a + y + b ≡ starts_by ts
 unfolding starts_by
-starts-sum ts a b x y z ex ey ez ea eb = rw (ea, eb, ex, ey, ez, swapped (count is_timer_trigger ts) 16, swapped (count is_wall_trigger ts) 1)
+starts-sum ts a b x y z ex ey ez ea eb = rw (ea, eb, ex, ey, ez, min_comm (count is_timer_trigger ts) 16, min_comm (count is_wall_trigger ts) 1)
 
 pub product-fits : (a b : ℕ) → a ≤ 4294967312 → b ≤ 256 → a * b ≤ 1099511631872
 product-fits a b h k = let x = mul-le-mul_right b h in omega arith

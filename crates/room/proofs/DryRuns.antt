@@ -5,7 +5,7 @@ use native.Mathlib.Omega.{arith}
 use mathlib.Core.Bool.{Bool, true, false, false≢true}
 use mathlib.Core.List.{List, [], ◌∷◌, ◌++◌}
 use Rattle.std.specs.Prelude.{Option, None, Some}
-use Rattle.std.proofs.lemmas.Option.{none-some}
+use Rattle.std.proofs.lemmas.Option.{none-some, slice_get_within}
 use lib.ListN.{length, get_or, drop, length-append}
 use Rattle.std.specs.Prelude.{slice_get}
 use Rattle.model.specs.Lists.{to_list}
@@ -22,7 +22,6 @@ use Rattle.model.specs.Exec.{body_start}
 use Rattle.model.specs.Dry.{NextStep, found, next_step, dry_branch, dry_step, dry_turn, run_steps_dry}
 use Rattle.ledger.proofs.ListLaws.{Every, every_append}
 use Rattle.ledger.proofs.SumLaws.{sum_of, sum-append}
-use Rattle.ledger.proofs.Points.{at-inside}
 use Rattle.ledger.proofs.SetRules.{SetOk, list_of}
 use Rattle.ledger.proofs.RunRules.{in_body}
 use Rattle.room.proofs.Runs.{Onward, Ahead, arrive-ahead, further, effect-one}
@@ -66,7 +65,7 @@ copy_at (y ∷ ys) (suc p) x e = copy_at ys p x e
 left_at : (xs : List FlatStep) (n p : ℕ) (x : Step) → slice_get (list_in xs n) p ≡ Some x → suc (left_in xs n (suc p)) ≤ left_in xs n p
 unfolding list_in
 left_at xs zero p x e = let a = copy_at xs p x e in omega arith
-left_at xs (suc n) p x e = let lt = at-inside (body_in (slice_get xs n)) p x e in omega arith
+left_at xs (suc n) p x e = let lt = slice_get_within (body_in (slice_get xs n)) p x e in omega arith
 
 module _ (e : Env) (ok : SetOk e.set) (j : Job) where
   abbrev steps : List FlatStep

@@ -29,6 +29,7 @@ use Rattle.model.specs.Wheel.{service_tick}
 use Rattle.model.specs.Calls.{Call, new, load, unload, enable, tick, run, deadline, counters, Done, done, refused, effects_of, outcome_room, effect_room, loading, call_load, call_unload, call_enable, enabling, rule_in, overflow, committing, committed, tick_with, run_rule, run_with, given, call}
 use Rattle.model.specs.OnWords.{call_on, on_store, new_on, result, store_refusal}
 use Rattle.model.proofs.StoreLaws.{write_read}
+use Rattle.model.proofs.TestLaws.{total-same}
 use Rattle.ledger.specs.Demand3.{in_words}
 use Rattle.ledger.proofs.ListLaws.{and_l, and_r, by, IfSome}
 use Rattle.ledger.proofs.SumLaws.{sum_of}
@@ -42,7 +43,7 @@ use Rattle.ledger.proofs.RunRules.{VolatileOk}
 use Rattle.ledger.proofs.KeepsParts.{record_ok, of-keeps}
 use Rattle.room.specs.Room.{starts_of, own_steps, body_steps, effects_of_start, longest, outcomes_needed, effects_needed}
 use Rattle.room.specs.Enough.{Within, Lent, EnoughFor, EnoughIn}
-use Rattle.room.proofs.SumLaws.{greatest-at, total-same}
+use Rattle.room.proofs.SumLaws.{greatest-at}
 use Rattle.room.proofs.Activations.{Single, wet_of, dry_of, auto-single, manual-single, dry-run-single, resume-single}
 use Rattle.room.proofs.Ticks.{length-sum, tick-sum}
 

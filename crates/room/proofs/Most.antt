@@ -15,6 +15,7 @@ use Rattle.model.specs.declared.Trigger.TheVariants.{TimerFires, Every, AtTime, 
 use Rattle.model.specs.Rules.{triggers_of, rule_indices}
 use Rattle.model.specs.Load.{image_refusal}
 use Rattle.model.specs.Flat.{flatten_rule, flatten_rules, steps_in}
+use Rattle.model.proofs.TestLaws.{total-same}
 use Rattle.image.proofs.Accepted.{rules-few, slots-few}
 use Rattle.ledger.proofs.SumLaws.{sum_of}
 use Rattle.ledger.proofs.LoadRules.{slot_counts, rule-count}
@@ -23,7 +24,7 @@ use Rattle.ledger.proofs.Accepted.{Accepted, accepts, budget-range}
 use Rattle.ledger.proofs.SetRules.{few-steps}
 use Rattle.room.specs.Room.{count, is_every_trigger, starts_by, starts_of, own_steps, effects_of_start, longest, outcomes_needed, effects_needed}
 use Rattle.room.specs.Enough.{Room}
-use Rattle.room.proofs.SumLaws.{sum-from, total-same, total_mono, total-linear}
+use Rattle.room.proofs.SumLaws.{sum-from, total_mono, total-linear}
 
 everys : (ts : List Trigger) → count is_every_trigger ts ≡ slot_counts ts
 everys [] = refl

@@ -21,6 +21,7 @@ use Rattle.std.specs.Prelude.{Ok, Err}
 use Rattle.model.specs.declared.Refusal.{Refusal}
 use Rattle.model.specs.Refusals.{refusal_code}
 use Rattle.model.proofs.RefusalLaws.{refusal-some}
+use Rattle.model.proofs.TestLaws.{total-same}
 use Rattle.model.specs.Asked.{declined, shown_result}
 use Rattle.image.specs.Accepted.{Accepted}
 use Rattle.image.proofs.Accepted.{budget-fits, rules-few}
@@ -32,7 +33,6 @@ use Rattle.room.specs.declared.Needed.{Needed}
 use Rattle.room.specs.declared.Sums.{Sums}
 use Rattle.room.specs.Room.{starts_of, own_steps, body_steps, effects_of_start, longest, outcomes_needed, effects_needed}
 use Rattle.room.specs.Needed.{room_for, numbers, Needs, begin_in, size_in, steps_before, Summed, Listed}
-use Rattle.room.proofs.SumLaws.{total-same}
 use Rattle.room.proofs.Most.{most-outcomes, most-effects}
 
 -- THE ROWS --------------------------------------------------------------------------------------------------------------------------

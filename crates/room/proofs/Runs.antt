@@ -8,6 +8,7 @@ use Rattle.std.specs.Prelude.{Option, None, Some}
 use lib.Dec.{ltb, eqb}
 use lib.ListN.{length, length-append}
 use borrow.Author.Tests.{eqb-true}
+use Rattle.std.proofs.lemmas.Option.{slice_get_within}
 use Rattle.model.specs.Lists.{to_list}
 use Rattle.model.specs.declared.Step.{Step}
 use Rattle.model.specs.declared.Step.TheVariants.{Primitive, Wait, Branch, After, Fail}
@@ -24,7 +25,6 @@ use Rattle.model.specs.declared.Job.{Job}
 use Rattle.model.specs.Exec.{StepResult, after_prim, run_branch, exec, RunOutput, continue_run, with_step, run_steps}
 use Rattle.model.specs.Store.{jump_over, jump_from}
 use Rattle.ledger.proofs.ListLaws.{by, IfSome}
-use Rattle.ledger.proofs.Points.{at-inside}
 use Rattle.ledger.proofs.SetRules.{list_of}
 
 -- a jump leads onwards
@@ -117,7 +117,7 @@ step-few : (b : ℕ) (e : Env) (j : Job) (sp : Point) (v : Volatile) → Onward 
 unfolding with_step step_at
 step-few b e j sp v h ih None here = omega arith
 step-few b e j sp v h ih (Some x) here =
-    let lt = at-inside (list_of e.set j.index sp.list) sp.place x here in
+    let lt = slice_get_within (list_of e.set j.index sp.list) sp.place x here in
     let m = min b (length (list_of e.set j.index sp.list) - suc sp.place) in
     let a = continue-few sp.list (suc sp.place) m x (exec e j b sp x v) (exec e j b sp x v).next (λ sp' v'. run_steps b e j sp' v') (exec-ahead e j b sp x v h)
     (λ to w k. let c = ih to w k.jump in let d = left-ahead e.set j.index (suc sp.place) sp to k in omega arith) in

@@ -88,11 +88,6 @@ greatest-at f (suc n) i h =
     (λ t. let a = greatest-at f n i (ltb-true i n t) in omega arith)
     (λ t. let z = ltb-false i n t in let a : i ≡ n = omega arith in let b = ap f a in omega arith)
 
-pub total-same : (n : ℕ) (f g : ℕ → ℕ) → ((i : ℕ) → f i ≡ g i) → total n f ≡ total n g
-unfolding total
-total-same zero f g h = refl
-total-same (suc n) f g h = ap₂ ◌+◌ (total-same n f g h) (h n)
-
 pub total_mono : (n : ℕ) (f g : ℕ → ℕ) → ((i : ℕ) → f i ≤ g i) → total n f ≤ total n g
 unfolding total
 total_mono zero f g h = omega arith

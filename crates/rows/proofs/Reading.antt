@@ -20,6 +20,7 @@ use Rattle.model.specs.Steps.{jump_at}
 use Rattle.model.specs.declared.Point.{Point}
 use Rattle.model.specs.declared.VarValue.{VarValue}
 use Rattle.model.specs.declared.VarValue.TheVariants.{Int, Text}
+use Rattle.model.proofs.RowLaws.{rows-count}
 use Rattle.rows.specs.Places.{row_at, table_at}
 use Rattle.rows.specs.Rows.{bool_row, short_variable_of, variable_code_row, leap_row, point_row}
 use Rattle.std.specs.Prelude.{Option}
@@ -161,14 +162,9 @@ module _ {A : Type 0} (r : Row A) (w : List ℕ) where
   unfolding table_at row_at
   table_more i k = rows_more i (drop k w) ∙ ap (λ (l : List ℕ). rows_at r i (drop k w) ++ (r.get l ∷ [])) (drop-drop (i * n) k w)
 
-  rows_long : (i : ℕ) (v : List ℕ) → length (rows_at r i v) ≡ i
-  unfolding rows_at
-  rows_long zero v = refl
-  rows_long (suc i) v = ap suc (rows_long i (drop n v))
-
   pub table_long : (i k : ℕ) → length (table_at r i w k) ≡ i
   unfolding table_at
-  table_long i k = rows_long i (drop k w)
+  table_long i k = rows-count r i (drop k w)
 
   -- the first row, and those behind it
   pub table_first : (i k j m : ℕ) → i ≡ suc m → j ≡ k + n → table_at r i w k ≡ row_at r w k ∷ table_at r m w j

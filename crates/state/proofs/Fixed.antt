@@ -45,7 +45,7 @@ module _ {A : Type 0} (r : Row A) (laws : RowLaws r) (t n : ℕ) (h : t < 15) (i
     rows-good = (rows-writes r laws n (part t w) fits).1
 
     rows-many : length (rows_of w) ≡ n
-    rows-many = rows-count r laws n (part t w)
+    rows-many = rows-count r n (part t w)
 
     -- row i
     pub fixed-at : (i : ℕ) (d : A) → i < n → row_at r w (place_of t + i * f) ≡ get_or (rows_of w) i d

@@ -117,4 +117,4 @@ module _ {A : Type 0} (r : Row A) (laws : RowLaws r) (b : A) (blank : r.put b �
           sym (ap (λ (x : ℕ). take (n * f) p ++ replicate x 0) c ∙ ap (λ (x : List ℕ). take (n * f) p ++ x) y ∙ take-append-drop (n * f) p)
 
       pub unset-ruled : unset_from n f p ≡ true → p ≡ words_of r (ruled (rows_at r 64 p))
-      unset-ruled z = unset-rows z ∙ ap (first_of (n * f)) (sym rows_are) ∙ words-ruled (rows_at r 64 p) (rows-count r laws 64 p)
+      unset-ruled z = unset-rows z ∙ ap (first_of (n * f)) (sym rows_are) ∙ words-ruled (rows_at r 64 p) (rows-count r 64 p)

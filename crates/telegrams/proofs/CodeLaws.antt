@@ -15,9 +15,9 @@ use Rattle.model.specs.declared.Effect.{Effect}
 use Rattle.std.specs.Prelude.{Ok, Err}
 use Rattle.model.specs.declared.Refusal.TheVariants.{EffectWords, TelegramStore}
 use Rattle.model.specs.Telegrams.{is_level, cuts, sets, kept, effect_at, effects_in, are_effects, has_room, answer, kept_store}
+use Rattle.model.proofs.TestLaws.{by}
 use Rattle.telegrams.specs.Recursion.{is_set, set_again, kept_head, keep_last, effects_from, Puts}
 use Rattle.lent_words.specs.PutEffects.{put_effect, put_effects}
-use Rattle.telegrams.proofs.KeptLaws.{by}
 use Rattle.telegrams.proofs.ShortestLaws.{none-set, cut-first, on-first}
 use Rattle.telegrams.proofs.PlacesLaws.{kept-by-recursion}
 use Rattle.lent_words.proofs.Written.{put-append, puts-length, lent-list}

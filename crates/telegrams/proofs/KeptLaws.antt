@@ -1,6 +1,6 @@
 -- The kept list by recursion on the list, and its laws: the same cuts, the same lamps, kept again it is itself. Assumes nothing.
 use mathlib.Core.Path.{◌≡◌, refl, ap, ◌∙◌}
-use mathlib.Core.Bool.{Bool, true, false, cond, false≢true}
+use mathlib.Core.Bool.{true, false, cond, false≢true}
 use mathlib.Core.List.{List, [], ◌∷◌}
 use Rattle.std.specs.Prelude.{Option, None, Some}
 use Prim.Native.Nat.{ℕ, zero, suc}
@@ -9,13 +9,9 @@ use lib.Dec.{eqb}
 use Rattle.model.specs.Lists.{present}
 use Rattle.model.specs.declared.Effect.{Effect}
 use Rattle.model.proofs.Bools.{both}
+use Rattle.model.proofs.TestLaws.{by}
 use Rattle.model.specs.Telegrams.{is_level, cuts, sets, cutting, stretch, later, Setting, setting, last_set}
 use Rattle.telegrams.specs.Recursion.{is_set, set_again, kept_head, keep_last}
-
--- by the two values of a test
-pub by : {P : Type 0} (b : Bool) → (b ≡ true → P) → (b ≡ false → P) → P
-by true f g = f refl
-by false f g = g refl
 
 pub keeps : (x : Effect) (xs : List Effect) → set_again x xs ≡ false → keep_last (x ∷ xs) ≡ x ∷ keep_last xs
 unfolding keep_last kept_head

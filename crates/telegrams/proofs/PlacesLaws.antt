@@ -1,6 +1,6 @@
 -- Selections by places, and the kept list by places, by recursion on the list. Assumes nothing.
 use mathlib.Core.Path.{◌≡◌, refl, sym, ap, ◌∙◌}
-use mathlib.Core.Bool.{Bool, true, false, cond, not, ◌&&◌, ◌||◌, false≢true, and-false}
+use mathlib.Core.Bool.{Bool, true, false, cond, not, ◌&&◌, ◌||◌, false≢true, and-false, and-true, and_assoc}
 use mathlib.Core.List.{List, [], ◌∷◌, map}
 use Prim.Native.Nat.{ℕ, zero, suc}
 use lib.Dec.{leb, leb-zero, leb-suc-zero, leb-suc-suc}
@@ -8,29 +8,12 @@ use lib.ListN.{length}
 use Rattle.model.specs.Lists.{keep, up_from, every}
 use Rattle.model.specs.declared.Effect.{Effect}
 use Rattle.model.specs.Telegrams.{is_level, cuts, sets, at, supersedes, superseded, select, kept}
+use Rattle.model.proofs.TestLaws.{every_first, every-same, by}
 use Rattle.telegrams.specs.Recursion.{is_set, set_again, kept_head, keep_last}
-use Rattle.telegrams.proofs.KeptLaws.{by, level-not-cut}
+use Rattle.telegrams.proofs.KeptLaws.{level-not-cut}
 use Rattle.telegrams.proofs.ShortestLaws.{none-set, cut-first, on-first, sets-level}
 
 -- TESTS AT EVERY NUMBER
-
-and-true : (b : Bool) → b && true ≡ b
-and-true true = refl
-and-true false = refl
-
-assoc : (a b c : Bool) → (a && b) && c ≡ a && (b && c)
-assoc true b c = refl
-assoc false b c = refl
-
-every_first : (n : ℕ) (f : ℕ → Bool) → every (suc n) f ≡ f zero && every n (λ i. f (suc i))
-unfolding every
-every_first zero f = sym (and-true (f zero))
-every_first (suc n) f = rw (every_first n f) (assoc (f zero) (every n (λ i. f (suc i))) (f (suc n)))
-
-every-same : (n : ℕ) (f g : ℕ → Bool) → ((i : ℕ) → f i ≡ g i) → every n f ≡ every n g
-unfolding every
-every-same zero f g h = refl
-every-same (suc n) f g h = rw (every-same n f g h, h n)
 
 pub every_true : (n : ℕ) (f : ℕ → Bool) → ((i : ℕ) → f i ≡ true) → every n f ≡ true
 unfolding every
@@ -118,7 +101,7 @@ first_by : (x : Effect) (xs : List Effect) (j : ℕ) → supersedes (x ∷ xs) z
 unfolding supersedes sets_at at
 first_by x xs j =
     rw (every_first j (λ k. leb k zero || not (cuts (at (x ∷ xs) k))), leb-suc-suc zero j, leb-zero j, every-same j (λ k. leb (suc k) zero || not (cuts (at xs k))) (λ k. not (cuts (at xs k))) (λ k. rw (leb-suc-zero k)))
-    (assoc (is_level x) (sets x.a (at xs j)) (every j (λ k. not (cuts (at xs k)))))
+    (and_assoc (is_level x) (sets x.a (at xs j)) (every j (λ k. not (cuts (at xs k)))))
 
 not_itself : (x : Effect) (xs : List Effect) → supersedes (x ∷ xs) zero zero ≡ false
 unfolding supersedes

@@ -12,9 +12,10 @@ use lib.ListN.{length}
 use Rattle.model.specs.Lists.{present, keep}
 use Rattle.model.specs.declared.Effect.{Effect}
 use Rattle.model.proofs.Bools.{both, or-true}
+use Rattle.model.proofs.TestLaws.{by}
 use Rattle.model.specs.Telegrams.{is_level, cuts, sets, stretch, later, setting, last_set}
 use Rattle.telegrams.specs.Recursion.{is_set, set_again, keep_last}
-use Rattle.telegrams.proofs.KeptLaws.{by, keeps, leaves, level-not-cut, again-level}
+use Rattle.telegrams.proofs.KeptLaws.{keeps, leaves, level-not-cut, again-level}
 
 -- WHICH LAMPS A STRETCH SETS, BY RECURSION
 

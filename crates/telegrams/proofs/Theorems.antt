@@ -9,9 +9,10 @@ use lib.ListN.{length}
 use Rattle.model.specs.Lists.{keep}
 use Rattle.model.specs.declared.Effect.{Effect}
 use Rattle.model.specs.Telegrams.{is_level, at, supersedes, superseded, select, kept, cutting, SameLamps, KeepsOthers}
+use Rattle.model.proofs.TestLaws.{by}
 use Rattle.telegrams.proofs.KeptLaws as laws
 use Rattle.telegrams.specs.Recursion.{is_set, set_again, kept_head, keep_last}
-use Rattle.telegrams.proofs.KeptLaws.{by, keeps, leaves, again-level}
+use Rattle.telegrams.proofs.KeptLaws.{keeps, leaves, again-level}
 use Rattle.telegrams.proofs.ShortestLaws.{levels, SetsAll, fewest}
 use Rattle.telegrams.proofs.PlacesLaws.{every_true, select-cons, kept-by-recursion}
 

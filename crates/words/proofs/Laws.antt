@@ -1,10 +1,8 @@
 -- What users of this crate have to know of its definitions. Assumes nothing.
 use mathlib.Core.Path.{◌≡◌, refl}
-use mathlib.Core.Logic.{◌⊎◌, inl, inr}
 use Rattle.std.specs.Int.{saturate_signed}
-use Prim.Native.Nat.{ℕ, min, ◌+◌, ◌≤◌, ◌<◌}
+use Prim.Native.Nat.{ℕ, min, ◌+◌, ◌≤◌}
 use native.Mathlib.Omega.{arith}
-use native.Mathlib.Decide.{dec_le}
 use lib.IntN.{ℤ, pos, negsuc}
 use mir.Syntax.{w64}
 use mir.Val.{SFits}
@@ -22,10 +20,6 @@ pub signed-sum-is : (z : ℤ) → saturate_signed w64 z ≡ clamped z
 unfolding clamped
 signed-sum-is (pos n) = refl
 signed-sum-is (negsuc n) = refl
-
--- ---- one of two numbers is below the other, or they are equal
-pub split : (a b : ℕ) → (a < b) ⊎ (b ≤ a)
-split a b = elim (dec_le b a) [ yes h ↦ inr h | no h ↦ inl (omega arith) ]
 
 -- ---- a saturating sum, of a type whose largest number is `most`
 pub add-at-most : (most x y : ℕ) → saturating_add most x y ≤ most
