@@ -1,45 +1,36 @@
 -- The records of a table, as the chunks of its words. Assumes nothing.
 use mathlib.Core.Path.{◌≡◌, refl, sym, ap, subst, ◌∙◌}
 use mathlib.Core.Bool.{Bool, true, false, ◌&&◌}
-use mathlib.Core.List.{List, [], ◌∷◌, ◌++◌}
+use mathlib.Core.List.{List, [], ◌∷◌}
 use mathlib.Core.Logic.{⊎_elim}
-use Prim.Native.Nat.{ℕ, zero, suc, ◌+◌, ◌*◌, ◌≤◌, ◌<◌}
+use Prim.Native.Nat.{ℕ, zero, suc, ◌+◌, ◌*◌, ◌≤◌, ◌<◌, ◌/◌}
 use native.Mathlib.Nat.{suc-mul, mul_comm, mul-le-mul_right, le_of_suc-le-suc, eq-or-lt_of_le}
 use native.Mathlib.Omega.{arith}
-use lib.ListN.{length, get_or, take, drop}
+use lib.ListN.{length, get_or, drop}
 use Rattle.std.specs.List.{list_all, enumerate_from}
-use Rattle.std.specs.Iterator.{AlwaysYields}
-use Rattle.std.specs.Slice.Iter.{chunks_exact_rest, chunks_exact_size, chunks_exact_steps}
-use Rattle.std.specs.Iterator.Adapters.{enumerate_source, enumerate_count, enumerate_steps}
-use Rattle.std.proofs.lemmas.Iterator.{YieldsList}
-use Rattle.std.proofs.lemmas.Iterator.Consumers.{YieldsList-from_enumerate}
-use Rattle.std.proofs.lemmas.List.{length-append, length-take-le, length-drop, get_or-take, get_or-drop}
+use Rattle.std.specs.Simd.{first_chunks}
+use Rattle.std.proofs.lemmas.List.{length-take-le, length-drop, get_or-take, get_or-drop}
 use Rattle.std.proofs.lemmas.List.FromFn.{length-enumerate_from, get_or-enumerate_from}
-use Rattle.std.proofs.Math.Seq.{take-append_seam, drop-append_seam}
+use Rattle.std.proofs.Math.Nat.{mul-div_cancel}
 use Rattle.model.specs.Lists.{every}
 use Rattle.model.specs.Image.{width_of, size_of, table_of, word_at, places_fit}
 use Rattle.fields.proofs.Every.{every_holds, fails}
-use Rattle.image.specs.Passing.{IsRecord}
+use Rattle.image.specs.Passing.{IsRecord, record_both, table_both}
 use Rattle.image.proofs.Accepted.{width-least}
 use Rattle.image.proofs.OnePass.{table-long, table-word}
 
 module _ (w : ℕ) where
-  -- n pieces of w words
-  abbrev pub pieces : ℕ → List ℕ → List (List ℕ)
-  pieces zero l = []
-  pieces (suc n) l = take w l ∷ pieces n (drop w l)
-
-  pub length-pieces : (n : ℕ) (l : List ℕ) → length (pieces n l) ≡ n
-  length-pieces zero l = refl
-  length-pieces (suc n) l = ap suc (length-pieces n (drop w l))
+  pub length-chunks : (n : ℕ) (l : List ℕ) → length (first_chunks w n l) ≡ n
+  length-chunks zero l = refl
+  length-chunks (suc n) l = ap suc (length-chunks n (drop w l))
 
   -- the words of piece k
-  pub piece-long : (n k : ℕ) (l d : List ℕ) → k < n → length l ≡ n * w → length (get_or (pieces n l) k d) ≡ w
+  pub piece-long : (n k : ℕ) (l d : List ℕ) → k < n → length l ≡ n * w → length (get_or (first_chunks w n l) k d) ≡ w
   piece-long zero k l d h e = absurd (omega arith)
   piece-long (suc n) zero l d h e = length-take-le w l (omega (arith, suc-mul n w))
   piece-long (suc n) (suc k) l d h e = piece-long n k (drop w l) d (le_of_suc-le-suc h) (omega (arith, length-drop w l, suc-mul n w))
 
-  pub piece-word : (n k j : ℕ) (l d : List ℕ) → k < n → length l ≡ n * w → j < w → get_or (get_or (pieces n l) k d) j 0 ≡ get_or l (w * k + j) 0
+  pub piece-word : (n k j : ℕ) (l d : List ℕ) → k < n → length l ≡ n * w → j < w → get_or (get_or (first_chunks w n l) k d) j 0 ≡ get_or l (w * k + j) 0
   piece-word zero k j l d h e b = absurd (omega arith)
   piece-word (suc n) zero j l d h e b =
       let z : w * 0 + j ≡ j = omega (arith, mul_comm w 0) in
@@ -48,26 +39,10 @@ module _ (w : ℕ) where
       let z : w + (w * k + j) ≡ w * suc k + j = omega (arith, mul_comm w (suc k), mul_comm w k, suc-mul k w) in
       piece-word n k j (drop w l) d (le_of_suc-le-suc h) (omega (arith, length-drop w l, suc-mul n w)) b ∙ (get_or-drop w l (w * k + j) 0 ∙ ap (λ m. get_or l m 0) z)
 
-  -- what `chunks_exact` gives
-  gives : 0 < w → (n : ℕ) (s : _) → chunks_exact_size {T = ℕ} s ≡ w → length (chunks_exact_rest s) ≡ n * w → AlwaysYields chunks_exact_steps (λ x. x.now) s (pieces n (chunks_exact_rest s))
-  gives some zero s es el = λ x t k. omega (arith, ap length k.1.0, length-append x.now (chunks_exact_rest t), k.1.1)
-  gives some (suc n) s es el = (
-    (λ t k. omega (arith, k.1.0, suc-mul n w)),
-    λ x t k.
-        let lx : length x.now ≡ w = k.1.1 ∙ es in
-        let rest : drop w (chunks_exact_rest s) ≡ chunks_exact_rest t = rw k.1.0 (subst (λ m. drop m (x.now ++ chunks_exact_rest t) ≡ chunks_exact_rest t) lx (drop-append_seam x.now (chunks_exact_rest t))) in
-        let first : take w (chunks_exact_rest s) ≡ x.now = rw k.1.0 (subst (λ m. take m (x.now ++ chunks_exact_rest t) ≡ x.now) lx (take-append_seam x.now (chunks_exact_rest t))) in
-        let long : length (chunks_exact_rest t) ≡ n * w = omega (arith, ap length k.1.0, length-append x.now (chunks_exact_rest t), lx, el, suc-mul n w) in
-        (sym first, subst (λ l. AlwaysYields chunks_exact_steps (λ x. x.now) t (pieces n l)) (sym rest) (gives some n t (k.0 ∙ es) long)),
-  )
-
-  pub YieldsList-from_chunks : 0 < w → (n : ℕ) (s : _) (l : List ℕ) → chunks_exact_size {T = ℕ} s ≡ w → chunks_exact_rest s ≡ l → length l ≡ n * w → YieldsList chunks_exact_steps (λ x. x.now) s (pieces n l)
-  YieldsList-from_chunks some n s l es er el = record { runs = subst (λ m. AlwaysYields chunks_exact_steps (λ x. x.now) s (pieces n m)) er (gives some n s es (ap length er ∙ el)) }
-
 -- piece i of the words of a table is record i
 module _ (img : List ℕ) (places : places_fit img ≡ true) (t : ℕ) (eighth : t < 8) where
   abbrev pub records : List (List ℕ)
-  records = pieces (width_of t) (size_of img t) (table_of img t)
+  records = first_chunks (width_of t) (size_of img t) (table_of img t)
 
   abbrev piece : ℕ → List ℕ → List ℕ
   piece i d = get_or records i d
@@ -88,16 +63,11 @@ module _ (img : List ℕ) (places : places_fit img ≡ true) (t : ℕ) (eighth :
   -- the same by the number that it comes with
   pub numbered-record : (x : ℕ × List ℕ) (i : ℕ) → i < length (enumerate_from 0 records) → x ≡ get_or (enumerate_from 0 records) i x → (length x.1 ≡ width_of t) × IsRecord img t x.0 x.1
   numbered-record x i l e =
-      let n : length records ≡ size_of img t = length-pieces (width_of t) (size_of img t) (table_of img t) in
+      let n : length records ≡ size_of img t = length-chunks (width_of t) (size_of img t) (table_of img t) in
       let h : i < size_of img t = omega (arith, l, length-enumerate_from 0 records, n) in
       let z : 0 + i ≡ i = omega arith in
       let g : x ≡ (i, piece i x.1) = rw z at (e ∙ get_or-enumerate_from 0 records i x (omega (arith, n, h))) in
       subst (λ (p : ℕ × List ℕ). (length p.1 ≡ width_of t) × IsRecord img t p.0 p.1) (sym g) (record-long i x.1 h, is-record i x.1 h)
-
-  -- `chunks_exact` of the words, then `enumerate`
-  pub YieldsList-from_records : (s : _) → chunks_exact_size {T = ℕ} (enumerate_source s) ≡ width_of t → chunks_exact_rest (enumerate_source s) ≡ table_of img t → enumerate_count s ≡ 0
-      → YieldsList (enumerate_steps chunks_exact_steps) (λ p. (p.0, p.1.now)) s (enumerate_from 0 records)
-  YieldsList-from_records s es er ec = YieldsList-from_enumerate (YieldsList-from_chunks (width_of t) (omega (arith, width-least t)) (size_of img t) _ (table_of img t) es er (table-long img places t eighth)) ec
 
 -- a test of each record by its number
 numbered-from : (f : ℕ → Bool) (ys : List (List ℕ)) (k : ℕ) → ((j : ℕ) → j < k → f j ≡ true) → list_all (λ q. f q.0) (enumerate_from k ys) ≡ every (k + length ys) f
@@ -118,3 +88,20 @@ pub numbered_all : (f : ℕ → Bool) (ys : List (List ℕ)) (n : ℕ) → lengt
 numbered_all f ys n e =
     let z : 0 + length ys ≡ n = omega arith in
     rw z at (numbered-from f ys 0 (λ j l. absurd (omega arith)))
+
+-- the same where the width is a number, and the words are lent
+module _ (img : List ℕ) (places : places_fit img ≡ true) (t : ℕ) (eighth : t < 8) (w : ℕ) (wide : w ≡ width_of t) (l : List ℕ) (words : l ≡ table_of img t) where
+  chunks-counted : length l / w ≡ size_of img t
+  chunks-counted = rw (wide, words, table-long img places t eighth) (mul-div_cancel (size_of img t) (omega (arith, width-least t)))
+
+  abbrev pub chunks : List (List ℕ)
+  chunks = first_chunks w (length l / w) l
+
+  pub chunk-record : (x : ℕ × List ℕ) (i : ℕ) → i < length (enumerate_from 0 chunks) → x ≡ get_or (enumerate_from 0 chunks) i x → IsRecord img t x.0 x.1
+  chunk-record x i h e =
+      let c : chunks ≡ records img places t eighth = rw (chunks-counted, wide, words) refl in
+      (numbered-record img places t eighth x i (rw c at h) (rw c at e)).1
+
+  pub chunks-tested : list_all (λ q. record_both img t q.0) (enumerate_from 0 chunks) ≡ table_both img t
+  unfolding table_both
+  chunks-tested = numbered_all (record_both img t) chunks (size_of img t) (length-chunks w (length l / w) l ∙ chunks-counted)

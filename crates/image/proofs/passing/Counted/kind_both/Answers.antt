@@ -11,4 +11,4 @@ returns c =
     let a = c.args in
     let r = c.requires in
     let l : length c.row_of-row.result ≡ 5 = omega arith in
-    c.row_both.ensures ∙ kind-both a.self.now.image.now a.i (number_of a.t) r.kinds.0 r.kinds.1 a.w.now r.long r.record_i _ c.row_of-row.ensures l _ c.last_kind.ensures
+    c.row_both.ensures ∙ kind-both a.self.now.image.now a.i (number_of a.t) r.kinds.0 r.kinds.1 a.w.now (omega arith) r.record_i _ c.row_of-row.ensures l _ c.last_kind.ensures
