@@ -1,6 +1,6 @@
 -- The fields of a row beside the pairs of neighbours of a record's words. Assumes nothing.
 use mathlib.Core.Path.{◌≡◌, refl, ap, ◌∙◌}
-use mathlib.Core.Bool.{Bool, true, false, ◌&&◌, and-true}
+use mathlib.Core.Bool.{Bool, true, ◌&&◌, and-true, and_assoc}
 use mathlib.Core.List.{List, [], ◌∷◌}
 use Prim.Native.Nat.{ℕ, zero, suc, ◌<◌}
 use native.Mathlib.Nat.{le_of_suc-le-suc}
@@ -66,13 +66,9 @@ six_pairs (a ∷ b ∷ c ∷ d ∷ e ∷ f ∷ g ∷ []) h = absurd (omega arith
 six_pairs (a ∷ b ∷ c ∷ d ∷ e ∷ f ∷ g ∷ k ∷ []) h = refl
 six_pairs (a ∷ b ∷ c ∷ d ∷ e ∷ f ∷ g ∷ k ∷ x ∷ w) h = absurd (omega arith)
 
-joined : (x a b c d e : Bool) → x && (a && (b && (c && (d && (e && true))))) ≡ ((((x && a) && b) && c) && d) && e
-joined false a b c d e = refl
-joined true false b c d e = refl
-joined true true false c d e = refl
-joined true true true false d e = refl
-joined true true true true false e = refl
-joined true true true true true e = and-true e
+-- five behind a test
+pub joined : (x a b c d e : Bool) → x && (a && (b && (c && (d && (e && true))))) ≡ ((((x && a) && b) && c) && d) && e
+joined x a b c d e = simp (and_assoc, and-true)
 
 pub row-fields : {A : Type 0} (q : A → List ℕ → Bool) (d : A) (r : List A) (w : List ℕ) (x : Bool) → length r ≡ 5 → length w ≡ 8
     → x && list_all (λ p. q p.0 p.1) (zip r (pairs (drop 1 w)))
