@@ -1,6 +1,6 @@
 -- What the functions of evaluation know of their arguments where nothing is refused. Assumes nothing.
 use mathlib.Core.Path.{◌≡◌, refl, sym, ap, ◌∙◌}
-use mathlib.Core.Bool.{Bool, true, false, ◌&&◌}
+use mathlib.Core.Bool.{Bool, true, false, ◌&&◌, false≢true}
 use mathlib.Core.List.{List}
 use Prim.Native.Nat.{ℕ, ◌+◌, ◌≤◌}
 use lib.Dec.{eqb}
@@ -22,10 +22,10 @@ use Rattle.rows.specs.Places.{row_at, table_at}
 use Rattle.store.specs.Places.{variables_place}
 use Rattle.store.specs.Volatile.{Readable}
 use Rattle.store.proofs.Parts.{variables-at}
-use Rattle.std.specs.Prelude.{Result, Ok, Err, ⊤}
+use Rattle.std.specs.Prelude.{Result, Ok, Err, IsErr}
 use Rattle.std.specs.Result.{is_ok}
 use Rattle.model.specs.declared.Refusal.{Refusal}
-use Rattle.model.specs.Refusals.{refusal_code, refusal_number}
+use Rattle.model.specs.Refusals.{refusal_code}
 use Rattle.model.proofs.RefusalLaws.{refusal-some}
 use Rattle.exports.specs.Answers.{readable, given}
 
@@ -48,7 +48,7 @@ module _ (w : List ℕ) (a : Bool) (e : a ≡ eqb (length w) 16384 && parts_fit 
   unfolding readable
   not-shaped f = rw (sym e ∙ f) refl
 
-pub readable-is : (w : List ℕ) → readable w ≡ true → Readable w
+readable-is : (w : List ℕ) → readable w ≡ true → Readable w
 unfolding readable
 readable-is w r =
     let (s, t) = both (eqb (length w) 16384 && parts_fit layout.parts w) _ r in
@@ -56,35 +56,31 @@ readable-is w r =
     record { long = eqb-true _ _ l; fit = f; texts = t }
 
 -- ALL THREE -----------------------------------------------------------------------------------------------------------------------
-pub record Given (image store : List ℕ) : Type 0 where
-  pub sized : Sized image
-  pub few : size_of image rules ≤ 64
-  pub readable : Readable store
-
-accepted-is : (image : List ℕ) → image_refusal image ≡ 0 → Sized image × (size_of image rules ≤ 64)
+pub accepted-is : (image : List ℕ) → image_refusal image ≡ 0 → Sized image × (size_of image rules ≤ 64)
 unfolding image_refusal
 accepted-is image e =
     (sized image (tables-accepted image (flatten_rules image) e), rules-few image (few-accepted image (flatten_rules image) e))
 
--- an answer is accepted where its number is 0
-pub ok-is : {A : Type 0} (r : Result A Refusal) → is_ok r ≡ eqb (refusal_number r) 0
-ok-is (Ok a) = refl
-ok-is (Err r) = sym (ne_eqb (refusal_code r) 0 (refusal-some r))
+pub not-ok : {A B : Type 0} (r : Result A B) → IsErr r → is_ok r ≡ false
+not-ok (Ok a) h = absurd (false≢true h)
+not-ok (Err e) h = refl
 
 module _ (snapshot image store : List ℕ) where
-  pub given_is : given snapshot image store ≡ true → Given image store
+  pub store-given : given snapshot image store ≡ true → Readable store
   unfolding given
-  given_is g =
+  store-given g =
       let (_, h) = both (eqb (snapshot_refusal snapshot) 0) (eqb (image_refusal image) 0 && readable store) g in
-      let (i, s) = both (eqb (image_refusal image) 0) (readable store) h in
-      let a = accepted-is image (eqb-true _ _ i) in
-      record { sized = a.0; few = a.1; readable = readable-is store s }
+      readable-is store (both (eqb (image_refusal image) 0) (readable store) h).1
 
-  pub given-by : (r : Result ⊤ Refusal) (q : Result ⊤ Refusal) → refusal_number r ≡ snapshot_refusal snapshot → refusal_number q ≡ image_refusal image
-      → given snapshot image store ≡ is_ok r && (is_ok q && readable store)
+  pub snapshot-refused : (e : Refusal) → refusal_code e ≡ snapshot_refusal snapshot → false ≡ given snapshot image store
   unfolding given
-  given-by r q e f = rw (← e, ← f, ← ok-is r, ← ok-is q) refl
+  snapshot-refused e h = rw (← h, ne_eqb (refusal_code e) 0 (refusal-some e)) refl
 
-  pub first-refused : (r : Result ⊤ Refusal) → refusal_number r ≡ snapshot_refusal snapshot → is_ok r ≡ false → given snapshot image store ≡ false
-  unfolding given
-  first-refused r e z = rw (← e, ← ok-is r, z) refl
+  module _ (s : 0 ≡ snapshot_refusal snapshot) where
+    pub image-refused : (e : Refusal) → refusal_code e ≡ image_refusal image → false ≡ given snapshot image store
+    unfolding given
+    image-refused e h = rw (← s, ← h, ne_eqb (refusal_code e) 0 (refusal-some e)) refl
+
+    pub store-decides : (b : Bool) → 0 ≡ image_refusal image → b ≡ readable store → b ≡ given snapshot image store
+    unfolding given
+    store-decides b i h = rw (← s, ← i) h

@@ -1,5 +1,6 @@
 // Conditions and values of an image, by their place in its tables. What is given is checked first: nothing is asked of the caller.
-ghost use Rattle.std.specs.Prelude.{◌≡◌, ◌≤◌};
+ghost use Rattle.std.specs.Prelude.{◌≡◌, IfOk};
+ghost use Rattle.std.specs.Result.{is_ok};
 ghost use Rattle.exports.specs.Answers as answers;
 ghost use Rattle.model.specs.Image.{size_of};
 ghost use Rattle.model.specs.Rows.{rules};
@@ -11,6 +12,8 @@ use eval::Env;
 use eval::conditions::condition_at;
 use eval::values::value_at;
 use image::layout::{Image, Table};
+use load::Loadable;
+use model::Refusal;
 use state::State;
 use store::checks::Rows;
 use store::table::VARIABLES;
@@ -22,18 +25,25 @@ fn readable(store: &[u32]) -> bool
     store::shaped(store) && Rows::counted(store, VARIABLES).texts_short()
 }
 
-// Whether nothing that is given is refused.
-fn given(snapshot: &[u32], image: &[u32], store: &[u32]) -> bool
-    ensures { result ≡ answers.given snapshot.now image.now store.now }
+// The image, where nothing that is given is refused.
+fn given<'a>(snapshot: &[u32], image: &'a [u32], store: &[u32]) -> Result<Loadable<'a>, Refusal>
+    ensures given { is_ok result ≡ answers.given snapshot.now image.now store.now }
+    ensures value { IfOk result (λ i. i ≡ image.now) }
 {
-    world::refusal(snapshot).is_ok() && load::refusal(image).is_ok() && readable(store)
+    world::refusal(snapshot)?;
+    let image = Loadable::of(image)?;
+    if !readable(store) {
+        return Err(Refusal::StoreRule);
+    }
+    Ok(image)
 }
 
 // What the store keeps, for the rules of the image.
-fn begin(image: &Image, store: &[u32], v: &mut State)
-    requires { Readable store.now × (size_of image.now rules ≤ 64) }
+fn begin(image: &Loadable, store: &[u32], v: &mut State)
+    requires { Readable store.now }
     ensures { AllNumbered v.new (volatile_in (size_of image.now rules) (changing_in store.now)) }
 {
+    let image = Image::new(image.words());
     store::volatile::begin(store, image.size_of(Table::Rules) as usize, &mut v.words);
 }
 
@@ -54,15 +64,14 @@ fn put_number(answer: &mut [u32; 3], mark: u32, x: u64)
 pub extern "C" fn cerambiu_condition(snapshot: &[u32], image: &[u32], store: &[u32], i: u32) -> u32
     ensures { result ≡ answers.condition_answer snapshot.now image.now store.now i }
 {
-    if !given(snapshot, image, store) {
+    let Ok(image) = given(snapshot, image, store) else {
         return 3;
-    }
-    let image = Image::new(image);
+    };
     let mut v = State::new();
     begin(&image, store, &mut v);
     let env = Env {
         snapshot,
-        image: &image,
+        image: &Image::new(image.words()),
         state: &v,
     };
     verdict_code(condition_at(&env, i))
@@ -81,16 +90,15 @@ pub extern "C" fn cerambiu_value(
 )
     ensures { answer.new ≡ answers.value_answer snapshot.now image.now store.now i }
 {
-    if !given(snapshot, image, store) {
+    let Ok(image) = given(snapshot, image, store) else {
         put_number(answer, 3, 0);
         return;
-    }
-    let image = Image::new(image);
+    };
     let mut v = State::new();
     begin(&image, store, &mut v);
     let env = Env {
         snapshot,
-        image: &image,
+        image: &Image::new(image.words()),
         state: &v,
     };
     match value_at(&env, i) {
