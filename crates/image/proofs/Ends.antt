@@ -2,7 +2,7 @@
 use mathlib.Core.Path.{◌≡◌}
 use mathlib.Core.Bool.{true}
 use mathlib.Core.List.{List}
-use Prim.Native.Nat.{ℕ, zero, suc, ◌+◌, ◌-◌, ◌≤◌}
+use Prim.Native.Nat.{ℕ, ◌+◌, ◌≤◌}
 use native.Mathlib.Omega.{arith}
 use lib.ListN.{length}
 use lib.Dec.{eqb}
@@ -10,18 +10,12 @@ use borrow.Author.Tests.{eqb-true}
 use Rattle.model.proofs.Bools.{both}
 use Rattle.model.specs.Lists.{every}
 use Rattle.model.specs.Image.{first_of, place_fits, places_fit}
-use Rattle.model.proofs.ImageLaws.{table-follows, last-first}
+use Rattle.model.proofs.ImageLaws.{table-follows, starts-inside}
 use Rattle.image.specs.declared.layout.Table.{Table}
 use Rattle.image.specs.Tables.{number_of}
 use Rattle.image.proofs.Padding.{numbered}
 
 module _ (img : List ℕ) (placed : places_fit img ≡ true) where
-  ends : (k : ℕ) → k ≤ 8 → first_of img (8 - k) ≤ length img
-  ends zero l = omega (arith, last-first img)
-  ends (suc k) l =
-      let e : 8 - suc k + 1 ≡ 8 - k = omega arith in
-      omega (arith, rw e at (table-follows img placed (8 - suc k) (omega arith)), ends k (omega arith))
-
   pub tables-begin : first_of img 0 ≡ 0
   unfolding places_fit
   tables-begin = eqb-true _ _ (both (eqb (first_of img 0) 0) (every 8 (place_fits img)) placed).0
@@ -30,7 +24,4 @@ module _ (img : List ℕ) (placed : places_fit img ≡ true) where
   table-order t = table-follows img placed (number_of t) (numbered t)
 
   pub table-end : (t : Table) → first_of img (number_of t + 1) ≤ length img
-  table-end t =
-      let n = numbered t in
-      let e : 8 - (7 - number_of t) ≡ number_of t + 1 = omega arith in
-      rw e at (ends (7 - number_of t) (omega arith))
+  table-end t = starts-inside img placed (number_of t + 1) (omega (arith, numbered t))

@@ -10,7 +10,7 @@ use lib.Dec.{ltb}
 use lib.ListN.{get_or, get_or-eq_default}
 use Rattle.model.specs.Lists.{up_from}
 use Rattle.model.specs.Image.{first_of, size_of}
-use Rattle.image.proofs.Numbers.{map-up_from-at}
+use Rattle.model.proofs.ListLaws.{map-up_from-at}
 
 -- a number of no table has none
 past-tables : (img : List ℕ) (t : ℕ) → 8 ≤ t → size_of img t ≡ 0

@@ -1,8 +1,8 @@
 -- The words of a snapshot beside their largest values: a word that is missing is 0, which is in range. Assumes nothing.
 use mathlib.Core.Path.{◌≡◌, refl, sym}
-use mathlib.Core.Bool.{Bool, true, false, ◌&&◌, and-true}
+use mathlib.Core.Bool.{Bool}
 use mathlib.Core.List.{List, [], ◌∷◌}
-use Prim.Native.Nat.{ℕ, zero, suc}
+use Prim.Native.Nat.{ℕ}
 use native.Mathlib.Omega.{arith}
 use lib.Dec.{leb}
 use lib.ListN.{length, get_or}
@@ -10,16 +10,8 @@ use borrow.Author.Tests.{le-leb}
 use Rattle.std.specs.List.{zip}
 use Rattle.model.specs.Lists.{all, every}
 use Rattle.model.specs.Snapshot.{head_most, head_fits}
+use Rattle.model.proofs.TestLaws.{every_first}
 use Rattle.fields.proofs.Every.{every_holds}
-
-assoc : (a b c : Bool) → (a && b) && c ≡ a && (b && c)
-assoc true b c = refl
-assoc false b c = refl
-
-pub every_first : (n : ℕ) (f : ℕ → Bool) → every (suc n) f ≡ f zero && every n (λ i. f (suc i))
-unfolding every
-every_first zero f = sym (and-true (f zero))
-every_first (suc n) f = rw (every_first n f) (assoc (f zero) (every n (λ i. f (suc i))) (f (suc n)))
 
 abbrev pub at_most : ℕ × ℕ → Bool
 at_most p = leb p.0 p.1

@@ -1,19 +1,13 @@
 -- A test that holds of each table holds of each number below 5. Assumes nothing.
-use mathlib.Core.Path.{◌≡◌, refl}
-use mathlib.Core.Bool.{Bool, true, false, ◌&&◌, and-true}
+use mathlib.Core.Path.{◌≡◌}
+use mathlib.Core.Bool.{Bool}
 use mathlib.Core.List.{List, [], ◌∷◌}
 use Prim.Native.Nat.{ℕ}
+use Rattle.model.proofs.TestLaws.{regrouped}
 use Rattle.model.specs.Lists.{all, every}
 use Rattle.world.specs.declared.table.Table.{Table}
 use Rattle.world.specs.declared.table.Table.TheVariants.{Lamps, Groups, Devices, Inputs, HclTargets}
 use Rattle.world.specs.Tables.{number}
-
-regrouped : (a b c d e : Bool) → a && (b && (c && (d && (e && true)))) ≡ (((a && b) && c) && d) && e
-regrouped true true true true e = and-true e
-regrouped true true true false e = refl
-regrouped true true false d e = refl
-regrouped true false c d e = refl
-regrouped false b c d e = refl
 
 abbrev pub tables : List Table
 tables = Lamps ∷ Groups ∷ Devices ∷ Inputs ∷ HclTargets ∷ []
