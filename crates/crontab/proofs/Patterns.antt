@@ -4,7 +4,7 @@ use mathlib.Core.Bool.{Bool, true, false, cond, ◌&&◌, and-false}
 use mathlib.Core.List.{List, [], ◌∷◌}
 use Rattle.std.specs.Prelude.{Option, None, Some}
 use Rattle.std.specs.Option.{is_some}
-use Rattle.std.specs.List.{slice_split, onto_first, position_or_len}
+use Rattle.std.specs.List.{slice_split, position_or_len}
 use Prim.Native.Nat.{ℕ, ◌+◌, ◌-◌, ◌≤◌, ◌<◌}
 use native.Mathlib.Omega.{arith}
 use borrow.Author.Tests.{lt-ltb, le-ltb, lt-leb, leb-false, leb-true}
@@ -12,20 +12,10 @@ use lib.Dec.{leb, ltb}
 use lib.ListN.{length, take, drop, length-drop}
 use lib.Seq.{take_all}
 use Rattle.model.specs.Lists.{all, any}
-use Rattle.model.specs.Crontab.{split, onto, is_comma, is_hyphen, until, number_of, range_of, element_of, elements_of, holds, is_asterisk, is_pattern, covers}
+use Rattle.model.specs.Crontab.{is_comma, is_hyphen, until, number_of, range_of, element_of, elements_of, holds, is_asterisk, is_pattern, covers}
 use Rattle.model.proofs.SortLaws.{all_map, any-map}
 use Rattle.crontab.specs.Scanned.{word_sized}
 use Rattle.crontab.proofs.Scans.{place-some, place-none}
-
--- the library's parts are the specification's
-onto-is : (b : ℕ) (ws : List (List ℕ)) → onto b ws ≡ onto_first b ws
-onto-is b [] = refl
-onto-is b (w ∷ ws) = refl
-
-pub split-is : (p : ℕ → Bool) (s : List ℕ) → split p s ≡ slice_split p s
-unfolding split
-split-is p [] = refl
-split-is p (b ∷ bs) = rw (split-is p bs, onto-is b (slice_split p bs))
 
 -- what 32 bits do not hold is in no field
 pub range-sized : (lo hi : ℕ) (a b : Option ℕ) → hi < 4294967296 → range_of lo hi (word_sized a) (word_sized b) ≡ range_of lo hi a b
@@ -83,8 +73,8 @@ module _ (lo hi : ℕ) (s : List ℕ) where
   module _ (star : is_asterisk s ≡ false) {r : Bool} where
     pub fits-by-elements : r ≡ all (fits lo hi) (slice_split is_comma s) → r ≡ is_pattern lo hi s
     unfolding is_pattern elements_of
-    fits-by-elements q = rw (star, split-is is_comma s, all_map (element_of lo hi) is_some (slice_split is_comma s)) q
+    fits-by-elements q = rw (star, all_map (element_of lo hi) is_some (slice_split is_comma s)) q
 
     pub covers-by-elements : (v : ℕ) → r ≡ any (covered lo hi v) (slice_split is_comma s) → r ≡ covers lo hi s v
     unfolding covers elements_of
-    covers-by-elements v q = rw (star, split-is is_comma s, any-map (element_of lo hi) (holds v) (slice_split is_comma s)) q
+    covers-by-elements v q = rw (star, any-map (element_of lo hi) (holds v) (slice_split is_comma s)) q

@@ -23,7 +23,8 @@ use Rattle.model.specs.Wheel.{minute_due, due_wall_kind, WallKind, by_time}
 use Rattle.model.specs.State.{Env}
 use Rattle.model.proofs.Bools.{both, every-at, not-refused, neither}
 use Rattle.model.proofs.SortLaws.{any-map}
-use Rattle.model.specs.Crontab.{until, is_hyphen, split, onto, is_comma, range_of, element_of, elements_of, holds, is_asterisk, is_pattern, covers, number_of, field_fits, field_covers, field, starts, minutes, day_here, days, of_the_form, refusal, trigger_words, table_words, crontab, answer_of}
+use Rattle.std.specs.List.{slice_split, onto_first}
+use Rattle.model.specs.Crontab.{until, is_hyphen, is_comma, range_of, element_of, elements_of, holds, is_asterisk, is_pattern, covers, number_of, field_fits, field_covers, field, starts, minutes, day_here, days, of_the_form, refusal, trigger_words, table_words, crontab, answer_of}
 use Rattle.model.specs.Asked.{declined}
 use Rattle.model.specs.CrontabMeaning.{matches, day_there, triggers_in, minute_before, due_at, earlier, in_order, on_days}
 use Rattle.crontab.specs.Programme.{Programme}
@@ -158,12 +159,11 @@ element-bounds lo hi r s e = go (ltb (until is_hyphen s) (length s)) e
     go true h = range-bounds lo hi r (number_of (take (until is_hyphen s) s)) (number_of (drop (until is_hyphen s + 1) s)) h
     go false h = range-bounds lo hi r (number_of s) (number_of s) h
 
-split-some : (p : ℕ → Bool) (s : List ℕ) → split p s ≡ [] → ⊥
-unfolding split
+split-some : (p : ℕ → Bool) (s : List ℕ) → slice_split p s ≡ [] → ⊥
 split-some p [] e = let z : ◌≡◌ {A = ℕ} 0 1 = cc in omega arith
-split-some p (b ∷ bs) e = go (p b) (split p bs) e
+split-some p (b ∷ bs) e = go (p b) (slice_split p bs) e
   where
-    go : (t : Bool) (ws : List (List ℕ)) → cond t ([] ∷ ws) (onto b ws) ≡ [] → ⊥
+    go : (t : Bool) (ws : List (List ℕ)) → cond t ([] ∷ ws) (onto_first b ws) ≡ [] → ⊥
     go true ws h = let z : ◌≡◌ {A = ℕ} 0 1 = cc in omega arith
     go false [] h = let z : ◌≡◌ {A = ℕ} 0 1 = cc in omega arith
     go false (w ∷ ws) h = let z : ◌≡◌ {A = ℕ} 0 1 = cc in omega arith
@@ -178,7 +178,7 @@ first_holds lo hi w (Some r) q t h =
 -- where all elements are ranges, one of them covers something
 pub covers-some : (lo hi : ℕ) (s : List ℕ) → is_pattern lo hi s ≡ true → ((v : ℕ) → v ≤ hi → covers lo hi s v ≡ false) → ⊥
 unfolding is_pattern covers elements_of
-covers-some lo hi s e h = go (is_asterisk s) (split is_comma s) (split-some is_comma s) e h
+covers-some lo hi s e h = go (is_asterisk s) (slice_split is_comma s) (split-some is_comma s) e h
   where
     go : (t : Bool) (ws : List (List ℕ)) → (ws ≡ [] → ⊥) → t || all is_some (map (element_of lo hi) ws) ≡ true
         → ((v : ℕ) → v ≤ hi → t || any (holds v) (map (element_of lo hi) ws) ≡ false) → ⊥

@@ -13,7 +13,7 @@ use Rattle.model.specs.Crontab as crontab
 
 -- one name that opens the definitions
 unfoldable opened : ℕ
-unfolding lists.every lists.total digits.is_digit digits.value_from asked.declined crontab.until crontab.skip crontab.split crontab.behind_first crontab.field crontab.number_of crontab.range_of crontab.element_of crontab.elements_of crontab.is_pattern crontab.covers crontab.field_fits crontab.field_covers crontab.field_free crontab.starts crontab.minutes crontab.every_date crontab.has_room crontab.days crontab.of_the_form crontab.refusal crontab.table_words crontab.crontab
+unfolding lists.every lists.total digits.is_digit digits.value_from asked.declined crontab.until crontab.skip crontab.behind_first crontab.field crontab.number_of crontab.range_of crontab.element_of crontab.elements_of crontab.is_pattern crontab.covers crontab.field_fits crontab.field_covers crontab.field_free crontab.starts crontab.minutes crontab.every_date crontab.has_room crontab.days crontab.of_the_form crontab.refusal crontab.table_words crontab.crontab
 opened = 0
 
 -- with Sunday 6

@@ -2,6 +2,7 @@
 use Rattle.std.specs.Prelude.{ℕ, zero, suc, ◌+◌, ◌/◌, ◌%◌, ◌^◌, Bool, false, cond, ◌&&◌, ◌||◌, List, [], ◌∷◌, map, leb, ltb, eqb, length, get_or, take, drop}
 use Rattle.std.specs.Prelude.{Option, None, Some}
 use Rattle.std.specs.Option.{is_some}
+use Rattle.std.specs.List.{slice_split}
 use Rattle.model.specs.Lists.{all, any, every, flatten, keep, total, up_from}
 use Rattle.model.specs.Field.{unless}
 use Rattle.model.specs.Digits.{is_digit, value_from}
@@ -28,16 +29,6 @@ until p (b ∷ bs) = cond (p b) 0 (suc (until p bs))
 unfoldable pub skip : (ℕ → Bool) → List ℕ → List ℕ
 skip p [] = []
 skip p (b ∷ bs) = cond (p b) (skip p bs) (b ∷ bs)
-
--- a byte in front of the first part
-abbrev pub onto : ℕ → List (List ℕ) → List (List ℕ)
-onto b [] = (b ∷ []) ∷ []
-onto b (w ∷ ws) = (b ∷ w) ∷ ws
-
--- the parts between the bytes that pass, empty ones too
-unfoldable pub split : (ℕ → Bool) → List ℕ → List (List ℕ)
-split p [] = [] ∷ []
-split p (b ∷ bs) = cond (p b) ([] ∷ split p bs) (onto b (split p bs))
 
 -- FIELDS: "spaces or tabs part the fields, none before the first" ----------------------------------------------------------------------
 -- what stands behind the first field and the blanks after it
@@ -78,7 +69,7 @@ module _ (lo hi : ℕ) where
 
   -- elements joined by commas
   unfoldable pub elements_of : List ℕ → List (Option (ℕ × ℕ))
-  elements_of s = map element_of (split is_comma s)
+  elements_of s = map element_of (slice_split is_comma s)
 
 abbrev pub holds : ℕ → Option (ℕ × ℕ) → Bool
 holds v None = false
