@@ -1,81 +1,97 @@
 -- What the functions do in a turn, over lists and numbers. Assumes nothing.
 use mathlib.Core.Path.{◌≡◌, refl, sym, ap, ◌∙◌}
-use mathlib.Core.Bool.{Bool, true, false}
+use mathlib.Core.Bool.{Bool, true, false, ◌&&◌, ◌||◌}
 use mathlib.Core.List.{List, [], ◌∷◌, ◌++◌, map}
 use Prim.Native.Nat.{ℕ, zero, suc, ◌+◌, ◌*◌, ◌-◌, ◌/◌, ◌%◌, ◌≤◌, ◌<◌}
 use native.Mathlib.Omega.{arith}
-use native.Mathlib.Numerals.{add-one}
-use lib.Dec.{leb, eqb}
-use lib.ListN.{length, take, drop, replicate, length-replicate, length-append, length-drop}
-use lib.Seq.{get_or-drop, take_all}
+use lib.Dec.{leb, lit<}
+use lib.ListN.{length, get_or, take, drop, replicate, length-replicate, length-append, drop_of_length-le}
+use lib.Seq.{get_or-take, get_or-drop}
 use borrow.Author.Tests.{le-leb, lt-leb, eq-eqb, ne_eqb}
-use Rattle.model.specs.Lists.{every, up_from}
+use Rattle.std.specs.Simd.{first_chunks}
+use Rattle.std.proofs.lemmas.List.{drop_more, take_rest}
+use Rattle.model.specs.Lists.{all, every, find, up_from}
 use Rattle.model.specs.Answers.{words_of_effects, lent}
 use Rattle.model.specs.declared.Effect.{Effect}
-use Rattle.std.specs.Prelude.{Ok, Err}
+use Rattle.std.specs.Prelude.{Option, None, Some, Ok, Err}
+use Rattle.std.specs.Option.{MatchOption}
 use Rattle.model.specs.declared.Refusal.TheVariants.{EffectWords, TelegramStore}
 use Rattle.model.specs.Telegrams.{is_level, cuts, sets, kept, effect_at, effects_in, are_effects, has_room, answer, kept_store}
-use Rattle.model.proofs.TestLaws.{by}
-use Rattle.telegrams.specs.Recursion.{is_set, set_again, kept_head, keep_last, effects_from, Puts}
+use Rattle.model.proofs.TestLaws.{by, every_first}
+use Rattle.model.proofs.SortLaws.{all_map}
+use Rattle.telegrams.specs.Recursion.{is_set, set_again, kept_head, keep_last, effects_of, Puts}
 use Rattle.lent_words.specs.PutEffects.{put_effect, put_effects}
 use Rattle.telegrams.proofs.ShortestLaws.{none-set, cut-first, on-first}
-use Rattle.telegrams.proofs.PlacesLaws.{kept-by-recursion}
+use Rattle.telegrams.proofs.PlacesLaws.{cut-sets-none, kept-by-recursion}
 use Rattle.lent_words.proofs.Written.{put-append, puts-length, lent-list}
 
 -- RECORDS
 
-module _ (ws : List ℕ) (k : ℕ) where
-  pub from_cons : k < length ws / 5 → effects_from k ws ≡ effect_at ws k ∷ effects_from (suc k) ws
-  unfolding effects_from
-  from_cons h = let e : length ws / 5 - k ≡ suc (length ws / 5 - suc k) = omega arith in rw e
+-- record k of the words is record 0 of five of them
+first-record : (ws : List ℕ) → effect_at (take 5 ws) 0 ≡ effect_at ws 0
+unfolding effect_at
+first-record ws = rw (get_or-take 5 ws 0 0 (lit< tt), get_or-take 5 ws 1 0 (lit< tt), get_or-take 5 ws 2 0 (lit< tt), get_or-take 5 ws 3 0 (lit< tt), get_or-take 5 ws 4 0 (lit< tt))
 
-  pub from_end : length ws / 5 ≤ k → effects_from k ws ≡ []
-  unfolding effects_from
-  from_end h = let e : length ws / 5 - k ≡ 0 = omega arith in rw e
+effect-behind : (ws : List ℕ) (i : ℕ) → effect_at (drop 5 ws) i ≡ effect_at ws (suc i)
+unfolding effect_at
+effect-behind ws i =
+    let e0 : 5 + i * 5 ≡ suc i * 5 = omega arith in
+    let e1 : 5 + (i * 5 + 1) ≡ suc i * 5 + 1 = omega arith in
+    let e2 : 5 + (i * 5 + 2) ≡ suc i * 5 + 2 = omega arith in
+    let e3 : 5 + (i * 5 + 3) ≡ suc i * 5 + 3 = omega arith in
+    let e4 : 5 + (i * 5 + 4) ≡ suc i * 5 + 4 = omega arith in
+    rw (get_or-drop 5 ws (i * 5) 0, get_or-drop 5 ws (i * 5 + 1) 0, get_or-drop 5 ws (i * 5 + 2) 0, get_or-drop 5 ws (i * 5 + 3) 0, get_or-drop 5 ws (i * 5 + 4) 0, e0, e1, e2, e3, e4)
 
-pub from_zero : (ws : List ℕ) → effects_from zero ws ≡ effects_in ws
-unfolding effects_from effects_in
-from_zero ws = let e : length ws / 5 - zero ≡ length ws / 5 = omega arith in rw e
+effects_behind : (ws : List ℕ) (m i : ℕ) → map (effect_at (drop 5 ws)) (up_from i m) ≡ map (effect_at ws) (up_from (suc i) m)
+effects_behind ws zero i = refl
+effects_behind ws (suc m) i = rw (effect-behind ws i, effects_behind ws m (suc i))
 
--- records behind n of them
-module _ (ws : List ℕ) (n : ℕ) where
-  effect-behind : (i : ℕ) → effect_at (drop (n * 5) ws) i ≡ effect_at ws (n + i)
-  unfolding effect_at
-  effect-behind i =
-      let e0 : n * 5 + i * 5 ≡ (n + i) * 5 = omega arith in
-      let e1 : n * 5 + (i * 5 + 1) ≡ (n + i) * 5 + 1 = omega arith in
-      let e2 : n * 5 + (i * 5 + 2) ≡ (n + i) * 5 + 2 = omega arith in
-      let e3 : n * 5 + (i * 5 + 3) ≡ (n + i) * 5 + 3 = omega arith in
-      let e4 : n * 5 + (i * 5 + 4) ≡ (n + i) * 5 + 4 = omega arith in
-      rw (get_or-drop (n * 5) ws (i * 5) 0, get_or-drop (n * 5) ws (i * 5 + 1) 0, get_or-drop (n * 5) ws (i * 5 + 2) 0, get_or-drop (n * 5) ws (i * 5 + 3) 0, get_or-drop (n * 5) ws (i * 5 + 4) 0, e0, e1, e2, e3, e4)
+chunks-are : (m : ℕ) (ws : List ℕ) → effects_of (first_chunks 5 m ws) ≡ map (effect_at ws) (up_from 0 m)
+chunks-are zero ws = refl
+chunks-are (suc m) ws = rw (first-record ws, chunks-are m (drop 5 ws), effects_behind ws m 0)
 
-  effects_behind : (m i : ℕ) → map (effect_at (drop (n * 5) ws)) (up_from i m) ≡ map (effect_at ws) (up_from (n + i) m)
-  effects_behind zero i = refl
-  effects_behind (suc m) i =
-      let e : n + suc i ≡ suc (n + i) = omega arith in
-      rw (effect-behind i, effects_behind m (suc i), e)
+pub records-are : (ws : List ℕ) (rs : List (List ℕ)) → rs ≡ first_chunks 5 (length ws / 5) ws → effects_of rs ≡ effects_in ws
+unfolding effects_in
+records-are ws rs e = ap effects_of e ∙ chunks-are (length ws / 5) ws
 
-  pub behind : effects_from zero (drop (n * 5) ws) ≡ effects_from n ws
-  unfolding effects_from
-  behind =
-      let e : (length ws - n * 5) / 5 - zero ≡ length ws / 5 - n = omega arith in
-      let z : n + zero ≡ n = omega arith in
-      rw (length-drop (n * 5) ws, e) (effects_behind (length ws / 5 - n) zero ∙ rw z)
+-- the effects from record k on
+abbrev pub effects_from : List (List ℕ) → ℕ → List Effect
+effects_from rs k = effects_of (drop k rs)
 
--- A LAMP IS SET FROM RECORD k ON
+abbrev pub effect_of : List (List ℕ) → ℕ → Effect
+effect_of rs k = effect_at (get_or rs k []) 0
 
-module _ (ws : List ℕ) (t k : ℕ) (h : k < length ws / 5) where
-  pub set-cut : (r : Bool) → r ≡ cuts (effect_at ws k) → r ≡ true → false ≡ is_set zero t (effects_from k ws)
-  set-cut r e q = rw (from_cons ws k h) (sym (cut-first t (effect_at ws k) (effects_from (suc k) ws) (sym e ∙ q)))
+module _ (rs : List (List ℕ)) (k : ℕ) where
+  pub from_cons : k < length rs → effects_from rs k ≡ effect_of rs k ∷ effects_from rs (k + 1)
+  from_cons h = ap effects_of (drop_more rs k [] h)
 
-  pub set_here : (r s : Bool) → r ≡ cuts (effect_at ws k) → r ≡ false → s ≡ sets t (effect_at ws k) → s ≡ true → true ≡ is_set zero t (effects_from k ws)
-  set_here r s e q f p = rw (from_cons ws k h, on-first t (effect_at ws k) (effects_from (suc k) ws) (sym e ∙ q), ← f, p)
+  pub from_end : length rs ≤ k → effects_from rs k ≡ []
+  from_end h = ap effects_of (drop_of_length-le rs h)
 
-  pub set_on : (r s : Bool) → r ≡ cuts (effect_at ws k) → r ≡ false → s ≡ sets t (effect_at ws k) → s ≡ false → is_set zero t (effects_from k ws) ≡ is_set zero t (effects_from (k + 1) ws)
-  set_on r s e q f p = rw (add-one k, from_cons ws k h, on-first t (effect_at ws k) (effects_from (suc k) ws) (sym e ∙ q), ← f, p)
+-- A LAMP IS SET
 
-pub set-end : (ws : List ℕ) (t k : ℕ) → length ws / 5 ≤ k → false ≡ is_set zero t (effects_from k ws)
-set-end ws t k h = rw (from_end ws k h) (sym (none-set zero t))
+-- the record that says whether it is: the first that cuts, or sets it
+abbrev pub decides : ℕ → Effect → Bool
+decides t x = cuts x || sets t x
+
+module _ (t : ℕ) where
+  abbrev sets_it : Option Effect → Bool
+  sets_it None = false
+  sets_it (Some x) = sets t x
+
+  by-first : (xs : List Effect) → sets_it (find (decides t) xs) ≡ is_set zero t xs
+  by-first [] = sym (none-set zero t)
+  by-first (x ∷ xs) =
+      by (cuts x)
+      (λ e. rw e (cut-sets-none t x e ∙ sym (cut-first t x xs e)))
+      (λ e. rw (e, on-first t x xs e) (by (sets t x) (λ q. rw q q) (λ q. rw q (by-first xs))))
+
+  pub is-set : (xs : List Effect) (o : Option Effect) (r : Bool) {Sets : Effect → Type 0} → o ≡ find (decides t) xs → MatchOption o (r ≡ false) Sets → ((x : Effect) → Sets x → r ≡ sets t x) → r ≡ is_set zero t xs
+  is-set xs o r {Sets} e m h = said o m ∙ ap sets_it e ∙ by-first xs
+    where
+      said : (o : Option Effect) → MatchOption o (r ≡ false) Sets → r ≡ sets_it o
+      said None m = m
+      said (Some x) m = h x m
 
 -- KEPT OR NOT
 
@@ -90,53 +106,79 @@ module _ (x : Effect) (xs : List Effect) (w : List ℕ) (n : ℕ) (r : Bool) (e 
 
 -- THE LOOP
 
-module _ (ws w₀ w : List ℕ) (k n : ℕ) where
+module _ (rs : List (List ℕ)) (w₀ w : List ℕ) (k n : ℕ) where
   -- what is left to be written into w from place n on gives the whole
   pub record Putting : Type 0 where
     pub long : length w ≡ length w₀
     pub few : n ≤ k
-    pub count : n + length (keep_last (effects_from k ws)) ≡ length (keep_last (effects_from zero ws))
-    pub words : put_effects w n (keep_last (effects_from k ws)) ≡ put_effects w₀ zero (keep_last (effects_from zero ws))
+    pub count : n + length (keep_last (effects_from rs k)) ≡ length (keep_last (effects_of rs))
+    pub words : put_effects w n (keep_last (effects_from rs k)) ≡ put_effects w₀ zero (keep_last (effects_of rs))
+
+  pub put-end : Putting → length rs ≤ k → Puts w₀ zero (keep_last (effects_of rs)) w n
+  unfolding keep_last put_effects
+  put-end p h =
+      let e : effects_from rs k ≡ [] = from_end rs k h in
+      (omega (arith, rw e at p.count), rw e at p.words)
+
+pub put-begin : (rs : List (List ℕ)) (w : List ℕ) → Putting rs w w 0 0
+put-begin rs w = record { long = refl; few = omega arith; count = omega arith; words = refl }
 
 head-at-most-one : (x : Effect) (xs : List Effect) → length (kept_head x xs) ≤ 1
 unfolding kept_head
 head-at-most-one x xs = by (set_again x xs) (λ e. rw e (omega arith)) (λ e. rw e (omega arith))
 
-module _ (ws w₀ w v : List ℕ) (k n m : ℕ) where
-  pub put-turn :
-      Putting ws w₀ w k n → k < length ws / 5
-      → Puts w n (kept_head (effect_at ws k) (effects_from (suc k) ws)) v m
-      → Putting ws w₀ v (k + 1) m
-  put-turn p h (e, q) =
-      let x = effect_at ws k in
-      let xs = effects_from (suc k) ws in
-      let split : keep_last (effects_from k ws) ≡ kept_head x xs ++ keep_last xs = rw (from_cons ws k h) (unfold keep_last in refl) in
-      let sum : length (keep_last (effects_from k ws)) ≡ length (kept_head x xs) + length (keep_last xs) = rw split (length-append (kept_head x xs) (keep_last xs)) in
+module _ (rs : List (List ℕ)) (w₀ w : List ℕ) (k n : ℕ) (p : Putting rs w₀ w k n) (h : k < length rs) where
+  put-turn : (v : List ℕ) (m : ℕ) → Puts w n (kept_head (effect_of rs k) (effects_from rs (k + 1))) v m → Putting rs w₀ v (k + 1) m
+  put-turn v m (e, q) =
+      let x = effect_of rs k in
+      let xs = effects_from rs (k + 1) in
+      let split : keep_last (effects_from rs k) ≡ kept_head x xs ++ keep_last xs = rw (from_cons rs k h) (unfold keep_last in refl) in
+      let sum : length (keep_last (effects_from rs k)) ≡ length (kept_head x xs) + length (keep_last xs) = rw split (length-append (kept_head x xs) (keep_last xs)) in
       record {
         long = rw q (puts-length w n (kept_head x xs) ∙ p.long);
         few = omega (arith, p.few, head-at-most-one x xs);
-        count = rw (add-one k) (omega (arith, p.count, sum));
-        words = rw (add-one k, q, e) (sym (put-append w n (kept_head x xs) (keep_last xs)) ∙ ap (λ (l : List Effect). put_effects w n l) (sym split) ∙ p.words);
+        count = omega (arith, p.count, sum);
+        words = rw (q, e) (sym (put-append w n (kept_head x xs) (keep_last xs)) ∙ ap (λ (l : List Effect). put_effects w n l) (sym split) ∙ p.words);
       }
 
-module _ (ws w₀ w : List ℕ) (k n : ℕ) where
-  pub put-end : Putting ws w₀ w k n → length ws / 5 ≤ k → Puts w₀ zero (keep_last (effects_from zero ws)) w n
-  unfolding keep_last put_effects
-  put-end p h =
-      let e : effects_from k ws ≡ [] = from_end ws k h in
-      (omega (arith, rw e at p.count), rw e at p.words)
+  -- record k, read as x, and those behind it
+  module _ (x : Effect) (e : x ≡ effect_of rs k) (r : Bool) (q : r ≡ set_again x (effects_of (take (length rs - (k + 1)) (drop (k + 1) rs)))) where
+    again : r ≡ set_again (effect_of rs k) (effects_from rs (k + 1))
+    again = rw (← e) (rw (take_rest rs (k + 1)) at q)
+
+    pub put-left : r ≡ true → Putting rs w₀ w (k + 1) n
+    put-left b = put-turn w n (left_out (effect_of rs k) (effects_from rs (k + 1)) w n r again b)
+
+    pub put-more : r ≡ false → (v : List ℕ) → v ≡ put_effect w n x → Putting rs w₀ v (k + 1) (n + 1)
+    put-more b v o = put-turn v (n + 1) (put_in (effect_of rs k) (effects_from rs (k + 1)) w n r again b v x e o)
 
 -- THE TEST OF REFUSAL 60
 
-module _ (ws : List ℕ) where
-  pub not-whole : (length ws % 5 ≡ 0 → ⊥) → eqb (length ws % 5) 0 ≡ are_effects ws
-  unfolding are_effects
-  not-whole h = rw (ne_eqb (length ws % 5) 0 h)
+shifted : (f : ℕ → Bool) (i m : ℕ) → all f (up_from (suc i) m) ≡ all (λ k. f (suc k)) (up_from i m)
+shifted f i zero = refl
+shifted f i (suc m) = ap (λ (b : Bool). f (suc i) && b) (shifted f (suc i) m)
 
-  module _ (n : ℕ) (e : n ≡ length ws / 5) (h : length ws % 5 ≡ 0) where
-    pub as-every : (r : Bool) → r ≡ every n (λ k. leb (effect_at ws k).kind 12) → r ≡ are_effects ws
-    unfolding are_effects
-    as-every r q = rw (eq-eqb (length ws % 5) 0 h, ← e) q
+as-every : (f : ℕ → Bool) (m : ℕ) → all f (up_from 0 m) ≡ every m f
+unfolding every
+as-every f zero = refl
+as-every f (suc m) = ap (λ (b : Bool). f 0 && b) (shifted f 0 m ∙ as-every (λ k. f (suc k)) m) ∙ sym (every_first m f)
+
+kinds : (m : ℕ) (ws : List ℕ) → all (λ r. leb (effect_at r 0).kind 12) (first_chunks 5 m ws) ≡ every m (λ k. leb (effect_at ws k).kind 12)
+kinds m ws =
+    let is_kind : Effect → Bool = λ x. leb x.kind 12 in
+    sym (all_map (λ r. effect_at r 0) is_kind (first_chunks 5 m ws))
+    ∙ ap (all is_kind) (chunks-are m ws)
+    ∙ all_map (effect_at ws) is_kind (up_from 0 m)
+    ∙ as-every (λ k. leb (effect_at ws k).kind 12) m
+
+module _ (ws rest : List ℕ) (long : length rest ≡ length ws % 5) where
+  pub not-whole : (length rest ≡ 0 → ⊥) → false ≡ are_effects ws
+  unfolding are_effects
+  not-whole h = let n : length ws % 5 ≡ 0 → ⊥ = λ e. h (long ∙ e) in rw (ne_eqb (length ws % 5) 0 n)
+
+  pub whole : length rest ≡ 0 → (rs : List (List ℕ)) → rs ≡ first_chunks 5 (length ws / 5) ws → (r : Bool) → r ≡ all (λ r. leb (effect_at r 0).kind 12) rs → r ≡ are_effects ws
+  unfolding are_effects
+  whole h rs e r q = rw (eq-eqb (length ws % 5) 0 (sym long ∙ h)) (q ∙ ap (all (λ r. leb (effect_at r 0).kind 12)) e ∙ kinds (length ws / 5) ws)
 
 -- AGAIN
 
@@ -149,16 +191,10 @@ module _ (x : Effect) (xs : List Effect) (r : Bool) (e : r ≡ is_level x) where
   unfolding set_again
   level-again q s p = rw (← e, q) p
 
--- of record k, read before, by the words behind it
-pub again-here : (ws : List ℕ) (k : ℕ) (x : Effect) → x ≡ effect_at ws k → (r : Bool) → r ≡ set_again x (effects_from zero (take (length ws - (k + 1) * 5) (drop ((k + 1) * 5) ws))) → r ≡ set_again (effect_at ws k) (effects_from (suc k) ws)
-again-here ws k x h r q =
-    let rest : take (length ws - (k + 1) * 5) (drop ((k + 1) * 5) ws) ≡ drop ((k + 1) * 5) ws = take_all _ _ (omega (arith, length-drop ((k + 1) * 5) ws)) in
-    rw (← h, ← behind ws (suc k)) (rw (rest, add-one k) at q)
-
 -- THE ANSWER
 
-kept_in : (ws : List ℕ) → keep_last (effects_from zero ws) ≡ kept (effects_in ws)
-kept_in ws = rw (from_zero ws) (sym (kept-by-recursion (effects_in ws)))
+kept_in : (ws : List ℕ) (rs : List (List ℕ)) → rs ≡ first_chunks 5 (length ws / 5) ws → keep_last (effects_of rs) ≡ kept (effects_in ws)
+kept_in ws rs e = ap keep_last (records-are ws rs e) ∙ sym (kept-by-recursion (effects_in ws))
 
 -- zeros, and what is written into them
 zeros-then : (room : ℕ) (l : List Effect) → length l * 5 ≤ room → put_effects (replicate room 0) zero l ≡ lent room (words_of_effects l)
@@ -171,13 +207,13 @@ module _ (ws : List ℕ) (room : ℕ) (r : Bool) (e : r ≡ are_effects ws) wher
   unfolding answer kept_store
   refuse-60 q z h = rw (← e, q) (refl, h)
 
-  module _ (q : r ≡ true) (z v : List ℕ) (n : ℕ) (hz : z ≡ replicate room 0)
-      (puts : Puts z zero (keep_last (effects_from zero ws)) v n) where
+  module _ (q : r ≡ true) (rs : List (List ℕ)) (f : rs ≡ first_chunks 5 (length ws / 5) ws) (z v : List ℕ) (n : ℕ) (hz : z ≡ replicate room 0)
+      (puts : Puts z zero (keep_last (effects_of rs)) v n) where
     count : n ≡ length (kept (effects_in ws))
-    count = let e : n ≡ length (keep_last (effects_from zero ws)) = omega (arith, puts.0) in rw (kept_in ws) at e
+    count = let e : n ≡ length (keep_last (effects_of rs)) = omega (arith, puts.0) in rw (kept_in ws rs f) at e
 
     pub same-room : length v ≡ room
-    same-room = rw (puts.1, hz) (puts-length (replicate room 0) zero (keep_last (effects_from zero ws)) ∙ length-replicate room 0)
+    same-room = rw (puts.1, hz) (puts-length (replicate room 0) zero (keep_last (effects_of rs)) ∙ length-replicate room 0)
 
     pub refuse-61 : length v / 5 < n → (u : List ℕ) → u ≡ replicate (length v) 0 → (Err TelegramStore ≡ answer room ws) × (u ≡ kept_store room ws)
     unfolding answer kept_store has_room
@@ -190,4 +226,4 @@ module _ (ws : List ℕ) (room : ℕ) (r : Bool) (e : r ≡ are_effects ws) wher
     keep_all h =
         let fits : length (kept (effects_in ws)) * 5 ≤ room = omega (arith, count, same-room) in
         let room-left : leb (length (kept (effects_in ws)) * 5) room ≡ true = le-leb _ _ fits in
-        rw (← e, q, room-left) (ap Ok count, puts.1 ∙ rw (hz, kept_in ws) (zeros-then room (kept (effects_in ws)) fits))
+        rw (← e, q, room-left) (ap Ok count, puts.1 ∙ rw (hz, kept_in ws rs f) (zeros-then room (kept (effects_in ws)) fits))

@@ -79,7 +79,7 @@ sets-past : (t : ℕ) (y : Effect) (ys : List Effect) (j : ℕ) → cuts y ≡ t
 unfolding sets_at at
 sets-past t y ys j e = rw (every_first j (λ k. not (cuts (at (y ∷ ys) k))), e) (and-false (sets t (at ys j)))
 
-cut-sets-none : (t : ℕ) (y : Effect) → cuts y ≡ true → sets t y ≡ false
+pub cut-sets-none : (t : ℕ) (y : Effect) → cuts y ≡ true → sets t y ≡ false
 cut-sets-none t y e = by (sets t y) (λ q. absurd (false≢true (sym (level-not-cut y (sets-level t y q)) ∙ e))) (λ q. q)
 
 either : (a b : Bool) → not (not a && b) ≡ a || not b

@@ -1,6 +1,6 @@
 -- The kept list by recursion on the list, as the code comes to it.
-use Rattle.std.specs.Prelude.{◌≡◌, ℕ, zero, ◌+◌, ◌-◌, ◌/◌, Bool, cond, ◌&&◌, List, [], ◌∷◌, ◌++◌, map, length}
-use Rattle.model.specs.Lists.{present, up_from}
+use Rattle.std.specs.Prelude.{◌≡◌, ℕ, zero, ◌+◌, Bool, cond, ◌&&◌, List, [], ◌∷◌, ◌++◌, map, length}
+use Rattle.model.specs.Lists.{present}
 use Rattle.model.specs.declared.Effect.{Effect}
 use Rattle.model.specs.Telegrams.{is_level, stretch, last_set, effect_at}
 use Rattle.lent_words.specs.PutEffects.{put_effects}
@@ -25,6 +25,6 @@ keep_last (x ∷ xs) = kept_head x xs ++ keep_last xs
 abbrev pub Puts : List ℕ → ℕ → List Effect → List ℕ → ℕ → Type 0
 Puts w n xs w' m = (m ≡ n + length xs) × (w' ≡ put_effects w n xs)
 
--- the effects from record k on
-unfoldable pub effects_from : ℕ → List ℕ → List Effect
-effects_from k ws = map (effect_at ws) (up_from k (length ws / 5 - k))
+-- the effects of records
+abbrev pub effects_of : List (List ℕ) → List Effect
+effects_of rs = map (λ r. effect_at r 0) rs

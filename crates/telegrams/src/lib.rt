@@ -1,39 +1,29 @@
 // Fewer telegrams on the bus: the shortest list of a tick's effects that leaves every lamp the same.
 #![tactic(auto)]
 
-ghost use Rattle.std.specs.Prelude.{◌≡◌, Bool, zero, suc, ◌*◌, ◌/◌, ◌<◌, ◌≤◌, length, replicate};
+ghost use Rattle.std.specs.Prelude.{◌≡◌, zero, length};
 ghost use Rattle.model.specs.Telegrams.{cuts, is_level, sets, effect_at, are_effects, answer, kept_store};
-ghost use Rattle.telegrams.specs.Recursion.{is_set, set_again, kept_head, keep_last, effects_from, Puts};
+ghost use Rattle.telegrams.specs.Recursion.{is_set, set_again, keep_last, effects_of, Puts};
 
 use lent_words::EFFECT_WORDS;
 use model::{Effect, EffectKind, Refusal};
 
-// Record k.
-// kept: no `rows::row::Row`, for the reason beside `lent_words::write_effect`: its codec would say the five words once more, beside the specification's `effect_at`.
+// The effect of a record.
 #[tactic(auto, unfolding(model::specs::Telegrams::effect_at))]
-fn effect_at(effects: &[u32], k: usize) -> Effect
-    requires { k < length effects.now / 5 }
-    ensures { result ≡ effect_at effects.now k }
+fn effect_of(words: &[u32; EFFECT_WORDS]) -> Effect
+    ensures { result ≡ effect_at words.now 0 }
 {
-    let at = k * EFFECT_WORDS;
-    let words = &effects[at..at + EFFECT_WORDS];
-    Effect {
-        kind: words[0],
-        a: words[1],
-        b: words[2],
-        c: words[3],
-        d: words[4],
-    }
+    let [kind, a, b, c, d] = *words;
+    Effect { kind, a, b, c, d }
 }
 
 // Whether the words are effects: refusal 60.
-// kept: by the number of the record, no `chunks_exact`: a record is read by `effect_at` here as everywhere below, where a chunk's kind would be its word 0 by hand.
 fn are_effects(effects: &[u32]) -> bool
     ensures { result ≡ are_effects effects.now }
 {
-    effects.len() % EFFECT_WORDS == 0
-        && (0..effects.len() / EFFECT_WORDS).all(|k| effect_at(effects, k).kind
-            <= EffectKind::Level as u32)
+    let (records, rest) = effects.as_chunks::<EFFECT_WORDS>();
+    rest.is_empty()
+        && records.iter().all(|record| effect_of(record).kind <= EffectKind::Level as u32)
 }
 
 #[tactic(auto, unfolding(model::specs::Telegrams::cuts))]
@@ -59,53 +49,36 @@ fn sets(x: Effect, lamp: u32) -> bool
 }
 
 // Whether the lamp is set before a record that cuts.
-// kept: no chain, which takes about twice the time: tried, and proved: by take_while and any the list of 4,096 levels of as many lamps takes 11.1 ms, where the loop takes 5.7.
-fn is_set_from(effects: &[u32], lamp: u32) -> bool
-    ensures { result ≡ is_set zero lamp (effects_from zero effects.now) }
+fn is_set_from(records: &[[u32; EFFECT_WORDS]], lamp: u32) -> bool
+    ensures { result ≡ is_set zero lamp (effects_of records.now) }
 {
-    let n = effects.len() / EFFECT_WORDS;
-    for j in 0..n {
-        let x = effect_at(effects, j);
-        if cuts(x) {
-            return false;
-        }
-        if sets(x, lamp) {
-            return true;
-        }
-    }
-    false
+    let end = records
+        .iter()
+        .map(effect_of)
+        .find(|x| cuts(*x) || sets(*x, lamp));
+    end.is_some_and(|x| sets(x, lamp))
 }
 
 // Whether x sets a lamp that is set again in its stretch, by the records behind it.
-fn is_superseded(x: Effect, rest: &[u32]) -> bool
-    ensures { result ≡ set_again x (effects_from zero rest.now) }
+fn is_superseded(x: Effect, rest: &[[u32; EFFECT_WORDS]]) -> bool
+    ensures { result ≡ set_again x (effects_of rest.now) }
 {
     is_level(x) && is_set_from(rest, x.a)
 }
 
-// Record k goes to place n of the list, unless it is superseded. The next place.
-fn put_if_kept(list: &mut [u32], n: usize, effects: &[u32], k: usize) -> usize
-    requires { (n ≤ k) × (k < length effects.now / 5) }
-    ensures { Puts list.old n (kept_head (effect_at effects.now k) (effects_from (suc k) effects.now)) list.new result }
-{
-    let x = effect_at(effects, k);
-    let rest = &effects[(k + 1) * EFFECT_WORDS..];
-    if is_superseded(x, rest) {
-        return n;
-    }
-    lent_words::write_effect(list, n, x);
-    n + 1
-}
-
 // The kept records go into the list, as far as there is room. How many they are.
-fn put_kept(list: &mut [u32], effects: &[u32]) -> usize
-    ensures { Puts list.old zero (keep_last (effects_from zero effects.now)) list.new result }
+fn put_kept(list: &mut [u32], records: &[[u32; EFFECT_WORDS]]) -> usize
+    ensures { Puts list.old zero (keep_last (effects_of records.now)) list.new result }
 {
-    let end = effects.len() / EFFECT_WORDS;
     // kept: no fold, since no chain's proof goes through a closure that changes what it captures, here the list.
     let mut n = 0;
-    for k in 0..end {
-        n = put_if_kept(list, n, effects, k);
+    for (k, record) in records.iter().enumerate() {
+        let x = effect_of(record);
+        if is_superseded(x, &records[k + 1..]) {
+            continue;
+        }
+        lent_words::write_effect(list, n, x);
+        n += 1;
     }
     n
 }
@@ -118,7 +91,8 @@ pub fn telegrams(effects: &[u32], list: &mut [u32]) -> Result<usize, Refusal>
     if !are_effects(effects) {
         return Err(Refusal::EffectWords);
     }
-    let n = put_kept(list, effects);
+    let (records, _) = effects.as_chunks::<EFFECT_WORDS>();
+    let n = put_kept(list, records);
     if list.len() / EFFECT_WORDS < n {
         lent_words::clear(list);
         return Err(Refusal::TelegramStore);

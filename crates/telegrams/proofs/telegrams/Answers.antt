@@ -8,8 +8,8 @@ returns-then-not-are_effects c = refuse-60 _ _ _ c.are_effects.ensures c.if-not-
 
 pub returns-then-list-n : goal.returns-then-list-n
 returns-then-list-n c =
-    refuse-61 _ _ _ c.are_effects.ensures c.if-not-are_effects.false _ _ _ c.clear.ensures c.put_kept-n.ensures (omega arith) _ c.clear-then-list-n.ensures
+    refuse-61 _ _ _ c.are_effects.ensures c.if-not-are_effects.false _ c.as_chunks.ensures.front _ _ _ c.clear.ensures c.put_kept-n.ensures (omega arith) _ c.clear-then-list-n.ensures
 
 pub returns : goal.returns
 returns c =
-    keep_all _ _ _ c.are_effects.ensures c.if-not-are_effects.false _ _ _ c.clear.ensures c.put_kept-n.ensures (omega arith)
+    keep_all _ _ _ c.are_effects.ensures c.if-not-are_effects.false _ c.as_chunks.ensures.front _ _ _ c.clear.ensures c.put_kept-n.ensures (omega arith)
