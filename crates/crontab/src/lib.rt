@@ -23,7 +23,8 @@ fn fields_fit(line: &[u8]) -> bool
     Field::ALL.iter().all(|field| field.fits(line))
 }
 
-// kept: `line` and `sunday` side by side, here, below and in table.rt, as the call has them: a struct of both would be made by `read` alone.
+// kept: `line` and `sunday` side by side, here, below and in table.rt: of the five functions that take both, two ask that sunday is at most 6, and three are called
+// before that is known; nine more take `line` alone. So one struct would be no plainer, and two would be needed for the fact.
 #[tactic(auto, unfolding(model::specs::Crontab::of_the_form))]
 fn of_the_form(line: &[u8], sunday: u32) -> bool
     ensures { result ≡ of_the_form line.now sunday }

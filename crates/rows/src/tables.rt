@@ -87,7 +87,7 @@ impl<'a, T: Row> Iterator for Rows<'a, T> {
 
 // The n rows that stand from k on.
 // kept: a loop that pushes: the library's `collect` into an `ArrayVec` takes an allocator, and answers a Result, as more rows could come than it holds; and by
-// their places, since `Rows` asks that they end below 2^64, where these may end at it.
+// their places, since `Rows` asks that they end below 2^64: every caller's do, but this function is public and may not ask more than that they end at it.
 pub fn table_at<T: Row + Default, const N: usize>(s: &[u32], k: usize, n: usize) -> ArrayVec<T, N>
     requires { (n ≤ N) × (k + n * T.WORDS ≤ 2 ^ 64) }
     ensures { result.items ≡ table_at T.codec n s.now k }
