@@ -10,11 +10,7 @@ use lib.ListN.{length}
 use Rattle.model.specs.declared.Trigger.{Trigger}
 use Rattle.model.specs.Wheel.{is_wall_trigger}
 use Rattle.model.specs.Lists.{total}
-use Rattle.model.specs.Image.{size_of}
-use Rattle.model.specs.Rows.{rules}
-use Rattle.room.specs.declared.Sums.{Sums}
-use Rattle.room.specs.Room.{count, greatest, is_timer_trigger, is_every_trigger, starts_by, starts_of, own_steps, body_steps, effects_of_start}
-use Rattle.room.specs.Needed.{Summed}
+use Rattle.room.specs.Room.{count, greatest, is_timer_trigger, is_every_trigger, starts_by}
 
 -- x of the triggers so far, and those that are left
 pub record Counted (p : Trigger → Bool) (ts left : List Trigger) (x : ℕ) : Type 0 where
