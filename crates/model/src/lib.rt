@@ -400,6 +400,7 @@ pub struct InputState {
     pub adapter_id: u32,
     pub short_address: u32,
     pub instance_number: u32,
+    // kept: the word as it stands, 0 or 1. As a bool the definition would say something else of a word past 1, which refusal 21 names.
     pub occupied: Option<u32>,
     pub light: Option<u32>,
     pub position: Option<u32>,
