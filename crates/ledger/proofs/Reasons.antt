@@ -8,6 +8,7 @@ use mathlib.Core.List.{List, [], ◌∷◌}
 use Rattle.std.specs.Prelude.{Option}
 use lib.Dec.{eqb}
 use lib.ListN.{length}
+use Rattle.std.proofs.lemmas.Bool.{or_right}
 use Rattle.model.specs.declared.Point.{Point}
 use Rattle.model.specs.declared.Step.{Step}
 use Rattle.model.specs.declared.Effect.{Effect}
@@ -57,11 +58,7 @@ reason-two (waits {d = d} h) e = inl (rw (of-drop d e))
 reason-two {set = set} (continues {b = b} {r = r} {sp = sp} {x = x} {s = s} {g = g} {ms = ms} q here h to w) e = pick (first-is q r e) (λ t. reason-two w t)
   where
     more : (drops_one ms ≡ true) ⊎ (length ms ≡ b) → (is_drop s || drops_one ms ≡ true) ⊎ (suc (length ms) ≡ suc b)
-    more (inl t) = inl (either_side (is_drop s) (drops_one ms) t)
-      where
-        either_side : (a c : Bool) → c ≡ true → a || c ≡ true
-        either_side true c t = refl
-        either_side false c t = t
+    more (inl t) = inl (or_right (is_drop s) (drops_one ms) t)
     more (inr n) = inr (ap suc n)
 
     pick : (q ≡ 2) ⊎ (r ≡ 2) → (r ≡ 2 → (drops_one ms ≡ true) ⊎ (length ms ≡ b)) → (is_drop s || drops_one ms ≡ true) ⊎ (suc (length ms) ≡ suc b)
