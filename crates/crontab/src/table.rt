@@ -8,6 +8,7 @@ ghost use Rattle.crontab.specs.Scanned.{Marked, marked, marked_minutes, written}
 use crate::parts::Field;
 
 // The kind of an AtTime trigger, as an image numbers them.
+// kept: a number with a name, as no other kind is written: image's `trigger_of` reads it. model's `TriggerKind` numbers what starts a rule, where AtTime is 3.
 const AT_TIME: u32 = 2;
 
 // The words of a trigger.
