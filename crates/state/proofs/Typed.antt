@@ -1,15 +1,15 @@
 -- Tables whose rows are those of a codec. Assumes nothing.
 use mathlib.Core.Path.{◌≡◌, refl, sym, ap, subst, ◌∙◌}
-use mathlib.Core.Bool.{Bool, true, false, cond}
+use mathlib.Core.Bool.{Bool, true, false, cond, not}
 use mathlib.Core.List.{List, [], ◌∷◌, ◌++◌, map, append_assoc, append-nil}
 use Prim.Native.Nat.{ℕ, zero, suc, ◌+◌, ◌-◌, ◌*◌, ◌≤◌, ◌<◌}
 use native.Mathlib.Nat.{add-zero, suc-mul}
 use native.Mathlib.Numerals.{add-one}
 use native.Mathlib.Omega.{arith}
-use lib.Dec.{leb}
+use lib.Dec.{leb, ltb}
 use lib.ListN.{length, get_or, take, drop, set, replicate, length-append, length-set, length-map, length-replicate, replicate-append-replicate, drop_of_length-le}
 use lib.Seq.{take_at, drop_at, set_split, split_at, length-take-le}
-use borrow.Author.Tests.{leb-true, le-leb, lt-leb}
+use borrow.Author.Tests.{leb-true, ltb-true, ltb-false, le-leb, lt-leb}
 use Rattle.model.specs.Layout.{counted, sizes, part_fits, parts_fit}
 use Rattle.model.specs.Codec.{Row, most, words_of, all_good}
 use Rattle.model.specs.Lists.{flatten, keep}
@@ -22,6 +22,7 @@ use Rattle.rows.proofs.Writing.{words_append, laid-long}
 use Rattle.state.specs.Cuts.{cut, rows_in, table_of, with_row, HasRoom, Fits, Table}
 use Rattle.state.specs.Meaning.{Holds, Counted, joined}
 use Rattle.state.proofs.Cutting.{laid-drop, laid-mid, row-end}
+use Rattle.state.proofs.Tables.{to-come}
 
 module _ {A : Type 0} (r : Row A) (laws : RowLaws r) where
   abbrev f : ℕ
@@ -245,6 +246,18 @@ module _ {A : Type 0} (r : Row A) (laws : RowLaws r) where
           good = join (le-leb (length (set l i x)) n (omega (arith, m, holds-few p l h))) (good-set l i x (both (leb (length l) n) (all_good r l) h.good).1 g);
         }
 
-    -- behind the others, where there is room
-    pub joined-room : (p p₁ : List ℕ) (l : List A) (x : A) → Holds n r p l → length l < n → r.good x ≡ true → p₁ ≡ with_row f (r.put x) p → Holds n r p₁ (joined n x l)
-    joined-room p p₁ l x h k g e = rw (lt-leb n (length l) k) (holds-push p p₁ l x h k g e)
+    -- behind the others, where there is room: b says whether there is
+    module _ (p : List ℕ) (l : List A) (b : Bool) (h : Holds n r p l) (e : b ≡ ltb (get_or p 0 0) n) where
+      pub joined-less : b ≡ not (leb n (length l))
+      joined-less = e ∙ ap (λ (k : ℕ). ltb k n) (holds-count p l h) ∙ to-come (length l) n
+
+      pub joined-room : (p₁ : List ℕ) (x : A) → (b ≡ true → r.good x ≡ true) → p₁ ≡ cond b (with_row f (r.put x) p) p → Holds n r p₁ (joined n x l)
+      joined-room p₁ x good w = by b refl
+        where
+          by : (c : Bool) → b ≡ c → Holds n r p₁ (joined n x l)
+          by true t =
+              let k : length l < n = omega (arith, holds-count p l h, ltb-true (get_or p 0 0) n (sym e ∙ t)) in
+              rw (lt-leb n (length l) k) (holds-push p p₁ l x h k (good t) (rw t at w))
+          by false t =
+              let k : n ≤ length l = omega (arith, holds-count p l h, ltb-false (get_or p 0 0) n (sym e ∙ t)) in
+              rw (le-leb n (length l) k, rw t at w) h

@@ -8,7 +8,7 @@ use native.Mathlib.Omega.{arith}
 use lib.Dec.{leb}
 use lib.ListN.{length, get_or, take, drop, set, length-map, drop_of_length-le}
 use lib.Seq.{drop-cons, take_all, set_split}
-use borrow.Author.Tests.{le-leb, lt-leb, lt-ltb}
+use borrow.Author.Tests.{lt-ltb}
 use borrow.Rule.Slice.PartMut.{put_mid}
 use mir.Val.{Val}
 use denote.Laws.{Is}
@@ -28,12 +28,11 @@ use Rattle.model.specs.contracts.VarValue.{the_type}
 use Rattle.rows.specs.Places.{laid, table_at}
 use Rattle.rows.specs.Rows.{variable_code_row, short_variable_of}
 use Rattle.rows.proofs.Reading.{short-is}
-use Rattle.state.specs.Cuts.{with_row}
-use Rattle.state.specs.Meaning.{Holds, Counted, Sound, MeansSoundly, meaning, base, variables_part, place_of, words_in, part}
+use Rattle.state.specs.Meaning.{Holds, Counted, Sound, MeansSoundly, meaning, base, joined, variables_part, place_of, words_in, part}
 use Rattle.state.specs.Named.{variable_has_name, lacks_room, no_row, assigned, has_name, put_row, assign_row}
 use Rattle.state.specs.Tables.{First, Finds}
 use Rattle.state.proofs.Found.{found, not_found, passed_over}
-use Rattle.state.proofs.Typed.{holds-get, holds-set, holds-push}
+use Rattle.state.proofs.Typed.{holds-get, holds-set}
 use Rattle.state.proofs.Held.{table-read}
 use Rattle.state.proofs.Frame.{part-is, table-lent, table-back, variables-changed}
 
@@ -56,33 +55,26 @@ module _ (name : ℕ) (x : R) where
         rw (found (has_name name) l i first x h)
         (put-past i l first.before ∙ rw (drop-cons l i x h, first.passes x h, set_split l i x h) refl)
 
-    anew : length l ≤ i → length l < 16 → assign_row name x l ≡ l ++ (x ∷ [])
+    anew : length l ≤ i → assign_row name x l ≡ joined 16 x l
     unfolding assign_row
-    anew h k =
+    anew h =
         let end : drop i l ≡ [] = drop_of_length-le l {i = i} h in
-        rw (not_found (has_name name) l i first h, lt-leb 16 (length l) k) (put-past i l first.before ∙ rw (take_all i l h, end) refl)
-
-    full : length l ≤ i → 16 ≤ length l → assign_row name x l ≡ l
-    unfolding assign_row
-    full h k = rw (not_found (has_name name) l i first h, le-leb 16 (length l) k)
+        rw (not_found (has_name name) l i first h) (ap (cond (leb 16 (length l)) l) (put-past i l first.before ∙ rw (take_all i l h, end) refl))
 
     -- whether there is a row of the name, or room for one
     pub row-there : i < length l → true ≡ not (no_row name l)
     row-there h = rw (found (has_name name) l i first x h) refl
 
-    pub row-none : length l ≤ i → 16 ≤ length l → false ≡ not (no_row name l)
-    row-none h k = rw (not_found (has_name name) l i first h, le-leb 16 (length l) k) refl
+    pub row-none : (b : Bool) → length l ≤ i → b ≡ not (leb 16 (length l)) → b ≡ not (no_row name l)
+    row-none b h e = rw (not_found (has_name name) l i first h) e
 
   module _ (p : List ℕ) (l : List R) (h : Holds 16 variable_row p l) where
     pub assigned-again : (i : ℕ) → Finds (has_name name) l (Some i) → variable_row.good x ≡ true → (p₁ : List ℕ) → p₁ ≡ laid p (1 + i * 4) (variable_row.put x) → Holds 16 variable_row p₁ (assign_row name x l)
     assigned-again i found good p₁ b =
         rw (again l i found.0 found.1) (holds-set variable_row variable-laws 16 p p₁ l x i h found.1 good b)
 
-    pub assigned-new : Finds (has_name name) l None → variable_row.good x ≡ true → (p₁ : List ℕ) → length l < 16 → p₁ ≡ with_row 4 (variable_row.put x) p → Holds 16 variable_row p₁ (assign_row name x l)
-    assigned-new none good p₁ m b = rw (anew l _ none (omega arith) m) (holds-push variable_row variable-laws 16 p p₁ l x h m good b)
-
-    pub assigned-not : Finds (has_name name) l None → 16 ≤ length l → Holds 16 variable_row p (assign_row name x l)
-    assigned-not none m = rw (full l _ none (omega arith) m) h
+    pub assigned-new : Finds (has_name name) l None → (p₁ : List ℕ) → Holds 16 variable_row p₁ (joined 16 x l) → Holds 16 variable_row p₁ (assign_row name x l)
+    assigned-new none p₁ k = rw (anew l _ none (omega arith)) k
 
   -- texts stay numbers of one word
   short-cond : (b : Bool) (y : R) (l m : List R) → text_short x ≡ true → text_short y ≡ true → all text_short l ≡ true → all text_short m ≡ true → all text_short (cond b (x ∷ l) (y ∷ m)) ≡ true

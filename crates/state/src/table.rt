@@ -1,5 +1,5 @@
 // A counted table in words, whatever its rows are: its count, rows of `width` words, zeros behind.
-ghost use Rattle.std.specs.Prelude.{◌≡◌, Bool, [], ◌+◌, ◌-◌, ◌≤◌, ◌<◌, length, get_or, take};
+ghost use Rattle.std.specs.Prelude.{◌≡◌, Bool, IsTrue, cond, [], ◌+◌, ◌-◌, ◌≤◌, ◌<◌, ltb, length, get_or, take};
 ghost use Rattle.model.specs.Lists.{keep};
 ghost use Rattle.state.specs.Cuts.{rows_in, table_of, passes, with_row, HasRoom, Words, Fits, Table, RowSet};
 
@@ -51,6 +51,21 @@ pub fn push<R: Row>(t: &mut [u32], x: R)
     let n = t[0] as usize;
     x.put(t, 1 + n * R::WORDS);
     t[0] = n as u32 + 1;
+}
+
+// The same where fewer than `most` stand: whether it joins.
+pub fn try_push<R: Row>(t: &mut [u32], x: R, most: usize) -> bool
+    requires counted { 1 ≤ length t.old }
+    requires room { get_or t.old 0 0 < most → HasRoom R.WORDS t.old }
+    ensures rows { t.new ≡ cond result (with_row R.WORDS (R.codec.put x) t.old) t.old }
+    ensures words { IsTrue result → Words (R.codec.put x) }
+    ensures less { result ≡ ltb (get_or t.old 0 0) most }
+{
+    let less = (t[0] as usize) < most;
+    if less {
+        push(t, x);
+    }
+    less
 }
 
 // Row `from` is written over row `to`, which does not stand behind it.

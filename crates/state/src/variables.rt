@@ -33,11 +33,7 @@ fn assign(t: &mut [u32], x: Variable) -> bool
         x.put(t, 1 + i * VARIABLE_WORDS);
         return true;
     }
-    if (t[0] as usize) < MAX_VARIABLES {
-        table::push(t, x);
-        return true;
-    }
-    false
+    table::try_push(t, x, MAX_VARIABLES)
 }
 
 impl State {

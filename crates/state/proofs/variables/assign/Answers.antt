@@ -3,9 +3,9 @@ use native.Mathlib.Omega.{arith}
 use Rattle.model.specs.Parts.{variable_row}
 use Rattle.model.specs.Store.{variable_row_of}
 use Rattle.model.proofs.PartsLaws.{variable-laws}
-use Rattle.state.proofs.Typed.{has-room, holds-long, holds-count, holds-few}
+use Rattle.state.proofs.Typed.{has-room, holds-long, holds-count, holds-few, joined-room, joined-less}
 use Rattle.state.proofs.Good.{variable-good, words-laid, are_words}
-use Rattle.state.proofs.VariableRows.{assigned-again, assigned-new, assigned-not, row-there, row-none}
+use Rattle.state.proofs.VariableRows.{assigned-again, assigned-new, row-there, row-none}
 use Rattle.state.proofs.variables.assign.Goals as goal
 
 pub put-requires : goal.put-requires
@@ -17,20 +17,20 @@ returns-in-Some-clause-holds c =
     let good = variable-good c.args.x (words-laid _ _ _ put.new.s put.ensures (are_words put.new.s (λ i. omega (arith, c.type_inv.t i)))) in
     assigned-again _ _ _ _ c.requires _ c.in-Some.ensures good _ put.ensures
 
-pub push-requires : goal.push-requires
-push-requires c = has-room variable_row variable-laws 16 _ _ c.requires (omega arith) (omega arith) (omega (arith, holds-count variable_row variable-laws 16 _ _ c.requires, c.if-t-lt-MAX_VARIABLES.true))
-
 pub returns-in-Some-clause-room : goal.returns-in-Some-clause-room
 returns-in-Some-clause-room c = row-there _ (variable_row_of c.args.x) _ _ c.in-Some.ensures.0 c.in-Some.ensures.1
 
-pub returns-then-t-lt-MAX_VARIABLES-clause-holds : goal.returns-then-t-lt-MAX_VARIABLES-clause-holds
-returns-then-t-lt-MAX_VARIABLES-clause-holds c =
-    assigned-new _ _ _ _ c.requires c.in_default.ensures (variable-good c.args.x c.push.ensures.words) _ (omega (arith, holds-count variable_row variable-laws 16 _ _ c.requires, c.if-t-lt-MAX_VARIABLES.true)) c.push.ensures.rows
+pub try_push-requires-clause-counted : goal.try_push-requires-clause-counted
+try_push-requires-clause-counted c = omega (arith, holds-long variable_row variable-laws 16 _ _ c.requires)
+
+pub try_push-requires-clause-room : goal.try_push-requires-clause-room
+try_push-requires-clause-room c l = has-room variable_row variable-laws 16 _ _ c.requires (omega arith) (omega arith) (omega (arith, l, holds-count variable_row variable-laws 16 _ _ c.requires))
 
 pub returns-clause-holds : goal.returns-clause-holds
 returns-clause-holds c =
-    assigned-not _ _ _ _ c.requires c.in_default.ensures (omega (arith, holds-count variable_row variable-laws 16 _ _ c.requires, c.if-t-lt-MAX_VARIABLES.false))
+    assigned-new _ _ _ _ c.requires c.in_default.ensures _
+    (joined-room variable_row variable-laws 16 _ _ _ c.requires c.try_push.ensures.less _ _ (λ t. variable-good c.args.x (c.try_push.ensures.words t)) c.try_push.ensures.rows)
 
 pub returns-clause-room : goal.returns-clause-room
 returns-clause-room c =
-    row-none _ (variable_row_of c.args.x) _ _ c.in_default.ensures (omega arith) (omega (arith, holds-count variable_row variable-laws 16 _ _ c.requires, c.if-t-lt-MAX_VARIABLES.false))
+    row-none _ (variable_row_of c.args.x) _ _ c.in_default.ensures _ (omega arith) (joined-less variable_row variable-laws 16 _ _ _ c.requires c.try_push.ensures.less)
