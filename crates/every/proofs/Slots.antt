@@ -84,13 +84,13 @@ module _ (old : List EverySlot) (now rule : ℕ) where
   next-trigger place (AtSolar event offset) ts = refl
   next-trigger place Other ts = refl
 
-  -- trigger k, and those behind it
-  pub trigger-left : (ts : List Trigger) (k : ℕ) (t : Trigger) → k < length ts → t ≡ get_or ts k Other → Next (slots_from old now rule k (drop k ts)) (slots_from old now rule k (t ∷ [])) (slots_from old now rule (k + 1) (drop (k + 1) ts))
-  trigger-left ts k t h e = record { parts = rw (drop-cons ts k Other h, add-one, ← e) (next-trigger k t (drop (suc k) ts)) }
+  -- a trigger, and those behind it
+  pub trigger-left : (place : ℕ) (left : List Trigger) (t : Trigger) (rest : List Trigger) → left ≡ t ∷ rest → Next (slots_from old now rule place left) (slots_from old now rule place (t ∷ [])) (slots_from old now rule (suc place) rest)
+  trigger-left place left t rest e = record { parts = rw e (next-trigger place t rest) }
 
-  pub none_left : (ts : List Trigger) (k : ℕ) → length ts ≤ k → slots_from old now rule k (drop k ts) ≡ []
+  pub none_left : (place : ℕ) (left : List Trigger) → left ≡ [] → slots_from old now rule place left ≡ []
   unfolding slots_from
-  none_left ts k h = let e : drop k ts ≡ [] = drop_of_length-le ts {i = k} h in rw e
+  none_left place left e = rw e
 
 -- the slots of rule i
 abbrev pub rule_slots : List ℕ → List EverySlot → ℕ → ℕ → List EverySlot

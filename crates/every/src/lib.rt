@@ -69,9 +69,8 @@ impl Rebuild<'_> {
         ensures { Joined t.old (slots_from self.now.old.now self.now.time (name_of self.now.image.now i) 0 (triggers_of self.now.image.now i)) t.new }
     {
         let rule = self.image.name_of(i);
-        for p in 0..self.image.trigger_count(i) {
-            let trigger = self.image.trigger_at(i, p);
-            self.join_slot(rule, p, trigger, t);
+        for (place, trigger) in (0..).zip(self.image.triggers(i)) {
+            self.join_slot(rule, place, trigger, t);
         }
     }
 
