@@ -12,6 +12,8 @@ use lib.Seq.{take-suc, drop-set-lt, get_or-drop, length-take-le}
 use borrow.Author.Tests.{leb-true, leb-false, le-leb, lt-leb}
 use borrow.Rule.Slice.PartMut.{put_mid}
 use Rattle.words.specs.Saturating.{max64}
+use Rattle.std.proofs.lemmas.List.{take_more_set}
+use Rattle.std.proofs.lemmas.Grind.{drop_more_same}
 use Rattle.model.specs.Codec.{wide, most}
 use Rattle.model.specs.State as model
 use Rattle.model.specs.declared.Pending.{Pending}
@@ -19,8 +21,7 @@ use Rattle.rows.specs.Places.{laid, row_at}
 use Rattle.state.specs.Cuts.{cut, Words}
 use Rattle.state.specs.Meaning.{pending_row, part_sizes, pending_part, next_part, stored_part, accepted_part, place_of, words_in, meaning_of, accepted_in, numbered, offset_from, Below, meaning, base, accepted, stored_count, pending_count, Sound, AllNumbered, Holds, Counted}
 use Rattle.rows.proofs.Writing.{one_set}
-use Rattle.state.proofs.Closing.{at_rest, drop_more}
-use Rattle.state.proofs.Lists.{joins}
+use Rattle.state.proofs.Closing.{at_rest}
 use Rattle.state.proofs.Numbers.{numbered-all, numbered-joins}
 use Rattle.state.proofs.Typed.{holds-get, holds-count, holds-few, holds-long, holds-set}
 use Rattle.state.proofs.Good.{words-laid, pending-roomy}
@@ -80,9 +81,9 @@ module _ (base stored : ℕ) where
         record {
           long = length-set a i _ ∙ inv.long;
           done =
-              joins a i _ h
+              take_more_set a i _ h
               ∙ rw (inv.done, same) (sym (ap (numbered base stored) one ∙ numbered-joins base stored (take i a₀) (get_or a₀ i d) (omega arith)));
-          rest = drop-set-lt (i + 1) a i _ (omega arith) ∙ drop_more a₀ a i inv.rest;
+          rest = drop-set-lt (i + 1) a i _ (omega arith) ∙ drop_more_same a a₀ i inv.rest;
         }
 
 -- ---- the same over the rows of a table

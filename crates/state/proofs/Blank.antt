@@ -13,12 +13,12 @@ use Rattle.words.specs.Pairs.{joined}
 use Rattle.state.specs.Cuts.{cut}
 use Rattle.state.specs.Meaning.{state_parts, part_sizes, state_words, Sound}
 
-abbrev fits_all : List Part → List (List ℕ) → Bool
+abbrev pub fits_all : List Part → List (List ℕ) → Bool
 fits_all [] ps = true
 fits_all (q ∷ qs) [] = false
 fits_all (q ∷ qs) (p ∷ ps) = part_fits q p && fits_all qs ps
 
-fit_at : (qs : List Part) (ps : List (List ℕ)) → fits_all qs ps ≡ true → (t : ℕ) → t < length qs → part_fits (get_or qs t (fixed 0 [])) (get_or ps t []) ≡ true
+pub fit_at : (qs : List Part) (ps : List (List ℕ)) → fits_all qs ps ≡ true → (t : ℕ) → t < length qs → part_fits (get_or qs t (fixed 0 [])) (get_or ps t []) ≡ true
 fit_at [] ps f t h = absurd (omega arith)
 fit_at (q ∷ qs) [] f t h = absurd (false≢true f)
 fit_at (q ∷ qs) (p ∷ ps) f zero h = (both (part_fits q p) (fits_all qs ps) f).0

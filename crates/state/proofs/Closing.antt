@@ -8,9 +8,10 @@ use mathlib.Core.Bool.{Bool, true, false, cond}
 use mathlib.Core.Path.{◌≡◌, refl, sym, ap, ◌∙◌}
 use mathlib.Core.List.{List, [], ◌∷◌, ◌++◌, append-nil}
 use lib.ListN.{length, take, drop, get_or, set, length-set}
-use lib.Seq.{length-take-le, take-suc, drop-set-lt, drop-drop, get_or-drop}
+use lib.Seq.{length-take-le, take-suc, drop-set-lt, get_or-drop}
+use Rattle.std.proofs.lemmas.List.{take_more_set}
+use Rattle.std.proofs.lemmas.Grind.{drop_more_same}
 use Rattle.model.specs.Lists.{keep}
-use Rattle.state.proofs.Lists.{joins}
 
 -- a has, below the count, the elements of l that pass
 pub record Keeps {A : Type 0} (p : A → Bool) (l a : List A) (count : ℕ) : Type 0 where
@@ -37,9 +38,6 @@ module _ {A : Type 0} where
   pub at_rest : (a₀ a : List A) (i : ℕ) (d : A) → drop i a ≡ drop i a₀ → get_or a i d ≡ get_or a₀ i d
   at_rest a₀ a i d e = rw add-zero at (sym (get_or-drop i a 0 d) ∙ ap (λ (l : List A). get_or l 0 d) e ∙ get_or-drop i a₀ 0 d)
 
-  pub drop_more : (a₀ a : List A) (i : ℕ) → drop i a ≡ drop i a₀ → drop (i + 1) a ≡ drop (i + 1) a₀
-  drop_more a₀ a i e = sym (drop-drop 1 i a) ∙ ap (drop 1) e ∙ drop-drop 1 i a₀
-
   -- nothing looked at yet
   pub starts : (p : A → Bool) (a : List A) → Closing p a a 0 0
   starts p a = record { long = refl; behind = omega arith; rest = refl; kept = refl }
@@ -57,8 +55,8 @@ module _ {A : Type 0} where
         record {
           long = length-set a j _ ∙ inv.long;
           behind = omega arith;
-          rest = drop-set-lt (i + 1) a j _ (omega arith) ∙ drop_more a₀ a i inv.rest;
-          kept = rw (joins, looked p a₀ i d (omega arith), ← same, e, inv.kept) refl;
+          rest = drop-set-lt (i + 1) a j _ (omega arith) ∙ drop_more_same a a₀ i inv.rest;
+          kept = rw (take_more_set, looked p a₀ i d (omega arith), ← same, e, inv.kept) refl;
         }
 
     -- it does not, and goes
@@ -68,7 +66,7 @@ module _ {A : Type 0} where
         record {
           long = inv.long;
           behind = omega arith;
-          rest = drop_more a₀ a i inv.rest;
+          rest = drop_more_same a a₀ i inv.rest;
           kept = rw (looked p a₀ i d (omega arith), ← same, e, inv.kept) (sym (append-nil _));
         }
 

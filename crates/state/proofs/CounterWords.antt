@@ -68,11 +68,11 @@ module _ (w : List ℕ) where
 
 -- ONE COUNTER GOES UP -------------------------------------------------------------------------------------------------------------------------
 -- rows of one word are their words
-words-at : (n : ℕ) (p : List ℕ) → n ≤ length p → rows_at any n p ≡ take n p
+pub any-rows : (n : ℕ) (p : List ℕ) → n ≤ length p → rows_at any n p ≡ take n p
 unfolding rows_at
-words-at zero p h = refl
-words-at (suc n) [] h = absurd (omega arith)
-words-at (suc n) (x ∷ p) h = ap (λ (l : List ℕ). x ∷ l) (words-at n p (omega arith))
+any-rows zero p h = refl
+any-rows (suc n) [] h = absurd (omega arith)
+any-rows (suc n) (x ∷ p) h = ap (λ (l : List ℕ). x ∷ l) (any-rows n p (omega arith))
 
 word_fits : (m n : ℕ) (w : List ℕ) (i x : ℕ) → rows_fit n (up_to m ∷ []) w ≡ true → x ≤ m → rows_fit n (up_to m ∷ []) (set w i x) ≡ true
 unfolding rows_fit row_fits zeros
@@ -89,7 +89,7 @@ unfolding meaning bump_by table_at
 bumped w w' c d which by s e f b =
     let p : List ℕ = part counters_part w in
     let long = part-long counters_part (omega arith) w s.long in
-    let is : c ≡ p = e ∙ words-at 12 (drop (place_of counters_part) w) (rw (length-drop (place_of counters_part) w) (omega (arith, s.long))) ∙ sym (part-is counters_part (omega arith) w) in
+    let is : c ≡ p = e ∙ any-rows 12 (drop (place_of counters_part) w) (rw (length-drop (place_of counters_part) w) (omega (arith, s.long))) ∙ sym (part-is counters_part (omega arith) w) in
     let raised : d ≡ raised_at which by p = f ∙ ap (raised_at which by) is in
     let fit = word_fits 4294967295 12 p which (saturating_add max32 (get_or p which 0) by) (s.parts.fit counters_part (omega arith)) (add-at-most max32 (get_or p which 0) by) in
     let k : length (raised_at which by p) ≡ 12 = length-set p which (saturating_add max32 (get_or p which 0) by) ∙ long in

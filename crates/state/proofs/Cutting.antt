@@ -2,11 +2,12 @@
 use mathlib.Core.Path.{◌≡◌, refl, sym, ap, ◌∙◌}
 use mathlib.Core.List.{List, [], ◌∷◌, ◌++◌, append_assoc}
 use Prim.Native.Nat.{ℕ, zero, suc, ◌+◌, ◌-◌, ◌*◌, ◌≤◌, ◌<◌}
-use native.Mathlib.Nat.{add-zero, zero-add, zero-mul, suc-mul, suc-add, add_assoc, mul-le-mul_right}
+use native.Mathlib.Nat.{add-zero, zero-add, zero-mul, suc-mul, add_assoc, mul-le-mul_right}
 use native.Mathlib.Omega.{arith}
 use lib.ListN.{length, get_or, take, drop, set, replicate, length-append, length-drop, take-append-drop}
 use lib.Seq.{take_at, drop_at, drop-drop, take-add, take-append-le, drop-append-le, length-take-le, take-take, drop-append-add, get_or-take}
 use borrow.Rule.Slice.PartMut.{put_mid, post_of, Post-is}
+use Rattle.std.proofs.lemmas.List.{drop-take, take-replicate}
 use Rattle.model.specs.Lists.{flatten}
 use Rattle.rows.specs.Places.{laid}
 use Rattle.rows.proofs.Writing.{laid-long}
@@ -19,15 +20,6 @@ laid-front n k w ys h =
     let l : n ≤ length (take (n + k) w) = rw (length-take-le (n + k) w h) (omega arith) in
     let m : n ≤ length (take (n + k) w ++ ys) = rw (length-append (take (n + k) w) ys) (omega arith) in
     take-append-le n (take (n + k) w ++ ys) (drop (n + k + length ys) w) m ∙ take-append-le n (take (n + k) w) ys l ∙ take-take n (n + k) w (omega arith)
-
-drop-take : {A : Type 0} (n k : ℕ) (w : List A) → drop n (take (n + k) w) ≡ take k (drop n w)
-drop-take zero k w = rw (zero-add k)
-drop-take (suc n) k [] = rw (suc-add n k) (nothing k)
-  where
-    nothing : {A : Type 0} (k : ℕ) → ◌≡◌ {A = List A} [] (take k [])
-    nothing zero = refl
-    nothing (suc k) = refl
-drop-take (suc n) k (x ∷ w) = rw (suc-add n k) (drop-take n k w)
 
 pub laid-drop : (n k : ℕ) (w ys : List ℕ) → n + k ≤ length w → drop n (laid w (n + k) ys) ≡ laid (drop n w) k ys
 unfolding laid
@@ -116,13 +108,8 @@ pub sum_same : (n f : ℕ) → sum (replicate n f) ≡ n * f
 sum_same zero f = sym (zero-mul f)
 sum_same (suc n) f = ap (λ (k : ℕ). f + k) (sum_same n f) ∙ let e = suc-mul n f in omega (arith, e)
 
-pub take_same : {A : Type 0} (n : ℕ) (x : A) (j : ℕ) → j ≤ n → take j (replicate n x) ≡ replicate j x
-take_same n x zero h = refl
-take_same zero x (suc j) h = absurd (omega arith)
-take_same {A} (suc n) x (suc j) h = ap (λ (l : List A). x ∷ l) (take_same n x j (omega arith))
-
 pub sum_first : (n f j : ℕ) → j ≤ n → sum (take j (replicate n f)) ≡ j * f
-sum_first n f j h = ap sum (take_same n f j h) ∙ sum_same j f
+sum_first n f j h = ap sum (take-replicate j n f h) ∙ sum_same j f
 
 pub size_same : (n f j : ℕ) → j < n → get_or (replicate {A = ℕ} n f) j 0 ≡ f
 size_same zero f j h = absurd (omega arith)

@@ -1,7 +1,6 @@
 -- What is read of words that hold a table, and words written over the first of a row. Assumes nothing.
 use mathlib.Core.Path.{◌≡◌, refl, sym, ap, subst, ◌∙◌}
-use mathlib.Core.Bool.{true}
-use mathlib.Core.List.{List, [], ◌∷◌, ◌++◌, append_assoc}
+use mathlib.Core.List.{List, ◌++◌, append_assoc}
 use Prim.Native.Nat.{ℕ, zero, suc, ◌+◌, ◌*◌, ◌≤◌, ◌<◌}
 use native.Mathlib.Nat.{add-zero, zero-mul, suc-mul}
 use native.Mathlib.Omega.{arith}
@@ -15,7 +14,7 @@ use Rattle.model.proofs.CodecLaws.{most-laws}
 use Rattle.rows.specs.Places.{laid, row_at, table_at}
 use Rattle.state.specs.Meaning.{Holds}
 use Rattle.state.proofs.Cutting.{laid-mid}
-use Rattle.state.proofs.Typed.{holds-get, holds-count, holds-set}
+use Rattle.state.proofs.Typed.{good-at, holds-get, holds-count, holds-set}
 
 module _ {A : Type 0} (r : Row A) (laws : RowLaws r) (n : ℕ) where
   abbrev f : ℕ
@@ -40,12 +39,6 @@ module _ {A : Type 0} (r : Row A) (laws : RowLaws r) (n : ℕ) where
       let e : suc i * f ≡ f + i * f = omega arith in
       rw (e, ← drop-drop (i * f) f v) (row_of m i (drop f v) d (omega arith))
 
-  good-at : (l : List A) (i : ℕ) (d : A) → all_good r l ≡ true → i < length l → r.good (get_or l i d) ≡ true
-  unfolding all_good
-  good-at [] i d g h = absurd (omega arith)
-  good-at (x ∷ l) zero d g h = (both (r.good x) (all_good r l) g).0
-  good-at (x ∷ l) (suc i) d g h = good-at l i d (both (r.good x) (all_good r l) g).1 (omega arith)
-
   module _ (p : List ℕ) (l : List A) (i : ℕ) (d : A) (h : Holds n r p l) (k : i < length l) where
     pub row_read : row_at r p (1 + i * f) ≡ get_or l i d
     unfolding row_at
@@ -56,7 +49,7 @@ module _ {A : Type 0} (r : Row A) (laws : RowLaws r) (n : ℕ) where
     -- a row written over itself
     pub row_stays : laid p (1 + i * f) (r.put (get_or l i d)) ≡ p
     row_stays =
-        let good = good-at l i d (both (leb (length l) n) (all_good r l) h.good).1 k in
+        let good = good-at r laws l i d (both (leb (length l) n) (all_good r l) h.good).1 k in
         (holds-set r laws n p (laid p (1 + i * f) (r.put (get_or l i d))) l (get_or l i d) i h k good refl).words ∙ ap (most n r).put (set-get_or l i d) ∙ sym h.words
 
 -- other words over the first of some that were written

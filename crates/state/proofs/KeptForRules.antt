@@ -9,6 +9,7 @@ use lib.Dec.{eqb, leb, ltb}
 use lib.ListN.{length, get_or, take, drop, set, length-take, get_or-eq_default}
 use lib.Seq.{get_or-take, set_out, take-set-lt, take-take}
 use borrow.Author.Tests.{leb-true, ltb-true, ltb-false}
+use Rattle.std.proofs.lemmas.List.{take-map}
 use Rattle.model.specs.Layout.{fixed, row_fits, rows_fit, zeros, up_to}
 use Rattle.model.specs.Codec.{Row, word, wide, maybe, rows_at}
 use Rattle.model.specs.Parts.{any}
@@ -84,11 +85,6 @@ unfolding rows_at
 bools-are zero p h = refl
 bools-are (suc n) [] h = absurd (omega arith)
 bools-are (suc n) (x ∷ p) h = ap (λ (l : List Bool). is_one x ∷ l) (bools-are n p (omega arith))
-
-take-map : {A B : Type 0} (g : A → B) (n : ℕ) (l : List A) → take n (map g l) ≡ map g (take n l)
-take-map g zero l = refl
-take-map g (suc n) [] = refl
-take-map g (suc n) (x ∷ l) = ap (λ (k : List _). g x ∷ k) (take-map g n l)
 
 -- the bits that count are the first rows
 bits_are : (m : ℕ) (p : List ℕ) → m ≤ 64 → 64 ≤ length p → map is_one (take m p) ≡ take m (rows_at bool_row 64 p)

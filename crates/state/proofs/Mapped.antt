@@ -6,8 +6,9 @@ use mathlib.Core.Path.{◌≡◌, refl, sym, ap, ◌∙◌}
 use mathlib.Core.List.{List, [], ◌∷◌, ◌++◌, map}
 use lib.ListN.{length, take, drop, get_or, set, length-set}
 use lib.Seq.{take-suc, drop-set-lt}
-use Rattle.state.proofs.Lists.{joins}
-use Rattle.state.proofs.Closing.{at_rest, drop_more}
+use Rattle.std.proofs.lemmas.List.{take_more_set}
+use Rattle.std.proofs.lemmas.Grind.{drop_more_same}
+use Rattle.state.proofs.Closing.{at_rest}
 
 module _ {A B : Type 0} (f : A → B) where
   pub map-append : (xs ys : List A) → map f (xs ++ ys) ≡ map f xs ++ map f ys
@@ -31,9 +32,9 @@ module _ {A : Type 0} (f : A → A) where
       record {
         long = length-set a i y ∙ inv.long;
         done =
-            joins a i y h
+            take_more_set a i y h
             ∙ rw (inv.done, e, same) (sym (rw add-one (ap (map f) (take-suc a₀ i d room) ∙ map-append f (take i a₀) (get_or a₀ i d ∷ []))));
-        rest = drop-set-lt (i + 1) a i y (omega arith) ∙ drop_more a₀ a i inv.rest;
+        rest = drop-set-lt (i + 1) a i y (omega arith) ∙ drop_more_same a a₀ i inv.rest;
       }
 
   pub mapped-all : (a₀ a : List A) (n i : ℕ) → Mapped f a₀ a i → i ≤ n → n ≤ i → take n a ≡ map f (take n a₀)

@@ -10,6 +10,7 @@ use lib.ListN.{length, get_or, take, drop, set, replicate, length-append, length
 use lib.Seq.{drop-append-le, drop-append_seam, get_or-take}
 use borrow.Author.Tests.{le-leb, lt-leb, lt-ltb}
 use borrow.Rule.Slice.PartMut.{put_mid}
+use Rattle.std.proofs.lemmas.List.{take-map}
 use Rattle.words.specs.Pairs.{low_of, high_of}
 use Rattle.words.specs.Saturating.{saturating_add, max64}
 use Rattle.words.proofs.Laws.{joined_words}
@@ -200,11 +201,6 @@ module _ (w : List ℕ) (s : Sound w) (time : ℕ) (x : Continuation) where
 in-front : (p : Pending → Bool) (k : ℕ) (l : List Pending) → keep p l ≡ keep p (take k l) ++ keep p (drop k l)
 in-front p k l = sym (ap (keep p) (take-append-drop k l)) ∙ keep_append p (take k l) (drop k l)
 
-take-map : (k : ℕ) (l : List Pending) → take k (map pending_row.put l) ≡ map pending_row.put (take k l)
-take-map zero l = refl
-take-map (suc k) [] = refl
-take-map (suc k) (x ∷ l) = ap (λ (z : List (List ℕ)). pending_row.put x ∷ z) (take-map k l)
-
 -- a test of words behind the number is the same of an offset
 abbrev pub PastNumber : (List ℕ → Bool) → Type 0
 PastNumber test = (n : ℕ) (c : Pending) → kept_by test (offset_from n c) ≡ kept_by test c
@@ -230,7 +226,7 @@ module _ (w : List ℕ) (s : Sound w) (test : List ℕ → Bool) where
       let h = holds_rows pending_row pending-laws 32 _ _ (records-hold w s) in
       ap (λ (x : List (List ℕ)). length (keep test (take (get_or w (place_of stored_part) 0) x))) h
       ∙ ap (λ (k : ℕ). length (keep test (take k (map pending_row.put (records w))))) (stored_at w s)
-      ∙ ap (λ (x : List (List ℕ)). length (keep test x)) (take-map st (records w))
+      ∙ ap (λ (x : List (List ℕ)). length (keep test x)) (take-map pending_row.put st (records w))
       ∙ ap length (keep-rows pending_row pending-laws 32 test (kept_by test) (λ a. refl) (take st (records w)))
       ∙ simp length-map
 

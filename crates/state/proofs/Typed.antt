@@ -51,7 +51,7 @@ module _ {A : Type 0} (r : Row A) (laws : RowLaws r) where
   first-long : (l : List A) (i : ℕ) → i ≤ length l → length (words_of r (take i l)) ≡ i * f
   first-long l i h = words_long (take i l) ∙ ap (λ (m : ℕ). m * f) (length-take-le i l h)
 
-  good-at : (l : List A) (i : ℕ) (d : A) → all_good r l ≡ true → i < length l → r.good (get_or l i d) ≡ true
+  pub good-at : (l : List A) (i : ℕ) (d : A) → all_good r l ≡ true → i < length l → r.good (get_or l i d) ≡ true
   unfolding all_good
   good-at [] i d g h = absurd (omega arith)
   good-at (x ∷ l) zero d g h = (both (r.good x) (all_good r l) g).0
@@ -62,6 +62,11 @@ module _ {A : Type 0} (r : Row A) (laws : RowLaws r) where
   good-set [] i x a b = a
   good-set (y ∷ l) zero x a b = join b (both (r.good y) (all_good r l) a).1
   good-set (y ∷ l) (suc i) x a b = let h = both (r.good y) (all_good r l) a in join h.0 (good-set l i x h.1 b)
+
+  pub good-append : (l k : List A) → all_good r l ≡ true → all_good r k ≡ true → all_good r (l ++ k) ≡ true
+  unfolding all_good
+  good-append [] k a b = b
+  good-append (x ∷ l) k a b = let h = both (r.good x) (all_good r l) a in join h.0 (good-append l k h.1 b)
 
   pub row_read : (l : List A) (rest : List ℕ) (i : ℕ) (d : A) → all_good r l ≡ true → i < length l → r.get (drop (i * f) (words_of r l ++ rest)) ≡ get_or l i d
   row_read l rest i d g h =
@@ -186,11 +191,6 @@ module _ {A : Type 0} (r : Row A) (laws : RowLaws r) where
           }
 
     -- A ROW MORE
-    good-append : (l k : List A) → all_good r l ≡ true → all_good r k ≡ true → all_good r (l ++ k) ≡ true
-    unfolding all_good
-    good-append [] k a b = b
-    good-append (x ∷ l) k a b = let h = both (r.good x) (all_good r l) a in join h.0 (good-append l k h.1 b)
-
     join-words : (p p₁ : List ℕ) (l : List A) (x : A) (m : ℕ) → Holds n r p l → m ≡ length l → m < n → p₁ ≡ laid p (1 + m * f) (r.put x) → set p₁ 0 (m + 1) ≡ (most n r).put (l ++ (x ∷ []))
     unfolding words_of
     join-words p p₁ l x m h e k b =

@@ -1,20 +1,17 @@
 -- So many rules, and nothing is kept of any. Assumes nothing.
 use mathlib.Core.Path.{◌≡◌, refl, sym, ap, ◌∙◌}
-use mathlib.Core.Bool.{Bool, true, false, not, or-true}
+use mathlib.Core.Bool.{Bool, true, false}
 use mathlib.Core.List.{List, [], ◌∷◌, ◌++◌, map, append-nil}
 use Rattle.std.specs.Prelude.{None}
 use Prim.Native.Nat.{ℕ, zero, suc, ◌+◌, ◌-◌, ◌*◌, ◌≤◌}
 use native.Mathlib.Omega.{arith}
-use lib.Dec.{eqb}
 use lib.ListN.{take, drop, set, replicate, length-replicate, replicate-append-replicate}
 use lib.Seq.{drop_at}
-use borrow.Author.Tests.{le-leb}
 use Rattle.model.specs.Layout.{row_fits, rows_fit, zeros, up_to}
 use Rattle.model.specs.Codec.{wide, maybe, rows_at}
 use Rattle.model.specs.Parts.{any}
 use Rattle.model.specs.State.{with_rest, with_enabled, with_last_activation, with_cycle_pos}
 use Rattle.model.specs.World.{is_one}
-use Rattle.model.proofs.Bools.{join}
 use Rattle.model.proofs.CodecLaws.{rest_of}
 use Rattle.model.proofs.RowLaws.{zeros-written}
 use Rattle.rows.specs.Places.{laid}
@@ -22,7 +19,8 @@ use Rattle.rows.proofs.Writing.{and-then, lays, one_set}
 use Rattle.state.specs.Cuts.{cut}
 use Rattle.state.specs.Meaning.{part_sizes, place_of, words_in, bits_part, activations_part, positions_part, variables_part, rules_part, meaning_of, base_in, unset_from, meaning, base, Sound, MeansSoundly}
 use Rattle.state.specs.Named.{unset_rules}
-use Rattle.state.proofs.Cutting.{take_same}
+use Rattle.std.proofs.lemmas.List.{take-replicate}
+use Rattle.state.proofs.Records.{word_fits}
 use Rattle.state.proofs.Frame.{shaped, Changed, changed-laid, across, sound-of}
 
 -- zeros
@@ -57,10 +55,6 @@ no-activations = refl
 no-positions : rows_at (maybe any) 64 (replicate (words_in positions_part) 0) ≡ replicate 64 None
 unfolding rows_at
 no-positions = refl
-
-word_fit : (m x : ℕ) → x ≤ m → rows_fit 1 (up_to m ∷ []) (x ∷ []) ≡ true
-unfolding rows_fit row_fits zeros
-word_fit m x h = join (join (join (le-leb x m h) (or-true (not (eqb x 0)))) refl) refl
 
 module _ (w w₁ w₂ : List ℕ) (n : ℕ) (s : Sound w) (few : n ≤ 64) where
   abbrev z₀ : List ℕ
@@ -103,12 +97,12 @@ module _ (w w₁ w₂ : List ℕ) (n : ℕ) (s : Sound w) (few : n ≤ 64) where
   unfolding cut meaning base
   rules-unset e₁ e₂ =
       let e : w₂ ≡ laid a₃ (place_of rules_part) (n ∷ []) = e₂ ∙ ap (λ (x : List ℕ). set x (place_of rules_part) n) (e₁ ∙ sym all_three) ∙ one_set a₃ (place_of rules_part) n (omega (arith, c₃.shape.long)) in
-      let c₄ : Changed a₃ w₂ rules_part (n ∷ []) = rw e (changed-laid rules_part (omega arith) a₃ (n ∷ []) c₃.shape refl (word_fit 64 n few)) in
+      let c₄ : Changed a₃ w₂ rules_part (n ∷ []) = rw e (changed-laid rules_part (omega arith) a₃ (n ∷ []) c₃.shape refl (word_fits 64 n few)) in
       let cuts : cut part_sizes w₂ ≡ set (set (set (set (cut part_sizes w) bits_part z₀) activations_part z₁) positions_part z₂) rules_part (n ∷ []) =
       c₄.cuts ∙ ap (λ (ps : List (List ℕ)). set ps rules_part (n ∷ [])) (c₃.cuts ∙ ap (λ (ps : List (List ℕ)). set ps positions_part z₂) (c₂.cuts ∙ ap (λ (ps : List (List ℕ)). set ps activations_part z₁) c₁.cuts)) in
-      let bits : map is_one (take n z₀) ≡ replicate n false = ap (map is_one) (take_same 64 0 n few) ∙ map-zeros n in
-      let activations : take n (rows_at (maybe wide) 64 z₁) ≡ replicate n None = ap (take n) no-activations ∙ take_same 64 None n few in
-      let positions : take n (rows_at (maybe any) 64 z₂) ≡ replicate n None = ap (take n) no-positions ∙ take_same 64 None n few in
+      let bits : map is_one (take n z₀) ≡ replicate n false = ap (map is_one) (take-replicate n 64 0 few) ∙ map-zeros n in
+      let activations : take n (rows_at (maybe wide) 64 z₁) ≡ replicate n None = ap (take n) no-activations ∙ take-replicate n 64 None few in
+      let positions : take n (rows_at (maybe any) 64 z₂) ≡ replicate n None = ap (take n) no-positions ∙ take-replicate n 64 None few in
       let a = across w s in
       record {
         says = ap meaning_of cuts ∙ λ i. with_rest (with_enabled (bits i) (with_last_activation (activations i) (with_cycle_pos (positions i) (meaning w).rest))) (meaning w);
