@@ -1,17 +1,17 @@
 -- What a store says of n rules, as the words of a state, part by part. Assumes nothing.
 use mathlib.Core.Path.{◌≡◌, refl, sym, ap, subst, ◌∙◌}
 use mathlib.Core.Logic.{inl}
-use mathlib.Core.Bool.{Bool, true, false, ◌&&◌, false≢true}
+use mathlib.Core.Bool.{true}
 use mathlib.Core.List.{List, [], ◌∷◌, map, append-nil}
 use Rattle.std.specs.Prelude.{None}
-use Prim.Native.Nat.{ℕ, zero, suc, ◌+◌, ◌*◌, ◌≤◌, ◌<◌}
+use Prim.Native.Nat.{ℕ, ◌+◌, ◌*◌, ◌≤◌}
 use native.Mathlib.Nat.{add-zero}
 use native.Mathlib.Omega.{arith}
 use lib.Dec.{leb, eqb}
 use lib.ListN.{length, get_or, take, drop, length-append, drop_of_length-le}
 use lib.Seq.{take_at, drop_at}
-use borrow.Author.Tests.{leb-true, le-leb, ltb-true, eqb-true}
-use Rattle.model.specs.Layout.{Part, fixed, part_fits, row_fits, rows_fit, up_to}
+use borrow.Author.Tests.{leb-true, ltb-true, eqb-true}
+use Rattle.model.specs.Layout.{row_fits, rows_fit}
 use Rattle.model.specs.Codec.{Row, word, wide, maybe, all, most, words_of, all_good}
 use Rattle.model.specs.Lists.{flatten}
 use Rattle.model.specs.Lists as lists
@@ -26,7 +26,8 @@ use Rattle.state.specs.Cuts.{cut, sum}
 use Rattle.state.specs.Meaning.{pending_row, state_parts, part_sizes, pending_part, stored_part, state_words, accepted_in, meaning_of, SoundOf, Below, meaning, accepted, stored_count, pending_count, AllNumbered}
 use Rattle.state.proofs.Numbers.{numbered-all}
 use Rattle.state.proofs.Typed.{holds-get, holds-fit, holds-long}
-use Rattle.state.proofs.Records.{pending-laws}
+use Rattle.state.proofs.Blank.{fits_all, fit_at}
+use Rattle.state.proofs.Records.{pending-laws, word_fits}
 use Rattle.store.proofs.RuleRows.{ruled-long, ruled-fit, ruled-read, ruled-unset, ruled-take}
 use Rattle.store.proofs.Wider.{word-wider, maybe-wider, pending-wider, good-wider, most-good}
 
@@ -39,18 +40,6 @@ cut-flat (p ∷ ps) = rw (take_at p (flatten ps) (length p) refl, drop_at p (fla
 flat-long : (ps : List (List ℕ)) → length (flatten ps) ≡ sum (map length ps)
 flat-long [] = refl
 flat-long (p ∷ ps) = length-append p (flatten ps) ∙ ap (λ (n : ℕ). length p + n) (flat-long ps)
-
--- each part fits
-abbrev fits_all : List Part → List (List ℕ) → Bool
-fits_all [] ps = true
-fits_all (q ∷ qs) [] = false
-fits_all (q ∷ qs) (p ∷ ps) = part_fits q p && fits_all qs ps
-
-fit_at : (qs : List Part) (ps : List (List ℕ)) → fits_all qs ps ≡ true → (t : ℕ) → t < length qs → part_fits (get_or qs t (fixed 0 [])) (get_or ps t []) ≡ true
-fit_at [] ps f t h = absurd (omega arith)
-fit_at (q ∷ qs) [] f t h = absurd (false≢true f)
-fit_at (q ∷ qs) (p ∷ ps) f zero h = (both (part_fits q p) (fits_all qs ps) f).0
-fit_at (q ∷ qs) (p ∷ ps) f (suc t) h = fit_at qs ps (both (part_fits q p) (fits_all qs ps) f).1 t (omega arith)
 
 -- ROWS ----------------------------------------------------------------------------------------------------------------------------------------
 pub any-words : (l : List ℕ) → words_of any l ≡ l
@@ -70,9 +59,6 @@ one-fit r laws a g = let f : row_fits r.cells (r.put a) ≡ true = rw append-nil
 
 one-get : {A : Type 0} (r : Row A) → RowLaws r → (a : A) → r.good a ≡ true → r.get (r.put a) ≡ a
 one-get r laws a g = rw append-nil at (laws.reads a [] g).0
-
-word_fit : (n x : ℕ) → x ≤ n → rows_fit 1 (up_to n ∷ []) (x ∷ []) ≡ true
-word_fit n x h = one-fit (word n) (word_laws n) x (le-leb x n h)
 
 pub positions-laws : RowLaws (maybe any)
 positions-laws = maybe-laws any_laws (word_blank 4294967295)
@@ -191,7 +177,7 @@ module _ (m : Changing) (g : Good m) (n : ℕ) (h : n ≤ 64) where
       (join (one-fit (maybe any) positions-laws m.prev_week_min g.week)
       (join (one-fit wide wide_laws m.next g.next)
       (join (one-fit wide wide_laws m.last_number g.last)
-      (join counters-fit (join (word_fit 32 (length m.pending) few) (join (one-fit wide wide_laws 0 refl) (join (one-fit wide wide_laws 0 refl) (join (word_fit 64 n h) refl))))))))))))))
+      (join counters-fit (join (word_fits 32 (length m.pending) few) (join (one-fit wide wide_laws 0 refl) (join (one-fit wide wide_laws 0 refl) (join (word_fits 64 n h) refl))))))))))))))
     where
       few : length m.pending ≤ 32
       few = leb-true _ _ (both (leb (length m.pending) 32) (all_good pending_row m.pending) g.pending).0

@@ -15,6 +15,7 @@ use Rattle.model.proofs.CodecLaws.{rest_of}
 use Rattle.model.proofs.RowLaws.{RowLaws, zeros-written, zeros-back, rows-count, rows_long, rows-reads, rows-writes}
 use Rattle.rows.proofs.Writing.{Long, words_append}
 use Rattle.state.specs.Meaning.{unset_from}
+use Rattle.state.proofs.Typed.{good-append}
 use Rattle.store.specs.Volatile.{first_of}
 
 module _ {A : Type 0} (r : Row A) (laws : RowLaws r) (b : A) (blank : r.put b ≡ replicate (length r.cells) 0) (good : r.good b ≡ true) where
@@ -36,11 +37,6 @@ module _ {A : Type 0} (r : Row A) (laws : RowLaws r) (b : A) (blank : r.put b �
   unfolding all_good
   fill-good zero = refl
   fill-good (suc m) = join good (fill-good m)
-
-  good-append : (xs ys : List A) → all_good r xs ≡ true → all_good r ys ≡ true → all_good r (xs ++ ys) ≡ true
-  unfolding all_good
-  good-append [] ys g h = h
-  good-append (x ∷ xs) ys g h = let (a, c) = both (r.good x) (all_good r xs) g in join a (good-append xs ys c h)
 
   pub good-take : (n : ℕ) (l : List A) → all_good r l ≡ true → all_good r (take n l) ≡ true
   unfolding all_good
@@ -64,7 +60,7 @@ module _ {A : Type 0} (r : Row A) (laws : RowLaws r) (b : A) (blank : r.put b �
       ruled-take = take_at (take n l) (replicate (64 - length (take n l)) b) n taken
 
       pub ruled-good : all_good r l ≡ true → all_good r (ruled l) ≡ true
-      ruled-good g = good-append (take n l) (replicate (64 - length (take n l)) b) (good-take n l g) (fill-good (64 - length (take n l)))
+      ruled-good g = good-append r laws (take n l) (replicate (64 - length (take n l)) b) (good-take n l g) (fill-good (64 - length (take n l)))
 
       words-taken : length (words_of r (take n l)) ≡ n * f
       words-taken = rows_long r laws (take n l) ∙ ap (λ (k : ℕ). k * f) taken
