@@ -19,6 +19,7 @@ use Rattle.model.specs.World.{is_one}
 use Rattle.model.proofs.Bools.{both}
 use Rattle.model.proofs.PartsLaws.{any_laws}
 use Rattle.model.proofs.RowLaws.{RowLaws, word_laws, wide_laws, maybe-laws, word_blank, wide-blank}
+use Rattle.model.proofs.StoreLaws.{bit-back}
 use Rattle.rows.specs.Places.{laid, row_at}
 use Rattle.rows.specs.Rows.{bool_row}
 use Rattle.state.specs.Meaning.{state_parts, place_of, part, bits_part, activations_part, positions_part, rules_part, unset_from, meaning, base, rules_of, Sound, MeansSoundly}
@@ -54,11 +55,6 @@ module _ {A : Type 0} (l : List A) (m i : ℕ) where
   set_past x h = sym (set_out (take m l) i x (simp length-take (omega arith)))
 
 -- BITS ----------------------------------------------------------------------------------------------------------------------------------------
-bit-back : (x : ℕ) → x ≤ 1 → bit_of (is_one x) ≡ x
-bit-back zero h = refl
-bit-back (suc zero) h = refl
-bit-back (suc (suc x)) h = absurd (omega arith)
-
 bit-there : (b : Bool) → is_one (bit_of b) ≡ b
 bit-there true = refl
 bit-there false = refl
@@ -75,7 +71,7 @@ bool-laws =
       writes =
           λ w f.
           let q = (word_laws 1).writes w f in
-          let e = bit-back (get_or w 0 0) (leb-true (get_or w 0 0) 1 q.1) in
+          let e = bit-back (get_or w 0 0) q.1 in
           (ap (λ (x : ℕ). x ∷ drop 1 w) e ∙ q.0, bool-good (is_one (get_or w 0 0)));
     }
 

@@ -1,4 +1,8 @@
 // A counted table in words, whatever its rows are: its count, rows of `width` words, zeros behind.
+// kept: that words are a table of so many rows (`Counted`) is asked by six functions of slots.rt, timers.rt, variables.rt and sequence.rt. A struct of the lent words that is seen
+// as the list of its rows, with that as its invariant, would be no plainer: it holds a `&mut`, and its lender learns what was written only where each function that makes
+// or takes it ensures that the field keeps its ghost name, a clause in the place of the other. And the rows of variables and of pending records are not those of the `Row` of their
+// types, which reads one word of a text, and no trigger past 4: the struct would serve two of the four tables.
 ghost use Rattle.std.specs.Prelude.{◌≡◌, Bool, IsTrue, cond, [], ◌+◌, ◌-◌, ◌≤◌, ◌<◌, ltb, length, get_or, take};
 ghost use Rattle.model.specs.Lists.{keep};
 ghost use Rattle.state.specs.Cuts.{rows_in, table_of, passes, with_row, HasRoom, Words, Fits, Table, RowSet};

@@ -24,6 +24,7 @@ use Rattle.model.proofs.Bools.{both}
 use Rattle.model.proofs.PartsLaws.{variable-laws, timer-laws, slot_laws}
 use Rattle.model.proofs.RowLaws.{RowLaws, word_laws, wide_laws, rows-writes}
 use Rattle.rows.specs.Places.{laid}
+use Rattle.model.proofs.StoreLaws.{bits_back, rows_back}
 use Rattle.state.specs.Cuts.{cut}
 use Rattle.state.specs.Meaning.{pending_row, part_sizes, part, bits_part, activations_part, positions_part, variables_part, timers_part, slots_part, pending_part, week_part, next_part, last_part, counters_part, rules_part, rules_in, stored_in, records_in, base_in, meaning, accepted, stored_count, pending_count, Sound, AllNumbered}
 use Rattle.state.proofs.Cutting.{cut-first}
@@ -37,31 +38,6 @@ use Rattle.store.specs.Volatile.{Wrote}
 use Rattle.store.proofs.Begin.{any-words, activations-laws, positions-laws}
 use Rattle.store.proofs.RuleRows.{unset-ruled, good-take}
 use Rattle.store.proofs.Wider.{word-wider, maybe-wider, pending-wider, words-wider, most-wider}
-
--- a bit, and a row of a variable, that is in range says one value
-bit-same : (x : ℕ) → leb x 1 ≡ true → bit_of (is_one x) ≡ x
-bit-same zero g = refl
-bit-same (suc zero) g = refl
-bit-same (suc (suc n)) g = absurd (let h = leb-true (suc (suc n)) 1 g in omega arith)
-
-bits-same : (l : List ℕ) → all_good bit l ≡ true → map bit_of (map is_one l) ≡ l
-unfolding all_good
-bits-same [] g = refl
-bits-same (x ∷ l) g = let (a, b) = both (leb x 1) (all_good bit l) g in λ i. bit-same x a i ∷ bits-same l b i
-
-row_same : (name tag value : ℕ) → tag ≤ 1 → variable_row_of (variable_of (name, (tag, value))) ≡ (name, (tag, value))
-row_same name zero value h = refl
-row_same name (suc zero) value h = refl
-row_same name (suc (suc n)) value h = absurd (omega arith)
-
-rows_same : (l : List (ℕ × (ℕ × ℕ))) → all_good variable_row l ≡ true → map variable_row_of (map variable_of l) ≡ l
-unfolding all_good
-rows_same [] g = refl
-rows_same (r ∷ l) g =
-    let h = both (variable_row.good r) (all_good variable_row l) g in
-    let k = both (leb r.0 4294967295) _ h.0 in
-    let t = leb-true r.1.0 1 (both (leb r.1.0 1) _ k.1).0 in
-    λ i. row_same r.0 r.1.0 r.1.1 t i ∷ rows_same l h.1 i
 
 -- one row alone
 one-row : {A : Type 0} (r : Row A) → RowLaws r → (p : List ℕ) → rows_fit 1 r.cells p ≡ true → length p ≡ length r.cells → p ≡ r.put (r.get p)
@@ -103,7 +79,7 @@ module _ (v : List ℕ) (s : Sound v) where
       let good : all_good bit p ≡ true = ap (all_good bit) (sym g) ∙ (rows-writes bit (word_laws 1) 64 p f).1 in
       unset-ruled bit (word_laws 1) 0 refl refl n few p l f s.parts.bits
       ∙ ap (λ (x : List ℕ). words_of bit (filled 64 0 (take n x))) g
-      ∙ ap (λ (x : List ℕ). words_of bit (filled 64 0 x)) (sym (bits-same (take n p) (good-take bit (word_laws 1) 0 refl refl n p good)))
+      ∙ ap (λ (x : List ℕ). words_of bit (filled 64 0 x)) (sym (bits_back (take n p) (good-take bit (word_laws 1) 0 refl refl n p good)))
 
   activations-are : part activations_part v ≡ words_of (maybe wide) (filled 64 None (take n (rows_at (maybe wide) 64 (part activations_part v))))
   activations-are =
@@ -118,7 +94,7 @@ module _ (v : List ℕ) (s : Sound v) where
   variables-are =
       let h = table-part variable_row variable-laws variables_part 16 (omega arith) refl v s in
       let l = (most 16 variable_row).get (part variables_part v) in
-      h.words ∙ ap (most 16 variable_row).put (sym (rows_same l (both (leb (length l) 16) (all_good variable_row l) h.good).1))
+      h.words ∙ ap (most 16 variable_row).put (sym (rows_back l (both (leb (length l) 16) (all_good variable_row l) h.good).1))
 
   -- every record holds its number, none was accepted, and the last activation number has 64 bits
   module _ (numbers : stored_count v ≡ pending_count v) (none-new : accepted v ≡ 0) (last_Fits : (meaning v).last_number ≤ max64) where
