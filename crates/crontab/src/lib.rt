@@ -16,6 +16,9 @@ ghost use Rattle.crontab.specs.Scanned.{form_refusal};
 use model::Refusal;
 use parts::Field;
 
+// The words of a trigger, a record of an image.
+pub const TRIGGER_WORDS: usize = 8;
+
 // Whether the five fields are patterns.
 fn fields_fit(line: &[u8]) -> bool
     ensures { result ≡ every 5 (field_fits line.now) }
@@ -61,7 +64,7 @@ pub fn read(line: &[u8], sunday: u32, triggers: &mut [u32]) -> Result<u32, Refus
     check_form(line, sunday)?;
     let marks = table::Marks::of(line);
     let n = marks.count();
-    if triggers.len() / table::TRIGGER_WORDS < n as usize {
+    if triggers.len() / TRIGGER_WORDS < n as usize {
         return Err(Refusal::TriggerStore);
     }
     let ds = table::days_of(line, sunday);

@@ -5,14 +5,12 @@ ghost use Rattle.model.specs.Crontab.{field_covers, day_bit, days};
 ghost use Rattle.crontab.specs.Fields.{number};
 ghost use Rattle.crontab.specs.Scanned.{Marked, marked, marked_minutes, written};
 
+use crate::TRIGGER_WORDS;
 use crate::parts::Field;
 
 // The kind of an AtTime trigger, as an image numbers them.
 // kept: a number with a name, as no other kind is written: image's `trigger_of` reads it. model's `TriggerKind` numbers what starts a rule, where AtTime is 3.
 const AT_TIME: u32 = 2;
-
-// The words of a trigger.
-pub const TRIGGER_WORDS: usize = 8;
 
 const DAY_MINUTES: u32 = 1440;
 

@@ -171,16 +171,13 @@ pub fn telegrams(out: &mut Output, answer: &[u32; 16], list: &[u32])
     effects_of(out, 0, count, list)
 }
 
-// The words of a trigger, a record of an image.
-const TRIGGER_WORDS: usize = 8;
-
 // A line of a crontab: how many triggers, and hour, minute and days of each.
 pub fn triggers(out: &mut Output, answer: &[u32; 16], triggers: &[u32])
     ensures { Gathers out.old (trigger_lines answer.now triggers.now) out.new }
 {
     let count = answer[0];
     let x = Columns {
-        width: TRIGGER_WORDS,
+        width: crontab::TRIGGER_WORDS,
         from: 1,
         shown: 3,
     };
