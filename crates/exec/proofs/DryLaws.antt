@@ -3,7 +3,7 @@ use Prim.Native.Nat.{ℕ}
 use mathlib.Core.Path.{◌≡◌, refl, ap, ◌∙◌}
 use mathlib.Core.Bool.{Bool, true, false, cond}
 use mathlib.Core.List.{List}
-use Rattle.std.specs.Prelude.{Option, None, Some}
+use Rattle.std.specs.Prelude.{Option, None, Some, Ok, Err}
 use lib.Dec.{leb, ltb, eqb}
 use lib.IntN.{ℤ, pos, negsuc}
 use Rattle.model.specs.Image.{group_limit, text_limit}
@@ -11,7 +11,6 @@ use Rattle.model.specs.Lists.{present}
 use Rattle.model.specs.Actions as actions
 use Rattle.model.specs.Actions.{PrimResult, prim_light, prim_recall, prim_apply, prim_cycle, cycle_effect, level_at, selects, dims, arm_timer, var_set, prim_var_set, var_add, set_rule_bit, run_prim, run_known, fails}
 use Rattle.model.specs.declared.Job.{Job}
-use Rattle.model.specs.declared.LightAnswer.TheVariants.{Verb, Nothing, Unevaluable}
 use Rattle.model.specs.declared.VarConstant.TheVariants as constant
 use Rattle.model.specs.declared.Action.{Action}
 use Rattle.model.specs.declared.Action.TheVariants.{Light, Recall, Apply, Cycle, HclResume, HclHold, HclEnable, HclDisable, FeedbackOn, FeedbackOff, PanelSelect, CancelHold, CatchMovement, TimerStart, TimerRestart, TimerCancel, VarSet, VarAdd, RuleEnable, RuleDisable, MqttPublish, Log, StatCount, Percent}
@@ -69,9 +68,9 @@ module _ (e : Env) (j : Job) (s : Rest) (dry : j.dry ≡ true) where
 
   pub dry-none : (x : Action) → (run_prim e j s x).disables ≡ None
   unfolding run_prim prim_light prim_recall prim_apply prim_cycle cycle_effect prim_var_set fails
-  dry-none (Light target hold (Verb verb)) = refl
-  dry-none (Light target hold Nothing) = refl
-  dry-none (Light target hold Unevaluable) = refl
+  dry-none (Light target hold (Ok (Some verb))) = refl
+  dry-none (Light target hold (Ok None)) = refl
+  dry-none (Light target hold (Err u)) = refl
   dry-none (Recall None mark target) = refl
   dry-none (Recall (Some scene) mark target) = refl
   dry-none (Apply None) = refl

@@ -16,7 +16,7 @@ use Rattle.state.specs.Meaning.{Means, meaning, base}
 use Rattle.state.specs.Named.{armed, assigned, lacks_room}
 use Rattle.exec.specs.Results.{Does, struck}
 use Rattle.exec.specs.Done.{PrimResult, ActionDone, action_done, counted}
-use Rattle.exec.specs.declared.Unevaluable.{Unevaluable}
+use Rattle.model.specs.declared.Unevaluable.{Unevaluable}
 
 pub answers : {v : List ℕ} {r : ActionDone} {a b : model.PrimResult} → Does v r a → a ≡ b → Does v r b
 answers {v} {r} d e = subst (λ (x : model.PrimResult). Does v r x) e d

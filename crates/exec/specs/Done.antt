@@ -7,7 +7,7 @@ use Rattle.model.specs.declared.Point.{Point}
 use Rattle.state.specs.Reasons.{reason_number}
 use Rattle.exec.specs.declared.RunResult.{RunResult}
 use Rattle.exec.specs.declared.StepResult.{StepResult}
-use Rattle.exec.specs.declared.Unevaluable.{Unevaluable}
+use Rattle.model.specs.declared.Unevaluable.{Unevaluable}
 
 -- what an action answers
 abbrev pub PrimResult : Type 0

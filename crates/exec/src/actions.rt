@@ -3,10 +3,10 @@ ghost use Rattle.exec.specs.Done.{action_done};
 ghost use Rattle.exec.specs.Results.{PerformsIn, PerformsAt};
 
 use crate::answers::emits;
-use crate::{Env, PrimResult, Unevaluable, lights, rules, timers, variables};
+use crate::{Env, PrimResult, lights, rules, timers, variables};
 use image::action::action_of;
 use image::layout::Table;
-use model::{Action, EffectKind};
+use model::{Action, EffectKind, Unevaluable};
 use state::State;
 
 // One arm for each kind.

@@ -20,7 +20,7 @@ ghost use Rattle.exec.specs.Results.{ValueAt};
 
 use image::layout::Image;
 pub use model::Job;
-use model::{Effect, Point};
+use model::{Effect, Point, Unevaluable};
 use state::State;
 use state::reasons::Reason;
 
@@ -58,11 +58,7 @@ impl Env<'_> {
     }
 }
 
-// An action that cannot be evaluated. It is an error up to `steps::after_prim`, which counts it.
-#[derive(Clone, Copy)]
-pub struct Unevaluable;
-
-// What came of an action: at most one effect.
+// What came of an action: at most one effect. One that cannot be evaluated is an error up to `steps::after_prim`, which counts it.
 pub type PrimResult = Result<Option<Effect>, Unevaluable>;
 
 // What came of one paid step: at most one effect, and where the run goes on, if it does.

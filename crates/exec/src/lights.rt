@@ -8,33 +8,32 @@ ghost use Rattle.exec.specs.Done.{action_done};
 ghost use Rattle.exec.specs.Results.{Performs, PerformsIn, LevelAt};
 
 use crate::answers::emits;
-use crate::{Env, PrimResult, Unevaluable};
+use crate::{Env, PrimResult};
 use image::layout::Table;
-use model::{EffectKind, LightAnswer};
+use model::{EffectKind, Unevaluable};
 use state::State;
 
 // A light's own hold_hcl, or the rule's.
-#[tactic(auto, unfolding(model::specs::Actions::run_prim, model::specs::Actions::prim_light, model::specs::Actions::fails))]
+#[tactic(auto, unfolding(model::specs::Actions::run_prim, model::specs::Actions::prim_light))]
 pub fn prim_light(
     env: &Env,
     v: &mut State,
     target: u32,
     hold: Option<u32>,
-    answer: LightAnswer,
+    answer: Result<Option<u32>, Unevaluable>,
 ) -> PrimResult
     ensures { Performs env.now.job v.old (Light target hold answer) (action_done v.new result) }
 {
-    match answer {
-        LightAnswer::Verb(verb) => emits(
-            EffectKind::Light,
-            target,
-            verb,
-            hold.unwrap_or(env.job.hold),
-            0,
-        ),
-        LightAnswer::Nothing => Ok(None),
-        LightAnswer::Unevaluable => Err(Unevaluable),
-    }
+    let Some(verb) = answer? else {
+        return Ok(None);
+    };
+    emits(
+        EffectKind::Light,
+        target,
+        verb,
+        hold.unwrap_or(env.job.hold),
+        0,
+    )
 }
 
 #[tactic(auto, unfolding(model::specs::Actions::run_prim, model::specs::Actions::prim_recall))]

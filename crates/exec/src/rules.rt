@@ -3,7 +3,8 @@ ghost use Rattle.model.specs.Rules.{rule_named};
 ghost use Rattle.exec.specs.Done.{action_done};
 ghost use Rattle.exec.specs.Results.{SetsBit};
 
-use crate::{Env, PrimResult, Unevaluable};
+use crate::{Env, PrimResult};
+use model::Unevaluable;
 use state::State;
 
 pub fn set_rule_bit(env: &Env, v: &mut State, rule: u32, on: bool) -> PrimResult

@@ -9,11 +9,11 @@ ghost use Rattle.exec.specs.Paid.{Follows, GoesOn, SchedulesOf, StepsAlways, Ste
 
 use crate::actions::prim_at;
 use crate::places::{advance, body_start, enter_then};
-use crate::{Env, PrimResult, StepResult, Unevaluable};
+use crate::{Env, PrimResult, StepResult};
 use counters::Counter;
 use eval::conditions::condition_at;
 use flat::Placed;
-use model::{Point, Step};
+use model::{Point, Step, Unevaluable};
 use state::State;
 use state::pending::Continuation;
 use state::reasons::Reason;

@@ -4,7 +4,8 @@ ghost use Rattle.model.specs.declared.Action.TheVariants.{TimerStart, TimerResta
 ghost use Rattle.exec.specs.Done.{action_done};
 ghost use Rattle.exec.specs.Results.{Performs, PerformsIn, Arms};
 
-use crate::{Env, PrimResult, Unevaluable};
+use crate::{Env, PrimResult};
+use model::Unevaluable;
 use state::State;
 
 #[tactic(auto, unfolding(model::specs::Actions::arm_timer))]

@@ -5,8 +5,8 @@ ghost use Rattle.exec.specs.Done.{action_done};
 ghost use Rattle.exec.specs.Results.{PerformsIn, Assigns, Adds};
 
 use crate::answers::emits;
-use crate::{Env, PrimResult, Unevaluable};
-use model::{EffectKind, VarConstant, VarValue};
+use crate::{Env, PrimResult};
+use model::{EffectKind, Unevaluable, VarConstant, VarValue};
 use state::State;
 
 #[tactic(auto, unfolding(model::specs::Actions::var_set, state::specs::Named::lacks_room))]

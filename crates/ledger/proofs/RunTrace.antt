@@ -4,15 +4,14 @@ use mathlib.Core.Logic.{inl, inr}
 use Prim.Native.Nat.{ℕ, zero, suc, ◌≤◌, zero-le, suc-le-suc}
 use mathlib.Core.Bool.{Bool, true, false, cond, not, ◌&&◌}
 use mathlib.Core.List.{[], ◌∷◌, ◌++◌, append-nil}
-use Rattle.std.specs.Prelude.{Option, None, Some}
+use Rattle.std.specs.Prelude.{Option, None, Some, Result, Ok, Err}
 use lib.Dec.{leb, ltb, eqb}
 use lib.IntN.{ℤ, pos, negsuc}
 use lib.ListN.{length}
 use Rattle.model.specs.Lists.{to_list, present}
 use Rattle.model.specs.Image.{group_limit, text_limit}
 use Rattle.model.specs.Rows.{actions}
-use Rattle.model.specs.declared.LightAnswer.{LightAnswer}
-use Rattle.model.specs.declared.LightAnswer.TheVariants.{Verb, Nothing, Unevaluable}
+use Rattle.model.specs.declared.Unevaluable.{Unevaluable}
 use Rattle.model.specs.declared.VarConstant.{VarConstant}
 use Rattle.model.specs.declared.VarConstant.TheVariants as constant
 use Rattle.model.specs.declared.Action.{Action}
@@ -95,11 +94,11 @@ module _ (e : Env) (j : Job) (s : Rest) where
   no-disable-add name (Some x) (Some (Int n)) = no-disable-set name _
   no-disable-add name (Some x) (Some (Text t)) = fails-no-disable s
 
-  no-disable-light : (t : ℕ) (h : Option ℕ) (a : LightAnswer) → NoDisable (prim_light e j s t h a)
+  no-disable-light : (t : ℕ) (h : Option ℕ) (a : Result (Option ℕ) Unevaluable) → NoDisable (prim_light e j s t h a)
   unfolding NoDisable prim_light
-  no-disable-light t h (Verb v) = (refl, inl refl)
-  no-disable-light t h Nothing = no-disable-same s
-  no-disable-light t h Unevaluable = fails-no-disable s
+  no-disable-light t h (Ok (Some v)) = (refl, inl refl)
+  no-disable-light t h (Ok None) = no-disable-same s
+  no-disable-light t h (Err u) = fails-no-disable s
 
   no-disable-recall : (x : Option ℕ) (m t : ℕ) → NoDisable (prim_recall e j s x m t)
   unfolding NoDisable prim_recall

@@ -1,6 +1,6 @@
 -- The primitive actions: `run_prim` and below, exec.rs. The effects are those of document 01, "Outcomes and effects".
 use Rattle.std.specs.Prelude.{ℕ, suc, ◌+◌, ◌%◌, Bool, true, false, cond, not, ◌&&◌, leb, ltb, eqb, ℤ, pos, negsuc, length, set}
-use Rattle.std.specs.Prelude.{Option, None, Some}
+use Rattle.std.specs.Prelude.{Option, None, Some, Result, Ok, Err}
 use Rattle.words.specs.Saturating.{saturating_add, max64}
 use Rattle.words.specs.Signed.{signed64, bits64, saturating_add_i64}
 use Rattle.curve.specs.Curve.{level_of}
@@ -8,7 +8,7 @@ use Rattle.model.specs.Lists.{or_else, present}
 use Rattle.model.specs.Image.{word_at, text_limit, group_limit}
 use Rattle.model.specs.Rows.{actions, pool}
 use Rattle.model.specs.Rules.{record_of, rule_named, Action, Light, Recall, Apply, Cycle, HclResume, HclHold, HclEnable, HclDisable, FeedbackOn, FeedbackOff, PanelSelect, CancelHold, CatchMovement, TimerStart, TimerRestart, TimerCancel, VarSet, VarAdd, RuleEnable, RuleDisable, MqttPublish, Log, StatCount, Percent, action_of}
-use Rattle.model.specs.Rules.{LightAnswer, Verb, Nothing, Unevaluable, VarConstant}
+use Rattle.model.specs.Rules.{Unevaluable, VarConstant}
 use Rattle.model.specs.declared.VarConstant.TheVariants as constant
 use Rattle.model.specs.Outcome.{Effect}
 use Rattle.model.specs.State.{Env, Rest, VarValue, Int, Text, actions_failed, bump, cycle_pos_at, timer_named, cancel_timer, add_timer, var_named, put_var, with_cycle_pos, with_vars, with_enabled}
@@ -44,10 +44,10 @@ level_at (Some x) = level_of x
 
 module _ (e : Env) (j : Job) (s : Rest) where
   -- the stored answers of `light_verb` and `scene_number`; hold_hcl of a light is its own, or the rule's
-  unfoldable pub prim_light : ℕ → Option ℕ → LightAnswer → PrimResult
-  prim_light target hold (Verb verb) = emits s 0 target verb (or_else j.hold hold) 0
-  prim_light target hold Nothing = no_effect s
-  prim_light target hold Unevaluable = fails s
+  unfoldable pub prim_light : ℕ → Option ℕ → Result (Option ℕ) Unevaluable → PrimResult
+  prim_light target hold (Ok (Some verb)) = emits s 0 target verb (or_else j.hold hold) 0
+  prim_light target hold (Ok None) = no_effect s
+  prim_light target hold (Err u) = fails s
 
   unfoldable pub prim_recall : Option ℕ → ℕ → ℕ → PrimResult
   prim_recall None mark target = fails s

@@ -1,10 +1,9 @@
 -- The records of an image, taken apart: the fields of each kind in the order of document 01, "Rule image".
 use Rattle.std.specs.Prelude.{Bool, cond, List, [], ◌∷◌, map, ℕ, ◌+◌, ◌-◌, ◌*◌, eqb, leb, ltb, get_or}
-use Rattle.std.specs.Prelude.{Option, None, Some, slice_get}
+use Rattle.std.specs.Prelude.{Option, None, Some, Result, Ok, Err, slice_get}
 use Rattle.words.specs.Pairs.{joined}
 pub use Rattle.model.specs.declared.Record.{Record}
-pub use Rattle.model.specs.declared.LightAnswer.{LightAnswer}
-pub use Rattle.model.specs.declared.LightAnswer.TheVariants.{Verb, Nothing, Unevaluable}
+pub use Rattle.model.specs.declared.Unevaluable.{Unevaluable}
 pub use Rattle.model.specs.declared.VarConstant.{VarConstant}
 use Rattle.model.specs.declared.VarConstant.TheVariants as constant
 pub use Rattle.model.specs.declared.Action.{Action}
@@ -55,8 +54,8 @@ record_of img t i =
 abbrev pub hold_of : ℕ → Option ℕ
 hold_of w = cond (eqb w 2) None (Some w)
 
-abbrev pub light_answer_of : ℕ → ℕ → LightAnswer
-light_answer_of answer verb = cond (eqb answer 0) (Verb verb) (cond (eqb answer 1) Nothing Unevaluable)
+abbrev pub light_answer_of : ℕ → ℕ → Result (Option ℕ) Unevaluable
+light_answer_of answer verb = cond (eqb answer 0) (Ok (Some verb)) (cond (eqb answer 1) (Ok None) (Err (record {})))
 
 abbrev pub scene_of : ℕ → ℕ → Option ℕ
 scene_of answer scene = cond (eqb answer 0) (Some scene) None

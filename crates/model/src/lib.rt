@@ -41,13 +41,9 @@ pub struct Record {
     pub e: u32,
 }
 
-// What the image answers for a light: a verb, nothing, or that it cannot be told.
+// The error of what cannot be evaluated: of an action, and of the image's answer for a light.
 #[derive(Clone, Copy)]
-pub enum LightAnswer {
-    Verb(u32),
-    Nothing,
-    Unevaluable,
-}
+pub struct Unevaluable;
 
 // What a variable is set to: the 64 bits of an integer, or a text, by its number, with its length.
 #[derive(Clone, Copy)]
@@ -57,7 +53,7 @@ pub enum VarConstant {
 }
 
 // Action kinds 0 to 22: the arms of `run_prim` and its callees; and kind 28, which stands with the lights. A `hold` is None where the rule's stands
-// for it, a scene where it cannot be told.
+// for it, a scene where it cannot be told. The answer for a light is a verb or none.
 // kept: `present` and `retain` are words and no bools, and so is what a `hold` holds: an effect carries them on as they are.
 // kept: no struct of adapter, address and instance, nor of adapter and id, here and in `Condition` and `Reading`, as it would be no plainer: an effect carries these
 // words on one by one, and the functions of world that search with them take them one by one, as the Rust's do. A struct would be put together
@@ -67,7 +63,7 @@ pub enum Action {
     Light {
         target: u32,
         hold: Option<u32>,
-        answer: LightAnswer,
+        answer: Result<Option<u32>, Unevaluable>,
     },
     Recall {
         scene: Option<u32>,

@@ -3,7 +3,7 @@ use mathlib.Core.Path.{◌≡◌, refl}
 use Prim.Native.Nat.{ℕ, zero, suc}
 use mathlib.Core.Bool.{Bool, true, false, cond, not, ◌&&◌}
 use mathlib.Core.List.{List}
-use Rattle.std.specs.Prelude.{Option, None, Some}
+use Rattle.std.specs.Prelude.{Option, None, Some, Ok, Err}
 use lib.Dec.{leb, ltb, eqb}
 use lib.IntN.{ℤ, pos, negsuc}
 use lib.ListN.{length}
@@ -11,7 +11,6 @@ use Rattle.model.specs.Lists.{present}
 use Rattle.model.specs.Image.{text_limit, group_limit}
 use Rattle.model.specs.Rules.{rule_named}
 use Rattle.model.specs.Flat.{step_at}
-use Rattle.model.specs.declared.LightAnswer.TheVariants.{Verb, Nothing, Unevaluable}
 use Rattle.model.specs.declared.VarConstant.TheVariants as constant
 use Rattle.model.specs.declared.Action.{Action}
 use Rattle.model.specs.declared.Action.TheVariants.{Light, Recall, Apply, Cycle, HclResume, HclHold, HclEnable, HclDisable, FeedbackOn, FeedbackOff, PanelSelect, CancelHold, CatchMovement, TimerStart, TimerRestart, TimerCancel, VarSet, VarAdd, RuleEnable, RuleDisable, MqttPublish, Log, StatCount, Percent}
@@ -75,9 +74,9 @@ module _ (e : Env) (j : Job) where
 
     action : (x : Action) → Known (run_prim e j s x).reason
     unfolding run_prim prim_light prim_recall prim_apply prim_cycle cycle_effect prim_var_set
-    action (Light t d (Verb v)) = refl
-    action (Light t d Nothing) = refl
-    action (Light t d Unevaluable) = failing s
+    action (Light t d (Ok (Some v))) = refl
+    action (Light t d (Ok None)) = refl
+    action (Light t d (Err u)) = failing s
     action (Recall None m t) = failing s
     action (Recall (Some c) m t) = refl
     action (Apply None) = failing s

@@ -3,15 +3,14 @@ use mathlib.Core.Path.{◌≡◌, refl, sym, ◌∙◌}
 use Prim.Native.Nat.{ℕ, zero, suc}
 use mathlib.Core.Bool.{Bool, true, false, cond, not, ◌&&◌, false≢true}
 use mathlib.Core.List.{List, [], ◌∷◌}
-use Rattle.std.specs.Prelude.{Option, None, Some}
+use Rattle.std.specs.Prelude.{Option, None, Some, Result, Ok, Err}
 use lib.Dec.{leb, ltb, eqb}
 use lib.ListN.{length}
 use lib.IntN.{ℤ, pos, negsuc}
 use Rattle.model.specs.Lists.{present}
 use Rattle.model.specs.Image.{budget, group_limit, text_limit}
 use Rattle.model.specs.Rows.{actions}
-use Rattle.model.specs.declared.LightAnswer.{LightAnswer}
-use Rattle.model.specs.declared.LightAnswer.TheVariants.{Verb, Nothing, Unevaluable}
+use Rattle.model.specs.declared.Unevaluable.{Unevaluable}
 use Rattle.model.specs.declared.VarConstant.{VarConstant}
 use Rattle.model.specs.declared.VarConstant.TheVariants as constant
 use Rattle.model.specs.declared.Action.{Action}
@@ -80,11 +79,11 @@ module _ (e : Env) (j : Job) (s : Rest) where
   added name (Some x) (Some (Int n)) = assigned name _
   added name (Some x) (Some (Text t)) = failed s refl
 
-  lit : (t : ℕ) (h : Option ℕ) (a : LightAnswer) → Kept s (prim_light e j s t h a)
+  lit : (t : ℕ) (h : Option ℕ) (a : Result (Option ℕ) Unevaluable) → Kept s (prim_light e j s t h a)
   unfolding Kept prim_light
-  lit t h (Verb v) = refl
-  lit t h Nothing = refl
-  lit t h Unevaluable = failed s refl
+  lit t h (Ok (Some v)) = refl
+  lit t h (Ok None) = refl
+  lit t h (Err u) = failed s refl
 
   recalled : (x : Option ℕ) (m t : ℕ) → Kept s (prim_recall e j s x m t)
   unfolding Kept prim_recall

@@ -5,7 +5,7 @@ use mathlib.Core.Bool.{Bool, true, false, cond, not, ◌&&◌}
 use lib.ListN.{length}
 use Rattle.words.specs.Saturating.{saturating_add, max64}
 use mathlib.Core.List.{List, [], ◌∷◌}
-use Rattle.std.specs.Prelude.{Option, None, Some}
+use Rattle.std.specs.Prelude.{Option, None, Some, Result, Ok, Err}
 use lib.Dec.{leb, ltb, eqb}
 use lib.IntN.{ℤ, pos, negsuc}
 use Rattle.model.specs.Lists.{◌>>=◌, present}
@@ -25,8 +25,7 @@ use Rattle.model.specs.declared.TimeBound.{TimeBound}
 use Rattle.model.specs.declared.TimeBound.TheVariants.{Clock, Solar}
 use Rattle.model.specs.declared.Condition.{Condition}
 use Rattle.model.specs.declared.Condition.TheVariants.{TimeInRange, DayIn, SunIs, LampIs, LampLevel, LampCct, GroupState, InputOccupancy, InputLight, HclState, DeviceOnline, RuleEnabled, LastFiredOlderThan, TimerRunning, ControllerActive, VarCompare}
-use Rattle.model.specs.declared.LightAnswer.{LightAnswer}
-use Rattle.model.specs.declared.LightAnswer.TheVariants.{Verb, Nothing, Unevaluable}
+use Rattle.model.specs.declared.Unevaluable.{Unevaluable}
 use Rattle.model.specs.declared.VarConstant.{VarConstant}
 use Rattle.model.specs.declared.VarConstant.TheVariants as constant
 use Rattle.model.specs.declared.Action.{Action}
@@ -222,11 +221,11 @@ module _ (m : Option ℕ) where
       add_same name (Some x) (Some (Int n)) = set_same name _
       add_same name (Some x) (Some (Text t)) = fails-same s
 
-      light-same : (t : ℕ) (h : Option ℕ) (a : LightAnswer) → SamePrim (prim_light e j s t h a) (prim_light e j (with_prev_week_min m s) t h a)
+      light-same : (t : ℕ) (h : Option ℕ) (a : Result (Option ℕ) Unevaluable) → SamePrim (prim_light e j s t h a) (prim_light e j (with_prev_week_min m s) t h a)
       unfolding prim_light
-      light-same t h (Verb v) = record { rest = refl; effect = refl; disables = refl; reason = refl }
-      light-same t h Nothing = record { rest = refl; effect = refl; disables = refl; reason = refl }
-      light-same t h Unevaluable = fails-same s
+      light-same t h (Ok (Some v)) = record { rest = refl; effect = refl; disables = refl; reason = refl }
+      light-same t h (Ok None) = record { rest = refl; effect = refl; disables = refl; reason = refl }
+      light-same t h (Err u) = fails-same s
 
       recall-same : (x : Option ℕ) (k t : ℕ) → SamePrim (prim_recall e j s x k t) (prim_recall e j (with_prev_week_min m s) x k t)
       unfolding prim_recall
