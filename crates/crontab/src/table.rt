@@ -12,6 +12,7 @@ use crate::parts::Field;
 // kept: a number with a name, as no other kind is written: image's `trigger_of` reads it. model's `TriggerKind` numbers what starts a rule, where AtTime is 3.
 const AT_TIME: u32 = 2;
 
+// kept: the minutes of a day, as `eval::time` has them too: neither crate stands on the other.
 const DAY_MINUTES: u32 = 1440;
 
 // The hours and the minutes of an hour that a line covers.

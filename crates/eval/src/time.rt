@@ -9,6 +9,14 @@ use image::layout::{Image, Table};
 use image::record::bound_of;
 use model::{SolarEvent, SunTimes, TimeBound};
 
+// The minutes of a day and of a week.
+pub const DAY_MINUTES: u64 = 1440;
+
+pub const WEEK_MINUTES: u64 = 10080;
+
+// The days of a week, a bit each.
+pub const EVERY_DAY: u32 = 127;
+
 // From sunrise on, and before sunset.
 #[tactic(auto, unfolding(model::specs::Eval::sun_is_up))]
 pub fn sun_is_up(snapshot: &[u32]) -> Option<bool>

@@ -10,7 +10,7 @@ ghost use Rattle.model.specs.declared.Trigger.TheVariants as trigger;
 ghost use Rattle.next.specs.NextStart.{on_days, due_in, starts_in, first_from, next_from};
 ghost use Rattle.next.specs.Distance.{within, day_ahead, start_of, best_of};
 
-use eval::time::{has_day, minute_of_day, solar_minute};
+use eval::time::{DAY_MINUTES, EVERY_DAY, WEEK_MINUTES, has_day, minute_of_day, solar_minute};
 use image::layout::{Image, Table};
 use model::{SolarEvent, Trigger};
 
@@ -43,24 +43,17 @@ struct Asked<'a> {
     ghost in_week: { t < 10080 },
 }
 
-// Minutes of a week and of a day.
-const WEEK: u32 = 10080;
-
-const DAY: u64 = 1440;
-
-const EVERY_DAY: u32 = 127;
-
 impl Asked<'_> {
     // To a minute of the week, at least 1 and at most a week.
     fn minutes_to(&self, target: u64) -> u32
         ensures first { result ≡ first_from (λ m. eqb (target % 10080) ((self.now.t + m) % 10080)) 1 10080 }
         ensures in_week { result ≤ 10080 }
     {
-        let minute = (target % WEEK as u64) as u32;
+        let minute = (target % WEEK_MINUTES) as u32;
         if self.t < minute {
             minute - self.t
         } else {
-            minute + WEEK - self.t
+            minute + WEEK_MINUTES as u32 - self.t
         }
     }
 
@@ -72,7 +65,7 @@ impl Asked<'_> {
         if !has_day(days, day) {
             return None;
         }
-        Some(self.minutes_to(day as u64 * DAY + minute))
+        Some(self.minutes_to(day as u64 * DAY_MINUTES + minute))
     }
 
     // To a minute of these days.
