@@ -18,8 +18,8 @@ use Rattle.model.specs.State as model
 use Rattle.model.specs.Steps.{FlatStep}
 use Rattle.state.specs.Meaning.{AllNumbered, meaning}
 use Rattle.store.specs.Volatile.{changing_in}
-use Rattle.eval.specs.Answers.{env_of}
-use Rattle.exports.specs.Answers.{given, env_in, rest_in, verdict_code, condition_answer, marked, number_words, value_answer}
+use Rattle.eval.specs.Answers.{env_of, env_in}
+use Rattle.exports.specs.Answers.{given, rest_in, verdict_code, condition_answer, marked, number_words, value_answer}
 
 pub none-words : (r : Option ℤ) (w : List ℕ) → r ≡ None → w ≡ marked 2 0 → w ≡ number_words r
 none-words r w e h = rw e h

@@ -8,13 +8,12 @@ use Rattle.model.specs.Image.{size_of}
 use Rattle.model.specs.Rows.{rules}
 use Rattle.model.specs.Load.{image_refusal}
 use Rattle.model.specs.Snapshot.{snapshot_refusal}
-use Rattle.model.specs.Flat.{flatten_rules, set_of}
-use Rattle.model.specs.World.{world_of}
-use Rattle.model.specs.State.{Env, Rest}
+use Rattle.model.specs.State.{Rest}
 use Rattle.model.specs.Eval.{condition_at, value_at}
 use Rattle.model.specs.Layout.{parts_fit}
 use Rattle.model.specs.Parts.{layout}
 use Rattle.model.specs.Store.{text_short, volatile_in}
+use Rattle.eval.specs.Answers.{env_in}
 use Rattle.store.specs.Volatile.{changing_in}
 
 -- words of a store that fit the layout, with texts that are numbers of one word
@@ -24,11 +23,7 @@ readable w = (eqb (length w) 16384 && parts_fit layout.parts w) && all text_shor
 unfoldable pub given : List ℕ → List ℕ → List ℕ → Bool
 given snapshot image store = eqb (snapshot_refusal snapshot) 0 && (eqb (image_refusal image) 0 && readable store)
 
--- what evaluation sees: the snapshot, the set of the image, and what the store keeps for its rules
--- kept: wheel's `tick_env` has the same two fields. This crate does not stand on wheel, and in eval, below both, a third definition would be cited by these two alone
-unfoldable pub env_in : List ℕ → List ℕ → Env
-env_in snapshot image = record { world = world_of snapshot; set = set_of image (flatten_rules image) }
-
+-- what evaluation sees: `env_in` of eval, and what the store keeps for its rules
 unfoldable pub rest_in : List ℕ → List ℕ → Rest
 rest_in image store = (volatile_in (size_of image rules) (changing_in store)).rest
 
