@@ -48,6 +48,8 @@ fn finish_wet(v: &mut State, effects: u32, reason: Option<Reason>)
 }
 
 // A run from a point on, with a budget, and its outcome.
+// kept: env, rule and lent side by side, here, in `run_dry` and in `execute`: the env and the rule are read and the lent is changed, and `execute` makes an `Env` anew, with
+// the number that its job takes, so that a struct of the three would be made twice on the way of one activation.
 pub fn run_wet(env: &Env, rule: &FlatRule, lent: &mut Lent, from: Point, most: u32)
     requires { (most ≤ 256) × RunRoom (carried_by lent.old) }
     ensures { Over (RunsWet env.now.snapshot.now env.now.image.now rule.now.part.now rule.now.own env.now.job from most) lent.old lent.new }
@@ -71,6 +73,8 @@ fn run_dry(env: &Env, rule: &FlatRule, lent: &mut Lent)
 
 // kept: that the image is accepted is asked here, by `run_dry` and by `activate`, since it bounds the budget; `resume`, which takes the budget of its
 // `Pending`, makes an Env of any image.
+// kept: `Room 1` is asked here, by `run_dry`, `activate` and `resume`, and is no fact of a `Lent`: it is what one activation uses up, so that what was lent no longer has it
+// behind the call. The wheel asks for `Room n` where n of them may start.
 pub fn execute(env: &Env, rule: &FlatRule, lent: &mut Lent)
     requires { Accepted env.now.image.now × Room 1 (carried_by lent.old) }
     ensures { Over (Executes env.now.snapshot.now env.now.image.now rule.now.part.now rule.now.own env.now.job) lent.old lent.new }
