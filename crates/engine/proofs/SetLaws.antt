@@ -12,6 +12,7 @@ use Rattle.model.specs.Rows.{rules}
 use Rattle.model.specs.Load.{image_refusal}
 use Rattle.model.specs.Flat.{flatten_rules}
 use Rattle.model.specs.Lists.{up_from}
+use Rattle.model.proofs.ListLaws.{length-up_from}
 use Rattle.model.specs.declared.EverySlot.{EverySlot}
 use Rattle.model.specs.State as model
 use Rattle.model.specs.State.{Rest, Store, with_rest, with_enabled, with_last_activation, with_cycle_pos, with_every, bump_by}
@@ -46,10 +47,6 @@ loadable img e =
 abbrev so_far : {A : Type 0} → (ℕ → A) → A → ℕ → ℕ → List A
 so_far f d n i = map f (up_from 0 i) ++ replicate (n - i) d
 
-up-long : (k n : ℕ) → length (up_from k n) ≡ n
-up-long k zero = refl
-up-long k (suc n) = ap suc (up-long (suc k) n)
-
 map-up : {B : Type 0} (f : ℕ → B) (k n : ℕ) → map f (up_from k (suc n)) ≡ map f (up_from k n) ++ (f (k + n) ∷ [])
 map-up f k zero = ap (λ (m : ℕ). f m ∷ []) (sym (add-zero k))
 map-up {B = B} f k (suc n) =
@@ -68,7 +65,7 @@ module _ {A : Type 0} (f : ℕ → A) (d : A) (n : ℕ) where
 
   one_set : (i : ℕ) → i < n → set (so_far f d n i) i (f i) ≡ so_far f d n (i + 1)
   one_set i h =
-      let l : length (map f (up_from 0 i)) ≡ i = length-map (up_from 0 i) f ∙ up-long 0 i in
+      let l : length (map f (up_from 0 i)) ≡ i = length-map (up_from 0 i) f ∙ length-up_from 0 i in
       let z : i ≡ length (map f (up_from 0 i)) + 0 = omega arith in
       let k : n - i ≡ suc (n - (i + 1)) = omega arith in
       let m : i + 1 ≡ suc i = omega arith in
