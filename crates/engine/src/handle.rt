@@ -4,7 +4,6 @@ ghost use Rattle.model.specs.Lists.{present};
 ghost use Rattle.model.specs.Refusals.{refusal_number};
 ghost use Rattle.model.specs.State.{is_enabled};
 ghost use Rattle.model.specs.Store.{read};
-ghost use Rattle.model.specs.Snapshot.{snapshot_refusal};
 ghost use Rattle.state.specs.Meaning.{AllNumbered, meaning};
 ghost use Rattle.activate.specs.Carried.{carried_by, SameLent, Over};
 ghost use Rattle.activate.specs.Handled.{Room};
@@ -21,6 +20,7 @@ use model::{Refusal, TriggerKind};
 use state::State;
 use store::checked::Checked;
 use store::table;
+use world::accepted::Accepted;
 
 // What comes in beside the snapshot: a tick, or a rule that runs, by its name.
 // kept: two kinds of the Rust's enum. An Option of a rule would not say that without one it is a tick.
@@ -77,6 +77,8 @@ fn starts(v: &State, i: u32, dry: bool) -> bool
 }
 
 // `run_rule`: a rule that is not loaded does nothing.
+// kept: store, snapshot and lent side by side, here, in `service` and in `dispatch`: a struct of the first two would be made in `handle` for one call of `dispatch`, and be taken
+// apart in both functions that it leads to, since `activate` takes the words of any snapshot and no store, and `service_tick` no store that is checked.
 fn run_rule(store: &Checked, snapshot: &[u32], lent: &mut Lent, name: u32, dry: bool)
     requires { Room 1 (carried_by lent.old) }
     ensures { Over (Comes (ran_in store.now.loaded name dry snapshot.now)) lent.old lent.new }
@@ -96,8 +98,8 @@ fn run_rule(store: &Checked, snapshot: &[u32], lent: &mut Lent, name: u32, dry: 
 }
 
 // `service_tick`: without a set nothing is due.
-fn service(store: &Checked, snapshot: &[u32], lent: &mut Lent)
-    requires ready { (snapshot_refusal snapshot.now ≡ 0) × AllNumbered lent.old.state.now store.now.vol }
+fn service(store: &Checked, snapshot: &Accepted, lent: &mut Lent)
+    requires ready { AllNumbered lent.old.state.now store.now.vol }
     requires nothing { lent.old.handled ≡ record { outcomes = 0; effects = 0 } }
     ensures { Over (Comes (ticked_in store.now.loaded snapshot.now)) lent.old lent.new }
 {
@@ -108,18 +110,20 @@ fn service(store: &Checked, snapshot: &[u32], lent: &mut Lent)
 
 // What comes in is done. Inlined, as `handle` is: the stack of a run is then what a rule takes, and not what a tick does.
 #[inline(always)]
-fn dispatch(input: EngineInput, store: &Checked, snapshot: &[u32], lent: &mut Lent)
-    requires ready { (snapshot_refusal snapshot.now ≡ 0) × AllNumbered lent.old.state.now store.now.vol }
+fn dispatch(input: EngineInput, store: &Checked, snapshot: &Accepted, lent: &mut Lent)
+    requires ready { AllNumbered lent.old.state.now store.now.vol }
     requires nothing { lent.old.handled ≡ record { outcomes = 0; effects = 0 } }
     ensures { Over (Comes (dispatched_in input store.now.loaded snapshot.now)) lent.old lent.new }
 {
     match input {
         EngineInput::Tick => service(store, snapshot, lent),
-        EngineInput::RunRule { name, dry } => run_rule(store, snapshot, lent, name, dry),
+        EngineInput::RunRule { name, dry } => run_rule(store, snapshot.words(), lent, name, dry),
     }
 }
 
 // In the world of a snapshot. Outcomes and effects go into the lent stores.
+// kept: snapshot, outcomes and effects side by side, here, in `tick` and in `run`: they are what the C interface lends for these calls, each by itself, and the contract
+// of a call is an equation of them.
 #[inline(always)]
 pub fn handle(
     store: &mut [u32],
@@ -133,7 +137,7 @@ pub fn handle(
     lent_words::clear(outcomes);
     lent_words::clear(effects);
     let words = store.as_mut_array().ok_or(Refusal::StoreLength)?;
-    let checked = opened_with(words, snapshot)?;
+    let (checked, accepted) = opened_with(words, snapshot)?;
     let mut v = State::new();
     checked.begin(&mut v);
     let mut lent = Lent {
@@ -142,6 +146,6 @@ pub fn handle(
         state: &mut v,
         handled: NOTHING,
     };
-    dispatch(input, &checked, snapshot, &mut lent);
+    dispatch(input, &checked, &accepted, &mut lent);
     commit(words, &mut lent, world::now_ms(snapshot))
 }

@@ -132,6 +132,6 @@ pub fn counters(store: &[u32]) -> Result<[u32; 16], Refusal>
 pub fn next_start(store: &[u32], snapshot: &[u32]) -> Result<NextStart, Refusal>
     ensures { shown_result start_values result [] ≡ next_start_on snapshot.now store.now }
 {
-    let checked = opened_with(store, snapshot)?;
-    Ok(starts::next_start(&checked, snapshot))
+    let (checked, accepted) = opened_with(store, snapshot)?;
+    Ok(starts::next_start(&checked, &accepted))
 }

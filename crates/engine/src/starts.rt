@@ -1,6 +1,5 @@
 // What starts next by the wall clock, of a store that keeps the store rules: document 02, request 7.
 ghost use Rattle.std.specs.Prelude.{◌≡◌, map, ◌<◌};
-ghost use Rattle.model.specs.Snapshot.{snapshot_refusal};
 ghost use Rattle.model.specs.World.{is_one, world_of};
 ghost use Rattle.next.specs.NextStart.{next_of_set, next_start};
 
@@ -8,6 +7,7 @@ use next::{FirstStart, NextStart};
 use store::checked::Checked;
 use store::table;
 use wheel::minutes::week_minute;
+use world::accepted::Accepted;
 
 // The bits of the loaded rules, a word each.
 fn bits_in<'a>(store: &Checked<'a>) -> &'a [u32]
@@ -26,14 +26,14 @@ fn next_from(store: &Checked, sun: Option<model::SunTimes>, t: u32) -> Option<Fi
 }
 
 // In the world of a snapshot that is accepted.
-pub fn next_start(store: &Checked, snapshot: &[u32]) -> NextStart
-    requires { snapshot_refusal snapshot.now ≡ 0 }
+pub fn next_start(store: &Checked, snapshot: &Accepted) -> NextStart
     ensures { result ≡ next_start store.now (world_of snapshot.now) }
 {
-    let Some(w) = world::wall(snapshot) else {
+    let words = snapshot.words();
+    let Some(w) = world::wall(words) else {
         return NextStart::ClockUnknown;
     };
-    match next_from(store, world::sun(snapshot), week_minute(w)) {
+    match next_from(store, world::sun(words), week_minute(w)) {
         Some(start) => NextStart::Start(start),
         None => NextStart::NoStart,
     }

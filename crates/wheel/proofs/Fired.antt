@@ -17,7 +17,8 @@ use Rattle.state.specs.Named.{timer_later, slot_due}
 use Rattle.activate.specs.Handled.{Room}
 use Rattle.activate.specs.Carried.{Carried}
 use Rattle.activate.proofs.Continues.{with_vol}
-use Rattle.wheel.specs.Tick.{tick_env, Fires, rules_of_timers, rules_of_slots}
+use Rattle.eval.specs.Answers.{env_in}
+use Rattle.wheel.specs.Tick.{Fires, rules_of_timers, rules_of_slots}
 use Rattle.wheel.proofs.Due.{all-due}
 use Rattle.wheel.proofs.Fires.{same-part, after-change, room_after}
 
@@ -29,11 +30,11 @@ module _ (snapshot image : List ℕ) (now : ℕ) (is : now ≡ (world_of snapsho
     continuations-room n a = room_after (not_due now) x m refl refl n a
 
     pub continuations-fire : (cs : List Pending) {r : Carried} {ow ew ow' ew' : List ℕ} → cs ≡ due_now now (meaning x.vol).pending
-        → Fires 32 (resume_all (tick_env snapshot image) cs) (with_vol vol x) ow ew r ow' ew' → Fires 32 (fire_continuations (tick_env snapshot image)) x ow ew r ow' ew'
-    unfolding fire_continuations tick_env not_due
+        → Fires 32 (resume_all (env_in snapshot image) cs) (with_vol vol x) ow ew r ow' ew' → Fires 32 (fire_continuations (env_in snapshot image)) x ow ew r ow' ew'
+    unfolding fire_continuations env_in not_due
     continuations-fire cs e f =
-        same-part 32 (λ v. resume_all (tick_env snapshot image) cs (not_due now v)) (fire_continuations (tick_env snapshot image)) (rw (← is, e))
-        (after-change (not_due now) x m refl refl 32 (resume_all (tick_env snapshot image) cs) f)
+        same-part 32 (λ v. resume_all (env_in snapshot image) cs (not_due now v)) (fire_continuations (env_in snapshot image)) (rw (← is, e))
+        (after-change (not_due now) x m refl refl 32 (resume_all (env_in snapshot image) cs) f)
 
   -- ---- timers
   abbrev leave : model-state.Volatile → model-state.Volatile
@@ -44,11 +45,11 @@ module _ (snapshot image : List ℕ) (now : ℕ) (is : now ≡ (world_of snapsho
     timers-room n a = room_after leave x m refl refl n a
 
     pub timers-fire : (ts : List NamedTimer) {r : Carried} {ow ew ow' ew' : List ℕ} → ts ≡ due_timers now (meaning x.vol).rest
-        → Fires 1024 (activate_each (tick_env snapshot image) by_timer (rules_of_timers image ts)) (with_vol vol x) ow ew r ow' ew' → Fires 1024 (fire_timers (tick_env snapshot image)) x ow ew r ow' ew'
-    unfolding fire_timers timers_due tick_env set_of
+        → Fires 1024 (activate_each (env_in snapshot image) by_timer (rules_of_timers image ts)) (with_vol vol x) ow ew r ow' ew' → Fires 1024 (fire_timers (env_in snapshot image)) x ow ew r ow' ew'
+    unfolding fire_timers timers_due env_in set_of
     timers-fire ts e f =
-        same-part 1024 (λ v. activate_each (tick_env snapshot image) by_timer (rules_of_timers image ts) (leave v)) (fire_timers (tick_env snapshot image)) (rw (← is, e))
-        (after-change leave x m refl refl 1024 (activate_each (tick_env snapshot image) by_timer (rules_of_timers image ts)) f)
+        same-part 1024 (λ v. activate_each (env_in snapshot image) by_timer (rules_of_timers image ts) (leave v)) (fire_timers (env_in snapshot image)) (rw (← is, e))
+        (after-change leave x m refl refl 1024 (activate_each (env_in snapshot image) by_timer (rules_of_timers image ts)) f)
 
   -- ---- Every slots
   abbrev move : model-state.Volatile → model-state.Volatile
@@ -59,11 +60,11 @@ module _ (snapshot image : List ℕ) (now : ℕ) (is : now ≡ (world_of snapsho
     slots-room n a = room_after move x m refl refl n a
 
     pub slots-fire : (xs : List EverySlot) {r : Carried} {ow ew ow' ew' : List ℕ} → xs ≡ keep (slot_due now) (meaning x.vol).rest.every
-        → Fires 64 (activate_each (tick_env snapshot image) by_every (rules_of_slots image xs)) (with_vol vol x) ow ew r ow' ew' → Fires 64 (fire_every (tick_env snapshot image)) x ow ew r ow' ew'
-    unfolding fire_every every_due tick_env set_of
+        → Fires 64 (activate_each (env_in snapshot image) by_every (rules_of_slots image xs)) (with_vol vol x) ow ew r ow' ew' → Fires 64 (fire_every (env_in snapshot image)) x ow ew r ow' ew'
+    unfolding fire_every every_due env_in set_of
     slots-fire xs e f =
-        same-part 64 (λ v. activate_each (tick_env snapshot image) by_every (rules_of_slots image xs) (move v)) (fire_every (tick_env snapshot image)) (rw (← is, e))
-        (after-change move x m refl refl 64 (activate_each (tick_env snapshot image) by_every (rules_of_slots image xs)) f)
+        same-part 64 (λ v. activate_each (env_in snapshot image) by_every (rules_of_slots image xs) (move v)) (fire_every (env_in snapshot image)) (rw (← is, e))
+        (after-change move x m refl refl 64 (activate_each (env_in snapshot image) by_every (rules_of_slots image xs)) f)
 
 pub due-fit : (p : Pending → Bool) (now : ℕ) (ps cs : List Pending) → cs ≡ due_now now ps → all p ps ≡ true → all p cs ≡ true
 due-fit p now ps cs e a = rw e (all-due p now ps a)

@@ -18,7 +18,8 @@ use Rattle.activate.specs.Carried.{Carried}
 use Rattle.model.specs.declared.Mode.TheVariants.{Auto}
 use Rattle.activate.proofs.Continues.{with_vol, then-continues, no-outcome, nothing-done, within_none, within-then, within_more}
 use Rattle.activate.proofs.Written.{puts-length}
-use Rattle.wheel.specs.Tick.{tick_env, Fires}
+use Rattle.eval.specs.Answers.{env_in}
+use Rattle.wheel.specs.Tick.{Fires}
 
 -- the words keep their number
 module _ {x : Carried} {ow ew : List ℕ} {h : model.Handled} {r : Carried} {ow' ew' : List ℕ} (c : Continues x ow ew h r ow' ew') where
@@ -30,12 +31,12 @@ module _ {x : Carried} {ow ew : List ℕ} {h : model.Handled} {r : Carried} {ow'
 
 -- ONE RULE ----------------------------------------------------------------------------------------------------------------------------------
 module _ (snapshot image part : List ℕ) (own i : ℕ) (x : Carried) (ow ew : List ℕ) (r : Carried) (ow' ew' : List ℕ) (s : Says part own (get_or (set_of image (flatten_rules image)).flat i [])) where
-  pub activated : (kind : ℕ) → Activates snapshot image part own i kind Auto x ow ew r ow' ew' → Fires 1 (model.activate (tick_env snapshot image) i kind Auto) x ow ew r ow' ew'
-  unfolding tick_env set_of
+  pub activated : (kind : ℕ) → Activates snapshot image part own i kind Auto x ow ew r ow' ew' → Fires 1 (model.activate (env_in snapshot image) i kind Auto) x ow ew r ow' ew'
+  unfolding env_in set_of
   activated kind a = record { says = a.says (set_of image (flatten_rules image)).flat s; within = a.within }
 
-  pub resumed : (c : Pending) → Resumes snapshot image part own i c x ow ew r ow' ew' → Fires 1 (model.resume (tick_env snapshot image) c) x ow ew r ow' ew'
-  unfolding tick_env set_of
+  pub resumed : (c : Pending) → Resumes snapshot image part own i c x ow ew r ow' ew' → Fires 1 (model.resume (env_in snapshot image) c) x ow ew r ow' ew'
+  unfolding env_in set_of
   resumed c a = record { says = a.says (set_of image (flatten_rules image)).flat s; within = a.within }
 
 -- PARTS -------------------------------------------------------------------------------------------------------------------------------------

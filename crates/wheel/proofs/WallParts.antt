@@ -20,7 +20,8 @@ use Rattle.state.proofs.Follows.{follows}
 use Rattle.activate.specs.Handled.{Room}
 use Rattle.activate.specs.Carried.{Carried}
 use Rattle.activate.proofs.Continues.{with_vol}
-use Rattle.wheel.specs.Tick.{tick_env, Fires, turn_handled, count_missed, remembering, without_wall}
+use Rattle.eval.specs.Answers.{env_in}
+use Rattle.wheel.specs.Tick.{Fires, turn_handled, count_missed, remembering, without_wall}
 use Rattle.wheel.specs.Turns.{Turns}
 use Rattle.wheel.specs.Wall.{number_if, kind_and_sun, missed_too}
 use Rattle.wheel.proofs.Fires.{same-part, more-part, skips, changed, after-change, room_after}
@@ -41,7 +42,7 @@ module _ (s : model-state.Volatile) (r : List ℕ) (base : ℕ) where
 -- ---- a rule's turn
 module _ (snapshot image : List ℕ) (from window i : ℕ) (missed : Bool) (x : Carried) {on : Bool} (is : on ≡ is_enabled (meaning x.vol).rest i) where
   abbrev env : Env
-  env = tick_env snapshot image
+  env = env_in snapshot image
 
   pub passes-by : (ow ew : List ℕ) → on ≡ false → Turns env from window i missed missed x ow ew x ow ew
   passes-by ow ew h = record {
@@ -52,7 +53,7 @@ module _ (snapshot image : List ℕ) (from window i : ℕ) (missed : Bool) (x : 
   pub takes-turn : (kind : Option TriggerKind) (after : Bool) {ow ew : List ℕ} {r : Carried} {ow' ew' : List ℕ} → on ≡ true
       → kind_and_sun kind after ≡ missed_too missed (due_wall_kind env from window (triggers_of image i))
       → Fires 1 (start_wall (number_if kind) env i) x ow ew r ow' ew' → Turns env from window i missed after x ow ew r ow' ew'
-  unfolding tick_env set_of
+  unfolding env_in set_of
   takes-turn kind after h d f =
       let m = meaning x.vol in
       record {
@@ -63,7 +64,7 @@ module _ (snapshot image : List ℕ) (from window i : ℕ) (missed : Bool) (x : 
 -- ---- the minute is remembered
 module _ (snapshot image : List ℕ) (w : WallTime) (x : Carried) {v : List ℕ} (value : ℕ) (minute : value ≡ week_minute w) (m : Means v (base x.vol) (remembering value (meaning x.vol))) where
   abbrev env-at : Env
-  env-at = tick_env snapshot image
+  env-at = env_in snapshot image
 
   module _ (prev : Option ℕ) (known : prev ≡ (meaning x.vol).rest.prev_week_min) where
     pub first-minute : (ow ew : List ℕ) → prev ≡ None → Fires 64 (fire_wall_at (Some w) env-at) x ow ew (with_vol v x) ow ew
@@ -98,12 +99,12 @@ forgets image v w u {has} is a b = rw is at (follows forget w u (base v) (count_
 
 -- ---- the clock that a snapshot has
 module _ (snapshot image : List ℕ) {o : Option WallTime} (is : o ≡ (world_of snapshot).wall) where
-  pub with-clock : (w : WallTime) (v : model-state.Volatile) → o ≡ Some w → fire_wall_schedules (tick_env snapshot image) v ≡ fire_wall_at (Some w) (tick_env snapshot image) v
-  unfolding fire_wall_schedules tick_env
+  pub with-clock : (w : WallTime) (v : model-state.Volatile) → o ≡ Some w → fire_wall_schedules (env_in snapshot image) v ≡ fire_wall_at (Some w) (env_in snapshot image) v
+  unfolding fire_wall_schedules env_in
   with-clock w v h = rw (← is, h)
 
-  pub without-clock : (x : Carried) {w : List ℕ} (ow ew : List ℕ) → o ≡ None → Means w (base x.vol) (without_wall image (meaning x.vol)) → Fires 64 (fire_wall_schedules (tick_env snapshot image)) x ow ew (with_vol w x) ow ew
-  unfolding fire_wall_schedules tick_env set_of without_wall
+  pub without-clock : (x : Carried) {w : List ℕ} (ow ew : List ℕ) → o ≡ None → Means w (base x.vol) (without_wall image (meaning x.vol)) → Fires 64 (fire_wall_schedules (env_in snapshot image)) x ow ew (with_vol w x) ow ew
+  unfolding fire_wall_schedules env_in set_of without_wall
   without-clock x ow ew h m =
-      same-part 64 (λ v. no_outcome (without_wall image v)) (fire_wall_schedules (tick_env snapshot image)) (rw (← is, h))
+      same-part 64 (λ v. no_outcome (without_wall image v)) (fire_wall_schedules (env_in snapshot image)) (rw (← is, h))
       (more-part 0 64 (omega arith) (changed (without_wall image) x m refl refl ow ew))

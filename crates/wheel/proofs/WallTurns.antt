@@ -15,7 +15,8 @@ use Rattle.model.specs.Flat.{set_of}
 use Rattle.model.specs.Rules.{triggers_of, name_order}
 use Rattle.model.specs.State.{Env, Volatile, is_enabled}
 use Rattle.model.specs.Wheel.{start_wall, wall_turn, due_wall_kind, fire_due_wall_rules, has_wall_triggers, week_minutes, fire_window}
-use Rattle.wheel.specs.Tick.{tick_env, turn_handled, turn_missed, count_missed}
+use Rattle.eval.specs.Answers.{env_in}
+use Rattle.wheel.specs.Tick.{turn_handled, turn_missed, count_missed}
 
 module _ (e : Env) (base window : ℕ) where
   turn-case : (b missed : Bool) (i : ℕ) (v : Volatile) (k : Bool → Volatile → Handled) →
@@ -66,19 +67,19 @@ module _ (e : Env) (base window i : ℕ) (missed : Bool) (v : Volatile) {on : Bo
   missed-on h = rw (← is, h)
 
 -- ---- the window
-pub no-window : (snapshot image : List ℕ) (minute window : ℕ) (v : Volatile) → window ≡ 0 → fire_window (tick_env snapshot image) minute window v ≡ no_outcome v
-unfolding fire_window tick_env set_of
+pub no-window : (snapshot image : List ℕ) (minute window : ℕ) (v : Volatile) → window ≡ 0 → fire_window (env_in snapshot image) minute window v ≡ no_outcome v
+unfolding fire_window env_in set_of
 no-window snapshot image minute window v z =
     let l : (has_wall_triggers image v.rest && leb 1 window) ≡ false = and_right (has_wall_triggers image v.rest) (leb 1 window) (rw z) in rw l
 
 module _ (snapshot image : List ℕ) (minute window : ℕ) (v : Volatile) {has : Bool} (is : has ≡ has_wall_triggers image v.rest) where
   abbrev env : Env
-  env = tick_env snapshot image
+  env = env_in snapshot image
 
   pub no-triggers : not has ≡ true → fire_window env minute window v ≡ no_outcome v
-  unfolding fire_window tick_env set_of
+  unfolding fire_window env_in set_of
   no-triggers h = rw (← is, not-true has h)
 
   pub opens : not has ≡ false → (window ≡ 0 → ⊥) → fire_window env minute window v ≡ fire_due_wall_rules env ((minute + week_minutes - window) % week_minutes) window false (name_order image) v
-  unfolding fire_window tick_env set_of
+  unfolding fire_window env_in set_of
   opens h z = let l : 1 ≤ window = omega arith in rw (← is, not-false has h, le-leb 1 window l)

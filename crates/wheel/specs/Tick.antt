@@ -6,12 +6,10 @@ use Rattle.model.specs.Flat.{flatten_rules, set_of}
 use Rattle.model.specs.Lists.{all, any, flatten, to_list}
 use Rattle.model.specs.Load.{image_refusal}
 use Rattle.model.specs.Rules.{name_order, triggers_of, rule_named}
-use Rattle.model.specs.Snapshot.{snapshot_refusal}
 use Rattle.model.specs.State as model-state
 use Rattle.model.specs.State.{Env, is_enabled, bump, ticks_time_unsynced, with_prev_week_min}
 use Rattle.model.specs.Store.{pending_fits}
 use Rattle.model.specs.Wheel.{fires_on, rules_on_timer, start_wall, due_wall_kind, has_wall_triggers}
-use Rattle.model.specs.World.{world_of}
 use Rattle.model.specs.declared.EverySlot.{EverySlot}
 use Rattle.model.specs.declared.NamedTimer.{NamedTimer}
 use Rattle.model.specs.declared.Pending.{Pending}
@@ -20,10 +18,6 @@ use Rattle.store.specs.FlatPart.{Kept}
 use Rattle.store.specs.Volatile.{changing_in, record_in}
 use Rattle.activate.specs.Handled.{Continues, Within}
 use Rattle.activate.specs.Carried.{Carried}
-
--- the environment of a tick: what the snapshot says, and the set of the image
-unfoldable pub tick_env : List ℕ → List ℕ → Env
-tick_env snapshot image = record { world = world_of snapshot; set = set_of image (flatten_rules image) }
 
 -- the image passes load, and the store's flat part is its flat form
 pub record Holds (store image : List ℕ) : Type 0 where
@@ -58,9 +52,8 @@ pub record Fires (n : ℕ) (h : model-state.Volatile → model.Handled) (x : Car
 abbrev pub start : List ℕ → Carried
 start v = record { vol = v; outcomes = 0; effects = 0 }
 
--- what a tick asks for: an accepted snapshot, a loaded image with its flat steps, and a state as the store is read
-pub record Ready (snapshot image store : List ℕ) (v : List ℕ) : Type 0 where
-  pub world : snapshot_refusal snapshot ≡ 0
+-- what a tick asks for beside an accepted snapshot: a loaded image with its flat steps, and a state as the store is read
+pub record Ready (image store : List ℕ) (v : List ℕ) : Type 0 where
   pub holds : Holds store image
   pub state : AllNumbered v (meaning v)
   pub pending : all (fits_set image) (meaning v).pending ≡ true

@@ -1,9 +1,10 @@
 // The tick and the next deadline: wheel.rs.
 #![tactic(auto)]
 
-ghost use Rattle.std.specs.Prelude.{◌<◌};
+ghost use Rattle.std.specs.Prelude.{◌≡◌, ◌<◌};
 ghost use Rattle.model.specs.Image.{size_of};
 ghost use Rattle.model.specs.Rows.{rules};
+ghost use Rattle.model.specs.Snapshot.{snapshot_refusal};
 ghost use Rattle.wheel.specs.Tick.{Holds, Ordered};
 
 mod continuations;
@@ -29,6 +30,7 @@ pub struct Env<'a> {
     pub store: &'a [u32],
     pub order: &'a [u32],
 
+    ghost accepted: { snapshot_refusal snapshot.now ≡ 0 },
     ghost holds: { Holds store.now image.now },
     ghost ordered: { Ordered image.now order.now },
 }

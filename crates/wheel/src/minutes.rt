@@ -5,12 +5,8 @@ ghost use Rattle.model.specs.Wheel.{week_minute, cyclic_dist, in_window, minute_
 ghost use Rattle.world.specs.Ranges.{WallInRange};
 ghost use Rattle.wheel.specs.Wall.{day_due};
 
+use eval::time::{DAY_MINUTES, WEEK_MINUTES, has_day};
 use model::WallTime;
-
-// kept: next and wheel each name these numbers, and the bits of all days in wall.rt. The one crate below both that tells of the time, `eval`, uses none of them.
-const DAY_MINUTES: u64 = 1440;
-
-pub const WEEK_MINUTES: u64 = 10080;
 
 pub fn week_minute(w: WallTime) -> u32
     requires { WallInRange w }
@@ -49,7 +45,7 @@ impl Window {
         requires { (minute ≤ 61 * max32) × (day < 7) }
         ensures { result ≡ day_due self.base self.window days minute day }
     {
-        eval::time::has_day(days, day) && self.in_window(day as u64 * DAY_MINUTES + minute)
+        has_day(days, day) && self.in_window(day as u64 * DAY_MINUTES + minute)
     }
 
     // A minute of these days is due.

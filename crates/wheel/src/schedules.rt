@@ -3,7 +3,6 @@
 ghost use Rattle.std.specs.Prelude.{◌≡◌, false, ◌<◌, ◌≤◌};
 ghost use Rattle.std.specs.Prelude.{Some};
 ghost use Rattle.model.specs.Rules.{name_order};
-ghost use Rattle.model.specs.Snapshot.{snapshot_refusal};
 ghost use Rattle.model.specs.Wheel.{start_wall, fire_due_wall_rules, window_of, fire_window, is_set_back, fire_wall_at, fire_wall_schedules};
 ghost use Rattle.state.specs.Meaning.{Means, meaning, base};
 ghost use Rattle.world.specs.Ranges.{WallInRange};
@@ -14,11 +13,12 @@ ghost use Rattle.wheel.specs.Tick.{Fires, count_missed, without_wall};
 ghost use Rattle.wheel.specs.Wall.{number_if};
 ghost use Rattle.wheel.specs.Turns.{Turns};
 
-use crate::minutes::{WEEK_MINUTES, Window, cyclic_dist, week_minute};
+use crate::minutes::{Window, cyclic_dist, week_minute};
 use crate::wall::has_wall_triggers;
 use crate::{Env, Rule};
 use activate::Lent;
 use counters::Counter;
+use eval::time::WEEK_MINUTES;
 use model::{TriggerKind, WallTime};
 use state::State;
 
@@ -129,7 +129,7 @@ impl Env<'_> {
     }
 
     pub fn fire_wall_schedules(&self, lent: &mut Lent)
-        requires { Room 64 (carried_by lent.old) × (snapshot_refusal self.now.snapshot.now ≡ 0) }
+        requires { Room 64 (carried_by lent.old) }
         ensures { Over (Fires 64 (fire_wall_schedules (env_of self.now))) lent.old lent.new }
     {
         match world::wall(self.snapshot) {

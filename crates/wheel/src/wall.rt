@@ -8,12 +8,10 @@ ghost use Rattle.wheel.specs.Wall.{kind_of_one, kind_and_sun, missed_too, enable
 
 use crate::minutes::Window;
 use crate::{Env, Rule};
+use eval::time::{EVERY_DAY, minute_of_day, solar_minute};
 use image::layout::{Image, Table};
 use model::{Trigger, TriggerKind};
 use state::State;
-
-// The days of a week, a bit each.
-const EVERY_DAY: u32 = 127;
 
 // A trigger asks for a sun that is not known.
 #[derive(Clone, Copy)]
@@ -26,12 +24,12 @@ impl Env<'_> {
     {
         match trigger {
             Trigger::AtTime { hour, minute, days } => {
-                let at = eval::time::minute_of_day(hour, minute);
+                let at = minute_of_day(hour, minute);
                 Ok(window.minute_due(days, at).then_some(TriggerKind::AtTime))
             }
             Trigger::AtSolar { event, offset_ms } => {
                 let times = world::sun(self.snapshot).ok_or(NoSun)?;
-                let at = u64::from(eval::time::solar_minute(times, event, offset_ms));
+                let at = u64::from(solar_minute(times, event, offset_ms));
                 Ok(
                     window
                         .minute_due(EVERY_DAY, at)
@@ -45,7 +43,11 @@ impl Env<'_> {
 
 impl Rule<'_, '_> {
     // The kind of the first due trigger of the rule. That one before it asks for a sun that is not known is noted.
-    pub fn due_wall_kind(&self, window: Window, solar_unsynced: &mut bool) -> Option<TriggerKind>
+    pub(crate) fn due_wall_kind(
+        &self,
+        window: Window,
+        solar_unsynced: &mut bool,
+    ) -> Option<TriggerKind>
         ensures { kind_and_sun result solar_unsynced.new ≡ missed_too solar_unsynced.old (due_wall_kind (env_of self.now.env.now) window.base window.window (triggers_of self.now.env.now.image.now self.now.i)) }
     {
         let env = self.env;

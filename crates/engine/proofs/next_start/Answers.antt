@@ -1,5 +1,6 @@
 -- `engine::next_start` meets its contract. Assumes nothing.
 use Rattle.std.proofs.lemmas.Result.{err_from_is_err_and}
+use mathlib.Core.Path.{sym}
 use Rattle.engine.proofs.StartLaws.{start-shown, start-refused}
 use Rattle.engine.proofs.next_start.Goals as goal
 
@@ -11,4 +12,4 @@ returns-in_err-checked c =
 pub returns : goal.returns
 returns c =
     let o = c.in_ok-checked.ensures in
-    start-shown c.args.snapshot.now _ _ _ o.value o.accepted c.next_start.ensures
+    start-shown c.args.snapshot.now _ _ _ o.value (sym (rw o.value at o.number)) (rw o.accepted at c.next_start.ensures)

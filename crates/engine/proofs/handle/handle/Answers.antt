@@ -23,16 +23,17 @@ returns-in_err-checked c =
     rw (p.1, p.2, ← s.same) (input-declined handled_values a.input a.snapshot.now (length a.outcomes.now) (length a.effects.now) _ _ _ _ c.in_err-checked.ensures.number c.clear.ensures c.clear-2.ensures)
 
 pub dispatch-requires : goal.dispatch-requires
-dispatch-requires c = record { ready = (c.in_ok-checked.ensures.accepted, c.begin.ensures); nothing = refl }
+dispatch-requires c = record { ready = c.begin.ensures; nothing = refl }
 
 pub returns : goal.returns
 returns c =
     let a = c.args in
     let s = array-is _ _ _ c.as_mut_array.ensures.cases (sym c.ok_or.ensures.value ∙ c.in_ok-words.was) in
+    let o = c.in_ok-checked.ensures in
     let d = c.dispatch.ensures in
     let e = c.commit.ensures in
     rw (← s.same)
     (told-ends c.commit.result _ (sym (e.same.0 ∙ d.same.0)) (search rules) (sym (e.same.1 ∙ d.same.1)) (search rules)
     (input-ends a.input a.snapshot.now _ (length a.outcomes.now) (length a.effects.now) _ _ _ _ _ _ _ _ _ _ _ _
-    c.in_ok-checked.ensures.value c.in_ok-checked.ensures.accepted c.clear.ensures c.clear-2.ensures c.begin.ensures c.now_ms.ensures
-    d.does (same-outcomes d.does) (same-effects d.does) e.ends))
+    o.value (sym (rw o.value at o.number)) c.clear.ensures c.clear-2.ensures c.begin.ensures c.now_ms.ensures
+    (rw o.accepted at d.does) (same-outcomes d.does) (same-effects d.does) e.ends))

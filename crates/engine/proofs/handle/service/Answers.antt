@@ -26,12 +26,12 @@ pub service_tick-requires : goal.service_tick-requires
 service_tick-requires c =
     let e = c.words.ensures in
     let l = image-given _ _ c.args.store.now e c.in-Some.ensures.value in
-    tick-ready _ _ c.args.snapshot.now c.args.store.now l c.args.lent.now.state.now c.requires.ready.1 (from-read _ _ e) c.requires.ready.0
+    tick-ready _ _ c.args.snapshot.now c.args.store.now l c.args.lent.now.state.now c.requires.ready (from-read _ _ e)
 
 pub returns-in-Some : goal.returns-in-Some
 returns-in-Some c =
     let l = image-given _ _ c.args.store.now c.words.ensures c.in-Some.ensures.value in
     record {
-      does = rw c.requires.nothing (ticked _ _ c.args.snapshot.now c.args.store.now l c.args.lent.now.state.now c.requires.ready.1 (start c.args.lent.now.state.now) _ _ _ _ _ c.service_tick.ensures.does.says);
+      does = rw c.requires.nothing (ticked _ _ c.args.snapshot.now c.args.store.now l c.args.lent.now.state.now c.requires.ready (start c.args.lent.now.state.now) _ _ _ _ _ c.service_tick.ensures.does.says);
       same = c.service_tick.ensures.same;
     }

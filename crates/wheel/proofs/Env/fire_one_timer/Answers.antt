@@ -1,7 +1,7 @@
 -- `wheel::Env::fire_one_timer` meets its contract. Assumes nothing.
 use native.Mathlib.Omega.{arith}
 use mathlib.Core.Path.{refl, ◌∙◌}
-use Rattle.wheel.specs.Tick.{tick_env}
+use Rattle.eval.specs.Answers.{env_in}
 use Rattle.wheel.proofs.Each.{timer-rules}
 use Rattle.wheel.proofs.Going.{room-here}
 use Rattle.wheel.proofs.Loops.{starting-starts, starting-goes, starting-ends}
@@ -36,6 +36,6 @@ pub returns : goal.returns
 returns c =
     let f = order-few _ _ c.args.self.now.ordered c.args.self.now.holds.accepted in
     record {
-      does = timer-rules (tick_env c.args.self.now.snapshot.now c.args.self.now.image.now) _ _ c.args.timer c.args.self.now.ordered (starting-ends _ _ _ _ _ c.loop-i.invariant.does 64 c.loop-i-test.false (omega (arith, c.loop-i.auto, f)));
+      does = timer-rules (env_in c.args.self.now.snapshot.now c.args.self.now.image.now) _ _ c.args.timer c.args.self.now.ordered (starting-ends _ _ _ _ _ c.loop-i.invariant.does 64 c.loop-i-test.false (omega (arith, c.loop-i.auto, f)));
       same = c.loop-i.invariant.same;
     }

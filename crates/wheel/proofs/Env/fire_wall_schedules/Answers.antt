@@ -4,18 +4,18 @@ use Rattle.std.specs.Prelude.{Some}
 use Rattle.model.specs.Wheel.{fire_wall_at, fire_wall_schedules}
 use Rattle.world.proofs.Laws.{wall-in-range}
 use Rattle.activate.specs.Carried.{carried_by}
-use Rattle.wheel.specs.Tick.{tick_env}
+use Rattle.eval.specs.Answers.{env_in}
 use Rattle.wheel.proofs.Fires.{same-part}
 use Rattle.wheel.proofs.WallParts.{with-clock, without-clock}
 use Rattle.wheel.proofs.Env.fire_wall_schedules.Goals as goal
 
 pub fire_wall_at-requires : goal.fire_wall_at-requires
 fire_wall_at-requires c =
-    (c.requires.0, wall-in-range _ c.requires.1 (sym c.wall.ensures ∙ c.in-Some.is))
+    (c.requires, wall-in-range _ c.args.self.now.accepted (sym c.wall.ensures ∙ c.in-Some.is))
 
 pub returns-in-Some : goal.returns-in-Some
 returns-in-Some c =
-    let e = tick_env c.args.self.now.snapshot.now c.args.self.now.image.now in
+    let e = env_in c.args.self.now.snapshot.now c.args.self.now.image.now in
     record {
       does = same-part 64 (fire_wall_at (Some _) e) (fire_wall_schedules e) (with-clock c.args.self.now.snapshot.now c.args.self.now.image.now c.wall.ensures _ _ c.in-Some.is) c.fire_wall_at.ensures.does;
       same = c.fire_wall_at.ensures.same;
