@@ -66,6 +66,7 @@ pub fn eval_value(env: &Env, value: Value) -> Option<i64>
 }
 
 // Value i of the image.
+// kept: `condition_at` has this shape: each reads a record of its own table, by functions of its own, and what they share is one line.
 pub fn value_at(env: &Env, i: u32) -> Option<i64>
     ensures { ValueAt env.now i result }
 {
