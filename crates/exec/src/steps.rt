@@ -76,6 +76,8 @@ fn schedule(env: &Env, v: &mut State, left: u32, ms: u32, to: Point) -> Option<R
 // What follows a wait is scheduled, and the run ends: also where the continuation is dropped.
 // kept: that one more can be accepted is asked here, by `schedule`, `run_after` and `exec`. It follows from `Ready`, which is of the whole run: the state and the
 // budget left. A struct of the two would be made anew for each step, as the budget falls by one, and the state be lent through it again.
+// kept: `left` and `here` stand side by side here, in `run_after` and in `exec`: a struct of them would be made anew for each step, and `schedule` needs the one, and
+// `primitive`, `fail` and a dry run the other alone.
 #[tactic(auto, unfolding(model::specs::Exec::exec))]
 fn run_wait(env: &Env, v: &mut State, left: u32, here: Placed, ms: u32) -> StepResult
     requires { accepted v.old < max64 }
