@@ -9,10 +9,11 @@ use native.Mathlib.Omega.{arith}
 use borrow.Author.Tests.{eq-eqb, ne_eqb, eqb-true, eqb-false, not-true, lt-leb}
 use lib.Dec.{eqb, leb, lit<}
 use lib.ListN.{get_or}
+use Rattle.std.proofs.lemmas.Bool.{and_parts}
 use Rattle.model.specs.Arith.{has_day}
 use Rattle.model.specs.Lists.{any, every, up_from, total}
 use Rattle.model.specs.Wheel.{cyclic_dist, in_window, minute_due}
-use Rattle.model.proofs.Bools.{both, every-at, or-false}
+use Rattle.model.proofs.Bools.{every-at, or-false}
 use Rattle.model.proofs.SortLaws.{any-keep}
 use Rattle.model.specs.Crontab.{field_covers, starts, minutes, day_here, days}
 use Rattle.model.specs.CrontabMeaning.{matches, day_there, minute_before}
@@ -110,8 +111,8 @@ abbrev all_bools : (Bool → Bool) → Bool
 all_bools f = f true && f false
 
 of-all : (f : Bool → Bool) → all_bools f ≡ true → (b : Bool) → f b ≡ true
-of-all f e true = (both (f true) (f false) e).0
-of-all f e false = (both (f true) (f false) e).1
+of-all f e true = (and_parts (f true) (f false) e).0
+of-all f e false = (and_parts (f true) (f false) e).1
 
 abbrev same_bool : Bool → Bool → Bool
 same_bool true b = b
@@ -170,7 +171,7 @@ days-turn = refl
 
 pub day-there : (sunday d : ℕ) → sunday < 7 → d < 7 → (day_there sunday (day_here sunday d) ≡ d) × (day_here sunday (day_there sunday d) ≡ d)
 day-there s d h k =
-    let t = both _ _ (every-at (days_turn s) 7 d (every-at (λ s. every 7 (days_turn s)) 7 s days-turn h) k) in
+    let t = and_parts _ _ (every-at (days_turn s) 7 d (every-at (λ s. every 7 (days_turn s)) 7 s days-turn h) k) in
     (eqb-true _ _ t.0, eqb-true _ _ t.1)
 
 -- the bits of the days there, by weekdays here

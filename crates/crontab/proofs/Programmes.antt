@@ -11,6 +11,7 @@ use borrow.Author.Tests.{eq-eqb, lt-ltb, le-leb, leb-true, ltb-false, not-true}
 use lib.Dec.{eqb, leb, ltb, lit<}
 use lib.ListN.{length, get_or, take, drop, replicate, length-append, get_or-append}
 use lib.Seq.{get_or-append-add}
+use Rattle.std.proofs.lemmas.Bool.{and_parts, or_parts}
 use Rattle.model.specs.Arith.{has_day}
 use Rattle.model.specs.Lists.{any, all, every, keep, present, up_from}
 use Rattle.model.specs.Rows.{triggers, field_of}
@@ -21,7 +22,7 @@ use Rattle.model.specs.declared.Trigger.TheVariants.{AtTime}
 use Rattle.model.specs.Rules.{trigger_of, record_in}
 use Rattle.model.specs.Wheel.{minute_due, due_wall_kind, WallKind, by_time}
 use Rattle.model.specs.State.{Env}
-use Rattle.model.proofs.Bools.{both, every-at, not-refused, neither}
+use Rattle.model.proofs.Bools.{every-at, not-refused}
 use Rattle.model.proofs.SortLaws.{any-map}
 use Rattle.std.specs.List.{slice_split, onto_first}
 use Rattle.model.specs.Crontab.{until, is_hyphen, is_comma, range_of, element_of, elements_of, holds, is_asterisk, is_pattern, covers, number_of, field_fits, field_covers, field, starts, minutes, day_here, days, of_the_form, refusal, trigger_words, table_words, crontab, answer_of}
@@ -140,8 +141,8 @@ range-in : (lo hi : ℕ) (r : ℕ × ℕ) (t : Bool) (p q : ℕ) → (t ≡ leb 
 range-in lo hi r true p q e h =
     let x : p ≡ r.0 = cc in
     let y : q ≡ r.1 = cc in
-    let k = both (leb lo p) (leb p q && leb q hi) (sym e) in
-    let m = both (leb p q) (leb q hi) k.1 in
+    let k = and_parts (leb lo p) (leb p q && leb q hi) (sym e) in
+    let m = and_parts (leb p q) (leb q hi) k.1 in
     (omega (arith, leb-true p q m.0), omega (arith, leb-true q hi m.1))
 range-in lo hi r false p q e h = let z : ◌≡◌ {A = ℕ} 0 1 = cc in absurd (omega arith)
 
@@ -185,8 +186,8 @@ covers-some lo hi s e h = go (is_asterisk s) (slice_split is_comma s) (split-som
     go true ws n e h = false≢true (sym (h 0 (omega arith)))
     go false [] n e h = n refl
     go false (w ∷ ws) n e h =
-        first_holds lo hi w (element_of lo hi w) refl (both (is_some (element_of lo hi w)) (all is_some (map (element_of lo hi) ws)) e).0
-        (λ v l. (neither (holds v (element_of lo hi w)) (any (holds v) (map (element_of lo hi) ws)) (h v l)).0)
+        first_holds lo hi w (element_of lo hi w) refl (and_parts (is_some (element_of lo hi w)) (all is_some (map (element_of lo hi) ws)) e).0
+        (λ v l. (or_parts (holds v (element_of lo hi w)) (any (holds v) (map (element_of lo hi) ws)) (h v l)).0)
 
 -- no bit of 0
 no_bits : every 7 (λ d. not (has_day 0 d)) ≡ true
@@ -237,7 +238,7 @@ module _ (line : List ℕ) (sunday room : ℕ) where
   unfolding refusal of_the_form field_fits
   accepted-fits e =
       let a = (not-refused (leb sunday 6 && every 5 (field_fits line)) 49 _ e).0 in
-      let b = both (leb sunday 6) (every 5 (field_fits line)) a in
+      let b = and_parts (leb sunday 6) (every 5 (field_fits line)) a in
       (leb-true sunday 6 b.0, every-at (field_fits line) 5 4 b.1 (lit< tt))
 
   read_back : refusal line sunday room ≡ 0 → triggers_in (crontab line sunday room).lent (length (minutes line)) ≡ map (at_minute (days line sunday)) (minutes line)

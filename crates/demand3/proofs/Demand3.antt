@@ -6,6 +6,7 @@ use Rattle.std.specs.Prelude.{Some}
 use Prim.Native.Nat.{ℕ, suc, ◌<◌, ◌^◌}
 use native.Mathlib.Omega.{arith}
 use borrow.Author.Tests.{le-leb, lt-ltb}
+use Rattle.std.proofs.lemmas.Bool.{and_from}
 use Rattle.words.specs.Saturating.{max32}
 use Rattle.model.specs.Lists.{all}
 use Rattle.model.specs.State.{Store}
@@ -13,7 +14,6 @@ use Rattle.model.specs.Store.{read, write, Keeps}
 use Rattle.model.specs.Calls.{Call, Answer, done, refused, enabled, handled, due, counted}
 use Rattle.model.specs.Answers.{number_of, values_of}
 use Rattle.model.specs.OnWords.{Result, call_on}
-use Rattle.model.proofs.Bools.{join}
 use Rattle.model.proofs.StoreLaws.{read-write}
 use Rattle.ledger.specs.Demand3.{is_word, in_words}
 use Rattle.ledger.specs.Ledger.{entry_of}
@@ -60,23 +60,23 @@ word-is x h = le-leb x max32 (omega arith)
 
 all_words : (ws : List ℕ) → Words ws → all is_word ws ≡ true
 all_words [] h = refl
-all_words (x ∷ ws) h = join (word-is x (h 0).fits) (all_words ws (λ i. h (suc i)))
+all_words (x ∷ ws) h = and_from _ _ (word-is x (h 0).fits) (all_words ws (λ i. h (suc i)))
 
 in-words : (x : AnyRun) → in_words (call_of x) ≡ true
 unfolding in_words
 in-words (new x) = lt-ltb x.given.1.0 (2 ^ 64) x.held.1.0.1
-in-words (load x ws) = join (lt-ltb x.given.1.0 (2 ^ 64) x.held.1.0.1) (all_words x.given.1.1.0.now ws)
+in-words (load x ws) = and_from _ _ (lt-ltb x.given.1.0 (2 ^ 64) x.held.1.0.1) (all_words x.given.1.1.0.now ws)
 in-words (unload x) = lt-ltb x.given.1.0 (2 ^ 64) x.held.1.0.1
 in-words (enable x) = word-is x.given.1.0 x.held.1.0.1
 in-words (tick x ws) = all_words x.given.1.0.now ws
-in-words (run x ws) = join (word-is x.given.1.0 x.held.1.0.1) (all_words x.given.1.1.1.0.now ws)
+in-words (run x ws) = and_from _ _ (word-is x.given.1.0 x.held.1.0.1) (all_words x.given.1.1.1.0.now ws)
 in-words (next-deadline x) = refl
 in-words (counters x) = refl
 
 -- A LIST OF THEM --------------------------------------------------------------------------------------------------------------------
 pub list-in-words : (xs : List AnyRun) → all in_words (map call_of xs) ≡ true
 list-in-words [] = refl
-list-in-words (x ∷ xs) = join (in-words x) (list-in-words xs)
+list-in-words (x ∷ xs) = and_from _ _ (in-words x) (list-in-words xs)
 
 words_are : (w : List ℕ) (xs : List AnyRun) → From w xs → last_words w xs ≡ words_after w (map call_of xs)
 unfolding words_after

@@ -7,6 +7,7 @@ use Prim.Native.Nat.{ℕ, zero, suc, ◌+◌, ◌^◌, ◌≤◌, ◌<◌}
 use native.Mathlib.Omega.{arith}
 use lib.ListN.{length, get_or, take, drop, length-drop, length-map}
 use borrow.Author.Tests.{lt-ltb, le-leb}
+use Rattle.std.proofs.lemmas.Bool.{and_from}
 use Rattle.words.specs.Saturating.{max32, max64}
 use Rattle.model.specs.declared.Pending.{Pending}
 use Rattle.model.specs.Lists.{all}
@@ -20,7 +21,6 @@ use Rattle.model.specs.Flat.{flatten_rules, set_of}
 use Rattle.model.specs.Load.{image_refusal}
 use Rattle.model.specs.Calls as calls
 use Rattle.model.specs.Calls.{load, unload, enable, done, refused, enabled, answered, rest_with, rest_without, loading, call_load, call_unload, flipped, enabling, rule_in, call_enable, counters_of, call}
-use Rattle.model.proofs.Bools.{join}
 use Rattle.model.proofs.PartsLaws.{variable-laws, timer-laws}
 use Rattle.model.proofs.PartsLaws as parts_laws
 use Rattle.model.specs.OnWords.{call_on}
@@ -89,11 +89,11 @@ unload-seen t w w₁ w₂ w₃ u h k a e₁ e₂ e₃ =
 -- LOAD -------------------------------------------------------------------------------------------------------------------------------------
 pub words-fit : (l : List ℕ) → ((i : ℕ) → get_or l i 0 ≤ max32) → all is_word l ≡ true
 words-fit [] h = refl
-words-fit (x ∷ l) h = join (le-leb x max32 (h 0)) (words-fit l (λ i. h (suc i)))
+words-fit (x ∷ l) h = and_from _ _ (le-leb x max32 (h 0)) (words-fit l (λ i. h (suc i)))
 
 load-words : (t : ℕ) (img : List ℕ) → t < 2 ^ 64 → all is_word img ≡ true → in_words (load t img) ≡ true
 unfolding in_words
-load-words t img h a = join (lt-ltb t (2 ^ 64) h) a
+load-words t img h a = and_from _ _ (lt-ltb t (2 ^ 64) h) a
 
 pub load-on : (t : ℕ) (img w : List ℕ) → OnStore (load t img) w
 unfolding call_on

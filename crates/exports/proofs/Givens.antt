@@ -6,6 +6,7 @@ use Prim.Native.Nat.{ℕ, ◌+◌, ◌≤◌}
 use lib.Dec.{eqb}
 use lib.ListN.{length}
 use borrow.Author.Tests.{eqb-true, ne_eqb}
+use Rattle.std.proofs.lemmas.Bool.{and_parts}
 use Rattle.model.specs.Lists.{all}
 use Rattle.model.specs.Image.{size_of}
 use Rattle.model.specs.Rows.{rules}
@@ -15,7 +16,6 @@ use Rattle.model.specs.Snapshot.{snapshot_refusal}
 use Rattle.model.specs.Layout.{parts_fit}
 use Rattle.model.specs.Parts.{any, variable_row, layout}
 use Rattle.model.specs.Store.{text_short}
-use Rattle.model.proofs.Bools.{both}
 use Rattle.image.specs.Sized.{Sized}
 use Rattle.image.proofs.Accepted.{sized, tables-accepted, few-accepted, rules-few}
 use Rattle.rows.specs.Places.{row_at, table_at}
@@ -33,10 +33,10 @@ use Rattle.exports.specs.Answers.{readable, given}
 module _ (w : List ℕ) (a : Bool) (e : a ≡ eqb (length w) 16384 && parts_fit layout.parts w) where
   module _ (t : a ≡ true) where
     long : length w ≡ 16384
-    long = eqb-true _ _ (both (eqb (length w) 16384) (parts_fit layout.parts w) (sym e ∙ t)).0
+    long = eqb-true _ _ (and_parts (eqb (length w) 16384) (parts_fit layout.parts w) (sym e ∙ t)).0
 
     fit : parts_fit layout.parts w ≡ true
-    fit = (both (eqb (length w) 16384) (parts_fit layout.parts w) (sym e ∙ t)).1
+    fit = (and_parts (eqb (length w) 16384) (parts_fit layout.parts w) (sym e ∙ t)).1
 
     pub texts-decide : (n : ℕ) (b : Bool) → n ≡ row_at any w variables_place → b ≡ all text_short (table_at variable_row n w (variables_place + 1)) → b ≡ readable w
     unfolding readable
@@ -51,8 +51,8 @@ module _ (w : List ℕ) (a : Bool) (e : a ≡ eqb (length w) 16384 && parts_fit 
 readable-is : (w : List ℕ) → readable w ≡ true → Readable w
 unfolding readable
 readable-is w r =
-    let (s, t) = both (eqb (length w) 16384 && parts_fit layout.parts w) _ r in
-    let (l, f) = both (eqb (length w) 16384) (parts_fit layout.parts w) s in
+    let (s, t) = and_parts (eqb (length w) 16384 && parts_fit layout.parts w) _ r in
+    let (l, f) = and_parts (eqb (length w) 16384) (parts_fit layout.parts w) s in
     record { long = eqb-true _ _ l; fit = f; texts = t }
 
 -- ALL THREE -----------------------------------------------------------------------------------------------------------------------
@@ -69,8 +69,8 @@ module _ (snapshot image store : List ℕ) where
   pub store-given : given snapshot image store ≡ true → Readable store
   unfolding given
   store-given g =
-      let (_, h) = both (eqb (snapshot_refusal snapshot) 0) (eqb (image_refusal image) 0 && readable store) g in
-      readable-is store (both (eqb (image_refusal image) 0) (readable store) h).1
+      let (_, h) = and_parts (eqb (snapshot_refusal snapshot) 0) (eqb (image_refusal image) 0 && readable store) g in
+      readable-is store (and_parts (eqb (image_refusal image) 0) (readable store) h).1
 
   pub snapshot-refused : (e : Refusal) → refusal_code e ≡ snapshot_refusal snapshot → false ≡ given snapshot image store
   unfolding given

@@ -11,6 +11,7 @@ use borrow.Author.Tests.{lt-ltb, le-ltb, leb-true, ltb-true, ne_eqb}
 use lib.Dec.{leb, ltb, eqb}
 use lib.ListN.{length, drop, get_or, length-drop}
 use lib.Seq.{length-take-le, get_or-take, get_or-drop}
+use Rattle.std.proofs.lemmas.Bool.{and_parts}
 use Rattle.model.specs.declared.Record.{Record}
 use Rattle.model.specs.declared.Field.TheVariants.{Span, Nested}
 use Rattle.model.specs.declared.FlowAction.TheVariants.{Wait, After, Call, Repeat, Conditional, Plain}
@@ -33,7 +34,7 @@ or-behind next i w e h =
 pub behind : (img : List ℕ) (i w next : ℕ) → leads img i Nested w next ≡ true → Behind (size_of img actions) i w next
 unfolding leads
 behind img i w next e =
-    let b = bools.both (leb (w + next) (size_of img actions)) (eqb next 0 || ltb i w) e in
+    let b = and_parts (leb (w + next) (size_of img actions)) (eqb next 0 || ltb i w) e in
     record { inside = leb-true (w + next) (size_of img actions) b.0; behind = or-behind next i w b.1 }
 
 pub spanned : (img : List ℕ) (i w next : ℕ) → leads img i (Span actions) w next ≡ true → w + next ≤ size_of img actions
@@ -141,21 +142,21 @@ map_same f g i (suc k) h = rw (h i (omega arith), map_same f g (suc i) k (λ j l
 module _ (img : List ℕ) (h : Checked img) where
   pub long : 13 ≤ length img
   unfolding image_sized
-  long = leb-true 13 (length img) (bools.both (leb 13 (length img)) (leb (length img) 4096) h.sized).0
+  long = leb-true 13 (length img) (and_parts (leb 13 (length img)) (leb (length img) 4096) h.sized).0
 
   pub short : length img ≤ 4096
   unfolding image_sized
-  short = leb-true (length img) 4096 (bools.both (leb 13 (length img)) (leb (length img) 4096) h.sized).1
+  short = leb-true (length img) 4096 (and_parts (leb 13 (length img)) (leb (length img) 4096) h.sized).1
 
   pub limit-at : (j : ℕ) → j < 5 → limit_fits img j ≡ true
   unfolding limits_fit
   limit-at j l = bools.every-at (limit_fits img) 5 j h.limited l
 
   pub repeat-limit : repeat_limit img < 256
-  repeat-limit = let e = leb-true (trailer img 2) 255 (bools.both (leb 1 (trailer img 2)) (leb (trailer img 2) 255) (limit-at 2 (omega arith))).1 in omega arith
+  repeat-limit = let e = leb-true (trailer img 2) 255 (and_parts (leb 1 (trailer img 2)) (leb (trailer img 2) 255) (limit-at 2 (omega arith))).1 in omega arith
 
   pub depth-limit : call_depth img ≤ 8
-  depth-limit = leb-true (trailer img 1) 8 (bools.both (leb 0 (trailer img 1)) (leb (trailer img 1) 8) (limit-at 1 (omega arith))).1
+  depth-limit = leb-true (trailer img 1) 8 (and_parts (leb 0 (trailer img 1)) (leb (trailer img 1) 8) (limit-at 1 (omega arith))).1
 
   -- the tables follow each other, and end within the image
   pub table-order : (t : ℕ) → t < 7 → first_of img t ≤ first_of img (t + 1)

@@ -7,6 +7,7 @@ use native.Mathlib.Omega.{arith}
 use borrow.Author.Tests.{le-leb, leb-true, ltb-false}
 use lib.Dec.{leb, ltb}
 use lib.ListN.{length, length-map}
+use Rattle.std.proofs.lemmas.Bool.{and_parts, or_parts}
 use Rattle.model.specs.declared.Step.TheVariants as step
 use Rattle.model.specs.declared.FlattenCtx.{FlattenCtx}
 use Rattle.model.specs.Lists.{all}
@@ -29,7 +30,7 @@ short_bodies k = all (λ (x : FlatStep). leb (length x.body) k)
 pub longer : (j k : ℕ) (xs : List FlatStep) → j ≤ k → short_bodies j xs ≡ true → short_bodies k xs ≡ true
 longer j k [] l h = refl
 longer j k (x ∷ xs) l h =
-    let b = bools.both (leb (length x.body) j) (short_bodies j xs) h in
+    let b = and_parts (leb (length x.body) j) (short_bodies j xs) h in
     let e = leb-true (length x.body) j b.0 in
     rw (le-leb (length x.body) k (omega arith)) (longer j k xs l b.1)
 
@@ -93,11 +94,11 @@ rule-short-bodies img i =
 module _ (fs : List Flattened) (h : too_many_steps fs ≡ false) where
   pub few-steps : steps_in fs ≤ 2048
   unfolding too_many_steps
-  few-steps = ltb-false 2048 (steps_in fs) (bools.neither (ltb 2048 (steps_in fs)) (ltb 65536 (taken_in fs)) h).0
+  few-steps = ltb-false 2048 (steps_in fs) (or_parts (ltb 2048 (steps_in fs)) (ltb 65536 (taken_in fs)) h).0
 
   pub few-taken : taken_in fs ≤ 65536
   unfolding too_many_steps
-  few-taken = ltb-false 65536 (taken_in fs) (bools.neither (ltb 2048 (steps_in fs)) (ltb 65536 (taken_in fs)) h).1
+  few-taken = ltb-false 65536 (taken_in fs) (or_parts (ltb 2048 (steps_in fs)) (ltb 65536 (taken_in fs)) h).1
 
 pub few-stored : (img : List ℕ) → too_many_steps (flatten_rules img) ≡ false → length (stored (flatten_rules img)) ≤ 2048
 few-stored img h = omega (arith, few-steps (flatten_rules img) h, stored-count (flatten_rules img))

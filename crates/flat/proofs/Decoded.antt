@@ -13,6 +13,7 @@ use Rattle.std.specs.List.{slice_range}
 use Rattle.std.proofs.Common.{get_or-take}
 use lib.Seq.{get_or-drop}
 use borrow.Author.Tests.{leb-true}
+use Rattle.std.proofs.lemmas.Bool.{and_parts}
 use Rattle.model.specs.Codec.{rows_at}
 use Rattle.model.specs.declared.Job.{Job}
 use Rattle.model.specs.Flat.{list_in, step_at}
@@ -22,7 +23,6 @@ use Rattle.model.specs.State.{Env}
 use Rattle.model.specs.Steps.{FlatStep}
 use Rattle.model.specs.declared.Point.{Point}
 use Rattle.model.specs.declared.Step.{Step}
-use Rattle.model.proofs.Bools.{both}
 use Rattle.model.proofs.RowLaws.{rows-count}
 use Rattle.flat.specs.Words.{step_of, steps_in, body_words, list_words, Says}
 use Rattle.flat.specs.Near.{reach, step_in, is_near, NearLists, IsNear}
@@ -106,11 +106,11 @@ near-at [] p x h e = absurd (differ e)
     differ : Some x ≡ None → ⊥
     differ q = let z : ◌≡◌ {A = ℕ} 0 1 = cc in omega arith
 near-at (y ∷ ys) zero x h e =
-    let p = both (is_near y) (all is_near ys) h in
+    let p = and_parts (is_near y) (all is_near ys) h in
     let q : x ≡ y = cc in
     (omega arith, rw q (leb-true (reach y) 2048 p.0))
 near-at (y ∷ ys) (suc p) x h e =
-    let q = near-at ys p x (both (is_near y) (all is_near ys) h).1 e in
+    let q = near-at ys p x (and_parts (is_near y) (all is_near ys) h).1 e in
     (omega (arith, q.0), q.1)
 
 -- a step that was found stands below 2,048, and leads no further

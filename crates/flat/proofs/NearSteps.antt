@@ -8,12 +8,13 @@ use lib.Dec.{leb}
 use lib.ListN.{length, length-append, length-map}
 use Rattle.std.specs.Prelude.{slice_get}
 use borrow.Author.Tests.{le-leb, leb-true}
+use Rattle.std.proofs.lemmas.Bool.{and_from, and_parts}
 use Rattle.model.specs.Flat.{Flattened, no_steps, again, within_after, within_repeat, copies, flatten_after, flatten_repeat, flatten_branch, flatten_rule, body_in, list_in}
 use Rattle.model.specs.Lists.{all}
 use Rattle.model.specs.Steps.{FlatStep, steps_of}
 use Rattle.model.specs.declared.FlattenCtx.{FlattenCtx}
 use Rattle.model.specs.declared.Step.{Step}
-use Rattle.model.proofs.Bools.{both, join, all_append}
+use Rattle.model.proofs.Bools.{all_append}
 use Rattle.model.proofs.TestLaws.{by}
 use Rattle.flat.proofs.Counts.{short_bodies, longer}
 use Rattle.flat.proofs.EachRule.{of-rule}
@@ -48,9 +49,9 @@ near-one c f x e b r =
 short-parts : (k : ℕ) (xs ys : List FlatStep) → short_bodies k (xs ++ ys) ≡ true → (short_bodies k xs ≡ true) × (short_bodies k ys ≡ true)
 short-parts k [] ys h = (refl, h)
 short-parts k (x ∷ xs) ys h =
-    let p = both (leb (length x.body) k) (short_bodies k (xs ++ ys)) h in
+    let p = and_parts (leb (length x.body) k) (short_bodies k (xs ++ ys)) h in
     let q = short-parts k xs ys p.1 in
-    (join p.0 q.0, q.1)
+    (and_from _ _ p.0 q.0, q.1)
 
 near-append : (c : FlattenCtx) (a b f : Flattened) → f.steps ≡ a.steps ++ b.steps → Near c a → Near c b → Near c f
 near-append c a b f e p q =
@@ -80,8 +81,8 @@ near-repeat c t b n p =
 own-near : (k : ℕ) (xs : List FlatStep) → all (within k) xs ≡ true → all (reaches k) (steps_of xs) ≡ true
 own-near k [] h = refl
 own-near k (x ∷ xs) h =
-    let p = both (within k x) (all (within k) xs) h in
-    join (both (reaches k x.step) (all (reaches k) x.body) p.0).0 (own-near k xs p.1)
+    let p = and_parts (within k x) (all (within k) xs) h in
+    and_from _ _ (and_parts (reaches k x.step) (all (reaches k) x.body) p.0).0 (own-near k xs p.1)
 
 near-after : (c : FlattenCtx) (ms m : ℕ) (b : Flattened) → c.in_after ≡ false → Near (within_after c) b → Near c (flatten_after ms m b)
 near-after c ms m b e p =
@@ -89,7 +90,7 @@ near-after c ms m b e p =
       bare = λ t. absurd (false≢true (sym e ∙ t));
       near = λ k h s.
           let l : leb 0 k ≡ true = le-leb 0 k (omega arith) in
-          let g = leb-true (length (steps_of b.steps)) k (both (leb (length (steps_of b.steps)) k) true s).0 in
+          let g = leb-true (length (steps_of b.steps)) k (and_parts (leb (length (steps_of b.steps)) k) true s).0 in
           let n : length b.steps ≤ k = omega (arith, g, length-map b.steps (λ (x : FlatStep). x.step)) in
           rw (l, own-near k b.steps (p.near k n (longer 0 k b.steps (omega arith) (p.bare refl))));
     }
@@ -103,7 +104,7 @@ near-branch c q y e p r =
       near = λ k h g.
           let l : leb (length y.steps + length e.steps) k ≡ true = le-leb (length y.steps + length e.steps) k (omega arith) in
           let o : length (y.steps ++ e.steps) ≤ k = omega arith in
-          rw (l, s.near k o (both (leb 0 k) (short_bodies k (y.steps ++ e.steps)) g).1);
+          rw (l, s.near k o (and_parts (leb 0 k) (short_bodies k (y.steps ++ e.steps)) g).1);
     }
 
 abbrev NearAt : ℕ → FlattenCtx → ℕ → ℕ → Flattened → Type 0
@@ -127,8 +128,8 @@ near-closed =
 -- EVERY LIST OF A RULE --------------------------------------------------------------------------------------------------------------------
 body_near : (k : ℕ) (xs : List FlatStep) (p : ℕ) → all (within k) xs ≡ true → all (reaches k) (body_in (slice_get xs p)) ≡ true
 body_near k [] p h = refl
-body_near k (x ∷ xs) zero h = (both (reaches k x.step) (all (reaches k) x.body) (both (within k x) (all (within k) xs) h).0).1
-body_near k (x ∷ xs) (suc p) h = body_near k xs p (both (within k x) (all (within k) xs) h).1
+body_near k (x ∷ xs) zero h = (and_parts (reaches k x.step) (all (reaches k) x.body) (and_parts (within k x) (all (within k) xs) h).0).1
+body_near k (x ∷ xs) (suc p) h = body_near k xs p (and_parts (within k x) (all (within k) xs) h).1
 
 list-near : (k : ℕ) (xs : List FlatStep) (n : ℕ) → all (within k) xs ≡ true → all (reaches k) (list_in xs n) ≡ true
 unfolding list_in

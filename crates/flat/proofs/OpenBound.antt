@@ -9,6 +9,7 @@ use native.Mathlib.Omega.{arith}
 use lib.Dec.{leb}
 use lib.ListN.{length, take, drop}
 use borrow.Author.Tests.{leb-true}
+use Rattle.std.proofs.lemmas.Bool.{and_parts}
 use Rattle.model.specs.declared.Record.{Record}
 use Rattle.model.specs.declared.FlowAction.{FlowAction}
 use Rattle.model.specs.declared.FlowAction.TheVariants.{Wait, After, Call, Repeat, Conditional, Plain}
@@ -17,7 +18,7 @@ use Rattle.model.specs.Rows.{rules, blocks, actions}
 use Rattle.model.specs.Rules.{record_in, flow_of}
 use Rattle.model.specs.Image.{word_at, table_of, trailer, call_depth, repeat_limit, limit_fits, limits_fit}
 use Rattle.model.specs.Flat.{Flattening, within_after, within_repeat, within_conditional, flatten_list, repeat_fails, flattenings_from, block_named, flatten_call, flattenings}
-use Rattle.model.proofs.Bools.{both, every-at}
+use Rattle.model.proofs.Bools.{every-at}
 use Rattle.model.proofs.TestLaws.{by}
 use Rattle.flat.specs.Load.{rule_context}
 use Rattle.flat.specs.OpenLists.{Opening, greater, open_list, open_part, open_action, openings_from, open_block, open_call, openings, open_lists}
@@ -158,7 +159,7 @@ module _ (img : List ℕ) where
   -- an image whose limits pass 11 has a call depth of at most 8
   call-depth : limits_fit img ≡ true → call_depth img ≤ 8
   unfolding limits_fit
-  call-depth h = leb-true (trailer img 1) 8 (both (leb 0 (trailer img 1)) (leb (trailer img 1) 8) (every-at (limit_fits img) 5 1 h (omega arith))).1
+  call-depth h = leb-true (trailer img 1) 8 (and_parts (leb 0 (trailer img 1)) (leb (trailer img 1) 8) (every-at (limit_fits img) 5 1 h (omega arith))).1
 
   pub at-most-twelve : limits_fit img ≡ true → (i : ℕ) → open_lists img i ≤ 12
   at-most-twelve h i = omega (arith, open-bound i, call-depth h)

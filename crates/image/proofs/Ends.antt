@@ -7,7 +7,7 @@ use native.Mathlib.Omega.{arith}
 use lib.ListN.{length}
 use lib.Dec.{eqb}
 use borrow.Author.Tests.{eqb-true}
-use Rattle.model.proofs.Bools.{both}
+use Rattle.std.proofs.lemmas.Bool.{and_parts}
 use Rattle.model.specs.Lists.{every}
 use Rattle.model.specs.Image.{first_of, place_fits, places_fit}
 use Rattle.model.proofs.ImageLaws.{table-follows, starts-inside}
@@ -18,7 +18,7 @@ use Rattle.image.proofs.Padding.{numbered}
 module _ (img : List ℕ) (placed : places_fit img ≡ true) where
   pub tables-begin : first_of img 0 ≡ 0
   unfolding places_fit
-  tables-begin = eqb-true _ _ (both (eqb (first_of img 0) 0) (every 8 (place_fits img)) placed).0
+  tables-begin = eqb-true _ _ (and_parts (eqb (first_of img 0) 0) (every 8 (place_fits img)) placed).0
 
   pub table-order : (t : Table) → first_of img (number_of t) ≤ first_of img (number_of t + 1)
   table-order t = table-follows img placed (number_of t) (numbered t)

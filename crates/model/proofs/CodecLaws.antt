@@ -12,9 +12,9 @@ use lib.Dec.{leb, eqb}
 use lib.ListN.{length, drop, replicate, length-append, length-replicate, drop_of_length-le}
 use lib.Seq.{drop_at, drop-drop}
 use borrow.Author.Tests.{leb-true, eqb-true, eq-eqb}
+use Rattle.std.proofs.lemmas.Bool.{and_from, and_parts}
 use Rattle.model.specs.Layout.{Cell, Part, fixed, counted, zeros, row_fits, rows_fit, size_of, sizes, part_fits, parts_fit, up_to}
 use Rattle.model.specs.Codec.{Row, rows_at, words_of, all_good, Codec, one, all, most, unused, ◌then◌, Same, as_parts, accepted, decode}
-use Rattle.model.proofs.Bools.{both, join}
 use Rattle.model.proofs.RowLaws.{RowLaws, zeros-written, zeros-back, only_zero, rows_long, rows-count, rows-reads, rows-writes}
 
 pub record CodecLaws {A : Type 0} (c : Codec A) : Type 0 where
@@ -53,17 +53,17 @@ one_laws {r} p =
 pub all_laws : {A : Type 0} (n : ℕ) {r : Row A} → RowLaws r → CodecLaws (all n r)
 all_laws n {r} p =
     record {
-      long = λ l g. rows_long r p l ∙ rw (eqb-true (length l) n (both _ _ g).0) (sym size);
+      long = λ l g. rows_long r p l ∙ rw (eqb-true (length l) n (and_parts _ _ g).0) (sym size);
       reads =
           λ l rest g.
-          let (g₁, g₂) = both (eqb (length l) n) (all_good r l) g in
+          let (g₁, g₂) = and_parts (eqb (length l) n) (all_good r l) g in
           let m = eqb-true (length l) n g₁ in
           let (v, f) = rows-reads r p l rest g₂ in
           (rw m at v, fit (words_of r l ++ rest) ∙ (rw m at f));
       writes =
           λ w f.
           let (v, g) = rows-writes r p n w (sym (fit w) ∙ f) in
-          (rw size v, join (eq-eqb _ _ (rows-count r n w)) g);
+          (rw size v, and_from _ _ (eq-eqb _ _ (rows-count r n w)) g);
     }
   where
     size : sizes (all n r).parts ≡ n * length r.cells
@@ -91,7 +91,7 @@ module _ {A : Type 0} (n : ℕ) {r : Row A} (p : RowLaws r) where
 
   most-long : (l : List A) → (most n r).good l ≡ true → length ((most n r).put l) ≡ sizes (most n r).parts
   most-long l g =
-      let h = leb-true (length l) n (both _ _ g).0 in
+      let h = leb-true (length l) n (and_parts _ _ g).0 in
       let e : length (words_of r l ++ replicate ((n - length l) * f) 0) ≡ n * f = length-append (words_of r l) (replicate ((n - length l) * f) 0) ∙ rw (rows_long r p l, length-replicate) (rest_of (length l) n f h) in
       let s : suc (n * f) ≡ 1 + n * f = omega arith in
       ap suc e ∙ s ∙ sym size
@@ -99,20 +99,20 @@ module _ {A : Type 0} (n : ℕ) {r : Row A} (p : RowLaws r) where
   most-reads : (l : List A) (rest : List ℕ) → (most n r).good l ≡ true
       → ((most n r).get ((most n r).put l ++ rest) ≡ l) × (parts_fit (most n r).parts ((most n r).put l ++ rest) ≡ true)
   most-reads l rest g =
-      let (g₁, g₂) = both (leb (length l) n) (all_good r l) g in
+      let (g₁, g₂) = and_parts (leb (length l) n) (all_good r l) g in
       let zs : List ℕ = replicate ((n - length l) * f) 0 in
       let e = append_assoc (words_of r l) zs rest in
       let (v, q) = rows-reads r p l (zs ++ rest) g₂ in
       let d = drop_at (words_of r l) (zs ++ rest) (length l * f) (rows_long r p l) in
       let z : zeros ((n - length l) * f) (drop (length l * f) (words_of r l ++ (zs ++ rest))) ≡ true = ap (zeros ((n - length l) * f)) d ∙ zeros-written ((n - length l) * f) rest in
-      (rw e v, fit ((most n r).put l ++ rest) ∙ rw e (join g₁ (join q z)))
+      (rw e v, fit ((most n r).put l ++ rest) ∙ rw e (and_from _ _ g₁ (and_from _ _ q z)))
 
   most-writes : (w : List ℕ) → parts_fit (most n r).parts w ≡ true
       → ((most n r).put ((most n r).get w) ++ drop (sizes (most n r).parts) w ≡ w) × ((most n r).good ((most n r).get w) ≡ true)
   most-writes [] e = absurd (false≢true (sym (fit []) ∙ e))
   most-writes (x ∷ w) e =
-      let (a, b) = both (leb x n) (rows_fit x r.cells w && zeros ((n - x) * f) (drop (x * f) w)) (sym (fit (x ∷ w)) ∙ e) in
-      let (q, z) = both (rows_fit x r.cells w) (zeros ((n - x) * f) (drop (x * f) w)) b in
+      let (a, b) = and_parts (leb x n) (rows_fit x r.cells w && zeros ((n - x) * f) (drop (x * f) w)) (sym (fit (x ∷ w)) ∙ e) in
+      let (q, z) = and_parts (rows_fit x r.cells w) (zeros ((n - x) * f) (drop (x * f) w)) b in
       let (v, g) = rows-writes r p x w q in
       let m = rows-count r x w in
       let y = zeros-back ((n - x) * f) (drop (x * f) w) z in
@@ -125,7 +125,7 @@ module _ {A : Type 0} (n : ℕ) {r : Row A} (p : RowLaws r) where
       ∙ v in
       let s : drop (sizes (most n r).parts) (x ∷ w) ≡ drop (n * f) w = ap (λ (k : ℕ). drop k (x ∷ w)) (size ∙ one-add (n * f)) in
       let t : (most n r).put rows ≡ x ∷ (words_of r rows ++ replicate ((n - x) * f) 0) = ap (λ (k : ℕ). k ∷ (words_of r rows ++ replicate ((n - k) * f) 0)) m in
-      (ap (λ y. (most n r).put rows ++ y) s ∙ ap (λ y. y ++ drop (n * f) w) t ∙ ap (λ y. x ∷ y) whole, join (ap (λ (k : ℕ). leb k n) m ∙ a) g)
+      (ap (λ y. (most n r).put rows ++ y) s ∙ ap (λ y. y ++ drop (n * f) w) t ∙ ap (λ y. x ∷ y) whole, and_from _ _ (ap (λ (k : ℕ). leb k n) m ∙ a) g)
 
   pub most-laws : CodecLaws (most n r)
   most-laws = record { long = most-long; reads = most-reads; writes = most-writes }
@@ -166,24 +166,24 @@ parts-append (p ∷ ps) qs w =
 pub then-laws : {A B : Type 0} {c : Codec A} {d : Codec B} → CodecLaws c → CodecLaws d → CodecLaws (c then d)
 then-laws {c} {d} p q =
     record {
-      long = λ a g. let (g₁, g₂) = both _ _ g in length-append (c.put a.0) (d.put a.1) ∙ rw (p.long a.0 g₁, q.long a.1 g₂, sizes-append);
+      long = λ a g. let (g₁, g₂) = and_parts _ _ g in length-append (c.put a.0) (d.put a.1) ∙ rw (p.long a.0 g₁, q.long a.1 g₂, sizes-append);
       reads =
           λ a rest g.
-          let (g₁, g₂) = both _ _ g in
+          let (g₁, g₂) = and_parts _ _ g in
           let e = append_assoc (c.put a.0) (d.put a.1) rest in
           let (v₁, f₁) = p.reads a.0 (d.put a.1 ++ rest) g₁ in
           let (v₂, f₂) = q.reads a.1 rest g₂ in
           let b = drop_at (c.put a.0) (d.put a.1 ++ rest) (sizes c.parts) (p.long a.0 g₁) in
-          (rw (e, b) (λ i. (v₁ i, v₂ i)), rw e (parts-append c.parts d.parts (c.put a.0 ++ (d.put a.1 ++ rest)) ∙ join f₁ (ap (parts_fit d.parts) b ∙ f₂)));
+          (rw (e, b) (λ i. (v₁ i, v₂ i)), rw e (parts-append c.parts d.parts (c.put a.0 ++ (d.put a.1 ++ rest)) ∙ and_from _ _ f₁ (ap (parts_fit d.parts) b ∙ f₂)));
       writes =
           λ w f.
-          let (f₁, f₂) = both _ _ (sym (parts-append c.parts d.parts w) ∙ f) in
+          let (f₁, f₂) = and_parts _ _ (sym (parts-append c.parts d.parts w) ∙ f) in
           let (v₁, g₁) = p.writes w f₁ in
           let t = drop (sizes c.parts) w in
           let (v₂, g₂) = q.writes t f₂ in
           let b : drop (sizes (c.parts ++ d.parts)) w ≡ drop (sizes d.parts) t =
           ap (λ (n : ℕ). drop n w) (sizes-append c.parts d.parts) ∙ sym (drop-drop (sizes d.parts) (sizes c.parts) w) in
-          (rw b (append_assoc (c.put (c.get w)) (d.put (d.get t)) (drop (sizes d.parts) t) ∙ ap (λ t. c.put (c.get w) ++ t) v₂ ∙ v₁), join g₁ g₂);
+          (rw b (append_assoc (c.put (c.get w)) (d.put (d.get t)) (drop (sizes d.parts) t) ∙ ap (λ t. c.put (c.get w) ++ t) v₂ ∙ v₁), and_from _ _ g₁ g₂);
     }
 
 pub as-parts-laws : {A B : Type 0} (s : Same A B) {c : Codec A} → CodecLaws c → CodecLaws (as_parts s c)
@@ -214,8 +214,8 @@ module _ {A : Type 0} (c : Codec A) (laws : CodecLaws c) (rules : A → Bool) wh
 
   pub holds : (w : List ℕ) → accepted c rules w ≡ true → Holds w (c.get w)
   holds w e =
-      let (l, r) = both (eqb (length w) (sizes c.parts)) (parts_fit c.parts w && rules (c.get w)) e in
-      let (f, h) = both (parts_fit c.parts w) (rules (c.get w)) r in
+      let (l, r) = and_parts (eqb (length w) (sizes c.parts)) (parts_fit c.parts w && rules (c.get w)) e in
+      let (f, h) = and_parts (parts_fit c.parts w) (rules (c.get w)) r in
       let (v, g) = laws.writes w f in
       let k = eqb-true (length w) (sizes c.parts) l in
       let z = drop_of_length-le w {i = sizes c.parts} (omega (arith, k)) in

@@ -10,18 +10,19 @@ use native.Mathlib.Omega.{arith}
 use lib.Dec.{leb, eqb}
 use lib.ListN.{length}
 use borrow.Author.Tests.{leb-true, eq-eqb, ne_eqb}
+use Rattle.std.proofs.lemmas.Bool.{and_parts}
 use Rattle.model.specs.Lists.{every, position_from, up_from}
 use Rattle.model.specs.Rows.{rules}
 use Rattle.model.specs.Image.{width_of, first_of, size_of, word_at, place_fits, places_fit, names_differ}
 use Rattle.model.specs.Rules.{name_of, rule_named}
-use Rattle.model.proofs.Bools.{both, every-at}
+use Rattle.model.proofs.Bools.{every-at}
 
 -- 12: a table starts where the one before it ends, or behind
 pub table-follows : (img : List ℕ) → places_fit img ≡ true → (t : ℕ) → t < 8 → first_of img t ≤ first_of img (t + 1)
 unfolding places_fit
 table-follows img e t l =
-    let f = every-at (place_fits img) 8 t (both (eqb (first_of img 0) 0) (every 8 (place_fits img)) e).1 l in
-    leb-true (first_of img t) (first_of img (t + 1)) (both (leb (first_of img t) (first_of img (t + 1))) _ f).0
+    let f = every-at (place_fits img) 8 t (and_parts (eqb (first_of img 0) 0) (every 8 (place_fits img)) e).1 l in
+    leb-true (first_of img t) (first_of img (t + 1)) (and_parts (leb (first_of img t) (first_of img (t + 1))) _ f).0
 
 pub last-first : (img : List ℕ) → first_of img 8 ≡ length img - 13
 unfolding first_of

@@ -10,10 +10,10 @@ use lib.Dec.{leb, eqb, leb-suc-zero, eqb-suc-zero}
 use lib.ListN.{length, get_or, drop, replicate, length-append, length-replicate}
 use lib.Seq.{drop_at, drop-drop}
 use borrow.Author.Tests.{leb-true, le-leb, ltb-true, lt-ltb, eqb-true}
+use Rattle.std.proofs.lemmas.Bool.{and_from, and_parts}
 use Rattle.words.specs.Pairs.{joined, low_of, high_of}
 use Rattle.model.specs.Layout.{Cell, zeros, cell_fits, row_fits, rows_fit, up_to, mark}
 use Rattle.model.specs.Codec.{Row, word, wide, ◌⊗◌, maybe, pad, Same, as_row, rows_at, words_of, all_good}
-use Rattle.model.proofs.Bools.{both, join}
 
 -- A good value that was written is read back, and its words fit. Words that fit are those that would be written for the value that they
 -- say, a good one.
@@ -33,7 +33,7 @@ word_laws n = record { long = λ a. refl; reads = λ a rest g. (refl, rw (g, or-
   where
     writes : (w : List ℕ) → row_fits (up_to n ∷ []) w ≡ true → (get_or w 0 0 ∷ drop 1 w ≡ w) × (leb (get_or w 0 0) n ≡ true)
     writes [] f = absurd (false≢true f)
-    writes (x ∷ w) f = (refl, (both _ _ (both _ _ f).0).0)
+    writes (x ∷ w) f = (refl, (and_parts _ _ (and_parts _ _ f).0).0)
 
 -- two words
 module _ (lo hi : ℕ) (l : lo ≤ 4294967295) (h : hi ≤ 4294967295) where
@@ -65,11 +65,11 @@ wide_laws =
   where
     writes : (w : List ℕ) → row_fits wide.cells w ≡ true → (wide.put (wide.get w) ++ drop 2 w ≡ w) × (wide.good (wide.get w) ≡ true)
     writes [] f = absurd (false≢true f)
-    writes (x ∷ []) f = absurd (false≢true (both (leb x 4294967295 && (not (eqb x 0) || true)) false f).1)
+    writes (x ∷ []) f = absurd (false≢true (and_parts (leb x 4294967295 && (not (eqb x 0) || true)) false f).1)
     writes (x ∷ y ∷ w) f =
-        let (a, b) = both _ _ f in
-        let l = leb-true _ _ (both _ _ a).0 in
-        let h = leb-true _ _ (both _ _ (both _ _ b).0).0 in
+        let (a, b) = and_parts _ _ f in
+        let l = leb-true _ _ (and_parts _ _ a).0 in
+        let h = leb-true _ _ (and_parts _ _ (and_parts _ _ b).0).0 in
         (rw (low-of x y l h, high-of x y l h), lt-ltb (x + 4294967296 * y) 18446744073709551616 (omega arith))
 
 -- a row behind a row
@@ -85,21 +85,21 @@ pub ⊗-laws : {A B : Type 0} {r : Row A} {s : Row B} → RowLaws r → RowLaws 
       long = λ a. simp (length-append, p.long, q.long);
       reads =
           λ a rest g.
-          let (g₁, g₂) = both _ _ g in
+          let (g₁, g₂) = and_parts _ _ g in
           let e = append_assoc (r.put a.0) (s.put a.1) rest in
           let (v₁, f₁) = p.reads a.0 (s.put a.1 ++ rest) g₁ in
           let (v₂, f₂) = q.reads a.1 rest g₂ in
           let d = behind p a.0 (s.put a.1 ++ rest) in
-          (rw (e, d) (λ i. (v₁ i, v₂ i)), rw e (row-append r.cells s.cells (r.put a.0 ++ (s.put a.1 ++ rest)) ∙ join f₁ (ap (row_fits s.cells) d ∙ f₂)));
+          (rw (e, d) (λ i. (v₁ i, v₂ i)), rw e (row-append r.cells s.cells (r.put a.0 ++ (s.put a.1 ++ rest)) ∙ and_from _ _ f₁ (ap (row_fits s.cells) d ∙ f₂)));
       writes =
           λ w f.
-          let (f₁, f₂) = both _ _ (sym (row-append r.cells s.cells w) ∙ f) in
+          let (f₁, f₂) = and_parts _ _ (sym (row-append r.cells s.cells w) ∙ f) in
           let (v₁, g₁) = p.writes w f₁ in
           let (v₂, g₂) = q.writes (drop (length r.cells) w) f₂ in
           let d : drop (length (r.cells ++ s.cells)) w ≡ drop (length s.cells) (drop (length r.cells) w) =
           ap (λ (n : ℕ). drop n w) (length-append r.cells s.cells) ∙ sym (drop-drop (length s.cells) (length r.cells) w) in
           let t = drop (length r.cells) w in
-          (rw d (append_assoc (r.put (r.get w)) (s.put (s.get t)) (drop (length s.cells) t) ∙ ap (λ t. r.put (r.get w) ++ t) v₂ ∙ v₁), join g₁ g₂);
+          (rw d (append_assoc (r.put (r.get w)) (s.put (s.get t)) (drop (length s.cells) t) ∙ ap (λ t. r.put (r.get w) ++ t) v₂ ∙ v₁), and_from _ _ g₁ g₂);
     }
 
 -- other names
@@ -122,7 +122,7 @@ unfolding zeros
 zeros-back zero w e = refl
 zeros-back (suc n) [] e = absurd (false≢true e)
 zeros-back (suc n) (x ∷ w) e =
-    let (a, b) = both (eqb x 0) (zeros n w) e in
+    let (a, b) = and_parts (eqb x 0) (zeros n w) e in
     rw (eqb-true x 0 a) (ap (λ t. 0 ∷ t) (zeros-back n w b))
 
 -- zeros in front of zeros
@@ -143,7 +143,7 @@ word_blank n = record { blank = blank }
     blank : (w : List ℕ) → zeros 1 w ≡ true → row_fits (up_to n ∷ []) w ≡ true
     blank [] z = absurd (false≢true z)
     blank (x ∷ w) z =
-        let h = eqb-true x 0 (both (eqb x 0) true z).0 in
+        let h = eqb-true x 0 (and_parts (eqb x 0) true z).0 in
         let l : leb 0 n ≡ true = le-leb 0 n (omega arith) in
         rw (h, l)
 
@@ -153,11 +153,11 @@ wide-blank = record { blank = blank }
   where
     blank : (w : List ℕ) → zeros 2 w ≡ true → row_fits wide.cells w ≡ true
     blank [] z = absurd (false≢true z)
-    blank (x ∷ []) z = absurd (false≢true (both (eqb x 0) false z).1)
+    blank (x ∷ []) z = absurd (false≢true (and_parts (eqb x 0) false z).1)
     blank (x ∷ y ∷ w) z =
-        let (a, b) = both (eqb x 0) (eqb y 0 && true) z in
+        let (a, b) = and_parts (eqb x 0) (eqb y 0 && true) z in
         let h = eqb-true x 0 a in
-        let l = eqb-true y 0 (both (eqb y 0) true b).0 in
+        let l = eqb-true y 0 (and_parts (eqb y 0) true b).0 in
         rw (h, l)
 
 pub ⊗-blank : {A B : Type 0} {r : Row A} {s : Row B} → Blank r → Blank s → Blank (r ⊗ s)
@@ -168,8 +168,8 @@ pub ⊗-blank : {A B : Type 0} {r : Row A} {s : Row B} → Blank r → Blank s �
           let m = length r.cells in
           let n = length s.cells in
           let e = ap (λ (k : ℕ). zeros k w) (length-append r.cells s.cells) in
-          let (a, b) = both (zeros m w) (zeros n (drop m w)) (sym (zeros-append m n w) ∙ sym e ∙ z) in
-          row-append r.cells s.cells w ∙ join (p.blank w a) (q.blank (drop m w) b);
+          let (a, b) = and_parts (zeros m w) (zeros n (drop m w)) (sym (zeros-append m n w) ∙ sym e ∙ z) in
+          row-append r.cells s.cells w ∙ and_from _ _ (p.blank w a) (q.blank (drop m w) b);
     }
 
 pub as_row_blank : {A B : Type 0} {r : Row A} (s : Same A B) → Blank r → Blank (as_row s r)
@@ -194,14 +194,14 @@ module _ {A : Type 0} {r : Row A} (p : RowLaws r) (b : Blank r) where
   unfolding row_fits
   maybe-writes [] f = absurd (false≢true f)
   maybe-writes (zero ∷ w) f =
-      let (a, _) = both (zeros (length r.cells) w) (row_fits r.cells w) f in
+      let (a, _) = and_parts (zeros (length r.cells) w) (row_fits r.cells w) f in
       (ap (λ t. 0 ∷ t) (zeros-back (length r.cells) w a), refl)
   maybe-writes (suc zero ∷ w) f =
       let (v, g) = p.writes w f in
       (ap (λ t. 1 ∷ t) v, g)
   maybe-writes (suc (suc x) ∷ w) f =
-      let (a, _) = both (cell_fits (mark (length r.cells)) (suc (suc x)) w) (row_fits r.cells w) f in
-      let l = leb-true (suc (suc x)) 1 (both (leb (suc (suc x)) 1) _ a).0 in
+      let (a, _) = and_parts (cell_fits (mark (length r.cells)) (suc (suc x)) w) (row_fits r.cells w) f in
+      let l = leb-true (suc (suc x)) 1 (and_parts (leb (suc (suc x)) 1) _ a).0 in
       absurd (omega arith)
 
   pub maybe-laws : RowLaws (maybe r)
@@ -256,7 +256,7 @@ module _ {A : Type 0} (r : Row A) where
     unfolding words_of rows_at rows_fit all_good
     rows-reads [] rest g = (refl, refl)
     rows-reads (a ∷ l) rest g =
-        let (g₁, g₂) = both (r.good a) (all_good r l) g in
+        let (g₁, g₂) = and_parts (r.good a) (all_good r l) g in
         let e = append_assoc (r.put a) (words_of r l) rest in
         let (v₁, f₁) = p.reads a (words_of r l ++ rest) g₁ in
         let (v₂, f₂) = rows-reads l rest g₂ in
@@ -268,8 +268,8 @@ module _ {A : Type 0} (r : Row A) where
     unfolding words_of rows_at rows_fit all_good
     rows-writes zero w f = (ap (λ (k : ℕ). drop k w) (zero-mul n), refl)
     rows-writes (suc m) w f =
-        let (f₁, f₂) = both (row_fits r.cells w) (rows_fit m r.cells (drop n w)) f in
+        let (f₁, f₂) = and_parts (row_fits r.cells w) (rows_fit m r.cells (drop n w)) f in
         let (v₁, g₁) = p.writes w f₁ in
         let (v₂, g₂) = rows-writes m (drop n w) f₂ in
         let d : drop (suc m * n) w ≡ drop (m * n) (drop n w) = ap (λ (k : ℕ). drop k w) (next m) ∙ sym (drop-drop (m * n) n w) in
-        (rw d (append_assoc (r.put (r.get w)) (words_of r (rows_at r m (drop n w))) (drop (m * n) (drop n w)) ∙ ap (λ t. r.put (r.get w) ++ t) v₂ ∙ v₁), join g₁ g₂)
+        (rw d (append_assoc (r.put (r.get w)) (words_of r (rows_at r m (drop n w))) (drop (m * n) (drop n w)) ∙ ap (λ t. r.put (r.get w) ++ t) v₂ ∙ v₁), and_from _ _ g₁ g₂)

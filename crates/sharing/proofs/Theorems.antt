@@ -7,7 +7,7 @@ use native.Mathlib.Omega.{arith}
 use lib.Dec.{ltb, eqb}
 use lib.ListN.{length-append}
 use borrow.Author.Tests.{ltb-true, ltb-false, le-ltb}
-use Rattle.model.proofs.Bools.{neither}
+use Rattle.std.proofs.lemmas.Bool.{or_parts}
 use Rattle.model.proofs.StoreLaws.{read-write}
 use Rattle.model.specs.Lists.{all}
 use Rattle.model.specs.Field.{unless}
@@ -80,7 +80,7 @@ module _ (img : List ℕ) where
   sixteen : too_many_steps (unshared.flatten_rules img) ≡ false → too_many_steps (flatten_rules img) ≡ false
   unfolding too_many_steps
   sixteen h =
-      let b = neither (ltb 2048 (steps_in (unshared.flatten_rules img))) (ltb 65536 (taken_in (unshared.flatten_rules img))) h in
+      let b = or_parts (ltb 2048 (steps_in (unshared.flatten_rules img))) (ltb 65536 (taken_in (unshared.flatten_rules img))) h in
       let l = ltb-false 2048 (steps_in (unshared.flatten_rules img)) b.0 in
       rw (le-ltb 2048 (steps_in (flatten_rules img)) (omega (arith, l, fewer)), taken, b.1)
 

@@ -7,6 +7,7 @@ use Rattle.std.specs.Prelude.{Option, None, Some}
 use lib.Dec.{leb, ltb}
 use lib.ListN.{length, set}
 use borrow.Author.Tests.{le-leb}
+use Rattle.std.proofs.lemmas.Bool.{and_parts}
 use Rattle.words.specs.Saturating.{max64}
 use Rattle.model.specs.Lists.{all}
 use Rattle.model.specs.Field.{unless}
@@ -23,7 +24,6 @@ use Rattle.model.specs.Activate.{Handled, no_outcome, activate}
 use Rattle.model.specs.declared.Mode.TheVariants.{Manual, Dry}
 use Rattle.model.specs.Wheel.{next_deadline, wall_poll, least}
 use Rattle.model.specs.Calls.{Call, new, load, unload, enable, tick, run, deadline, counters, Answer, refused, enabled, handled, due, Done, fresh, rest_with, rest_without, loading, call_load, call_unload, flipped, enabling, rule_in, call_enable, overflow, committing, committed, tick_with, run_rule, run_with, given, counters_of, call, effects_of, outcome_room, effect_room, answered}
-use Rattle.model.proofs.Bools.{both}
 use Rattle.sleeping.specs.Sleeping.{set_without_wall, due_times, before_all, with_minute, with_times, AgreeButTimes}
 use Rattle.sleeping.proofs.Runs.{SameHandled, silent-same, activate-same, strike-same}
 use Rattle.sleeping.proofs.Ticks.{minute_of, no-wall, tick-same}
@@ -143,7 +143,7 @@ call_same c s s' h a =
 all-front : {A : Type 0} (p : A → Bool) (xs ys : List A) → all p (xs ++ ys) ≡ true → (all p xs ≡ true) × (all p ys ≡ true)
 all-front p [] ys h = (refl, h)
 all-front p (x ∷ xs) ys h =
-    let b = both (p x) (all p (xs ++ ys)) h in
+    let b = and_parts (p x) (all p (xs ++ ys)) h in
     let r = all-front p xs ys b.1 in
     (rw (b.0, r.0), r.1)
 

@@ -5,6 +5,7 @@ use mathlib.Core.Bool.{Bool, true, false, cond, not, ◌&&◌, ◌||◌}
 use mathlib.Core.List.{List, [], ◌∷◌, ◌++◌}
 use Rattle.std.specs.Prelude.{Option, None, Some}
 use borrow.Author.Tests.{not-true}
+use Rattle.std.proofs.lemmas.Bool.{and_parts}
 use Rattle.model.specs.Lists.{all, any}
 use Rattle.model.specs.Rules.{triggers_of, rule_indices}
 use Rattle.model.specs.declared.WallTime.{WallTime}
@@ -13,7 +14,6 @@ use Rattle.model.specs.State.{Env, Rest, Volatile, with_rest, is_enabled}
 use Rattle.model.specs.Activate.{Handled, no_outcome, and_then, activate}
 use Rattle.model.specs.declared.Mode.TheVariants.{Auto}
 use Rattle.model.specs.Wheel.{due_now, not_due, resume_all, fire_continuations, activate_if_enabled, activate_each, due_timers, timers_due, every_due, week_minute, is_wall_trigger, has_wall_triggers, window_of, is_set_back, make_up, fire_window, fire_wall_at, fire_wall_schedules, fire_timers, fire_every, service_tick, by_timer, by_every, catch_up}
-use Rattle.model.proofs.Bools.{both}
 use Rattle.sleeping.specs.Sleeping.{no_wall_triggers, with_minute}
 use Rattle.sleeping.proofs.Runs.{SameHandled, silent-same, then_same, activate-same, resume-same}
 
@@ -60,7 +60,7 @@ module _ (m : Option ℕ) (e : Env) where
 none_of : {A : Type 0} (p q : A → Bool) (xs : List A) → all (λ x. not (q x)) xs ≡ true → any (λ x. p x && q x) xs ≡ false
 none_of p q [] h = refl
 none_of p q (x ∷ xs) h =
-    let b = both (not (q x)) (all (λ y. not (q y)) xs) h in
+    let b = and_parts (not (q x)) (all (λ y. not (q y)) xs) h in
     rw (not-true (q x) b.0) (off (p x) (none_of p q xs b.1))
   where
     off : (b : Bool) → any (λ y. p y && q y) xs ≡ false → (b && false) || any (λ y. p y && q y) xs ≡ false

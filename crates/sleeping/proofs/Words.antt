@@ -9,12 +9,12 @@ use lib.Dec.{leb, ltb, eqb}
 use lib.ListN.{length, get_or, get_or-append, get_or-eq_default}
 use lib.Seq.{get_or-append-add}
 use borrow.Author.Tests.{ltb-true, ltb-false, le-leb}
+use Rattle.std.proofs.lemmas.Bool.{and_parts, or_parts}
 use Rattle.model.specs.Layout.{sizes}
 use Rattle.model.specs.Codec.{word, wide, maybe, all_good, all, most}
 use Rattle.model.specs.Parts.{bit, variable_row, timer_row, slot_row, pending_row, Loaded, Changing, changing_part, loaded_part, layout}
 use Rattle.model.specs.State.{Store}
 use Rattle.model.specs.Store.{loaded_of, changing_of, parts_of, write, Keeps}
-use Rattle.model.proofs.Bools.{both, neither}
 use Rattle.model.proofs.RowLaws.{word_laws, wide_laws, maybe-laws, word_blank, wide-blank}
 use Rattle.model.proofs.CodecLaws.{all_laws, most-laws}
 use Rattle.model.proofs.PartsLaws.{variable-laws, timer-laws, slot_laws, pending-laws, loaded-laws, changing-laws}
@@ -68,12 +68,12 @@ front P n xs zs us e b = chain P n xs xs zs us e e (same P xs) b
 -- THE TWO PLACES ------------------------------------------------------------------------------------------------------------------
 last-hidden : (i : ℕ) → is_time_word i ≡ false → 2 ≤ i
 unfolding is_time_word
-last-hidden i h = ltb-false i 2 (neither (ltb i 2) (leb minute_at i && ltb i (2 + minute_at)) h).0
+last-hidden i h = ltb-false i 2 (or_parts (ltb i 2) (leb minute_at i && ltb i (2 + minute_at)) h).0
 
 minute-hidden : (i : ℕ) → is_time_word (minute_at + i) ≡ false → 2 ≤ i
 unfolding is_time_word
 minute-hidden i h =
-    let a = (neither (ltb (minute_at + i) 2) (leb minute_at (minute_at + i) && ltb (minute_at + i) (2 + minute_at)) h).1 in
+    let a = (or_parts (ltb (minute_at + i) 2) (leb minute_at (minute_at + i) && ltb (minute_at + i) (2 + minute_at)) h).1 in
     let b : leb minute_at (minute_at + i) ≡ true = le-leb minute_at (minute_at + i) (omega arith) in
     let c : ltb (minute_at + i) (2 + minute_at) ≡ false = rw b at a in
     let d = ltb-false (minute_at + i) (2 + minute_at) c in
@@ -89,13 +89,13 @@ changing-apart : (P : ℕ → Bool) (k : Option ℕ) (m : Changing) → changing
     → Apart P (changing_part.put (with_min k m)) (changing_part.put m)
 unfolding changing_part sizes
 changing-apart P k m g far =
-    let g1 = both (eqb (length m.bits) 64 && all_good bit m.bits) _ g in
-    let g2 = both (eqb (length m.activations) 64 && all_good (maybe wide) m.activations) _ g1.1 in
-    let g3 = both (eqb (length m.positions) 64 && all_good (maybe (word 15)) m.positions) _ g2.1 in
-    let g4 = both (leb (length m.variables) 16 && all_good variable_row m.variables) _ g3.1 in
-    let g5 = both (leb (length m.timers) 16 && all_good timer_row m.timers) _ g4.1 in
-    let g6 = both (leb (length m.slots) 64 && all_good slot_row m.slots) _ g5.1 in
-    let g7 = both (leb (length m.pending) 32 && all_good pending_row m.pending) _ g6.1 in
+    let g1 = and_parts (eqb (length m.bits) 64 && all_good bit m.bits) _ g in
+    let g2 = and_parts (eqb (length m.activations) 64 && all_good (maybe wide) m.activations) _ g1.1 in
+    let g3 = and_parts (eqb (length m.positions) 64 && all_good (maybe (word 15)) m.positions) _ g2.1 in
+    let g4 = and_parts (leb (length m.variables) 16 && all_good variable_row m.variables) _ g3.1 in
+    let g5 = and_parts (leb (length m.timers) 16 && all_good timer_row m.timers) _ g4.1 in
+    let g6 = and_parts (leb (length m.slots) 64 && all_good slot_row m.slots) _ g5.1 in
+    let g7 = and_parts (leb (length m.pending) 32 && all_good pending_row m.pending) _ g6.1 in
     front P 64 ((all 64 bit).put m.bits) _ _ ((all_laws 64 (word_laws 1)).long m.bits g1.0)
     (front _ 192 ((all 64 (maybe wide)).put m.activations) _ _ ((all_laws 64 (maybe-laws wide_laws wide-blank)).long m.activations g2.0)
     (front _ 128 ((all 64 (maybe (word 15))).put m.positions) _ _ ((all_laws 64 (maybe-laws (word_laws 15) (word_blank 15))).long m.positions g3.0)
@@ -122,13 +122,13 @@ changing-long m g = changing-laws.long m g
 changing-good : (s : Store) → Keeps s → changing_part.good (changing_of s.vol) ≡ true
 unfolding parts_of layout
 changing-good s h =
-    let g = both (ltb s.now (2 ^ 64)) _ h.room in
-    let l = both (loaded_part.good (loaded_of s.loaded)) _ g.1 in
-    (both (changing_part.good (changing_of s.vol)) true l.1).0
+    let g = and_parts (ltb s.now (2 ^ 64)) _ h.room in
+    let l = and_parts (loaded_part.good (loaded_of s.loaded)) _ g.1 in
+    (and_parts (changing_part.good (changing_of s.vol)) true l.1).0
 
 loaded-good : (s : Store) → Keeps s → loaded_part.good (loaded_of s.loaded) ≡ true
 unfolding parts_of layout
-loaded-good s h = let g = both (ltb s.now (2 ^ 64)) _ h.room in (both (loaded_part.good (loaded_of s.loaded)) _ g.1).0
+loaded-good s h = let g = and_parts (ltb s.now (2 ^ 64)) _ h.room in (and_parts (loaded_part.good (loaded_of s.loaded)) _ g.1).0
 
 pub write-apart : (t : ℕ) (k : Option ℕ) (s : Store) → Keeps s → Keeps (with_times t k s) → (i : ℕ) → is_time_word i ≡ false → get_or (write (with_times t k s)) i 0 ≡ get_or (write s) i 0
 unfolding write parts_of layout

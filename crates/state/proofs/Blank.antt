@@ -6,9 +6,9 @@ use mathlib.Core.List.{List, [], ◌∷◌}
 use Prim.Native.Nat.{ℕ, zero, suc, ◌<◌}
 use native.Mathlib.Omega.{arith}
 use lib.ListN.{length, get_or, replicate}
+use Rattle.std.proofs.lemmas.Bool.{and_parts}
 use Rattle.model.specs.Layout.{Part, fixed, part_fits, row_fits, rows_fit, zeros}
 use Rattle.model.specs.Codec.{rows_at}
-use Rattle.model.proofs.Bools.{both}
 use Rattle.words.specs.Pairs.{joined}
 use Rattle.state.specs.Cuts.{cut}
 use Rattle.state.specs.Meaning.{state_parts, part_sizes, state_words, Sound}
@@ -21,8 +21,8 @@ fits_all (q ∷ qs) (p ∷ ps) = part_fits q p && fits_all qs ps
 pub fit_at : (qs : List Part) (ps : List (List ℕ)) → fits_all qs ps ≡ true → (t : ℕ) → t < length qs → part_fits (get_or qs t (fixed 0 [])) (get_or ps t []) ≡ true
 fit_at [] ps f t h = absurd (omega arith)
 fit_at (q ∷ qs) [] f t h = absurd (false≢true f)
-fit_at (q ∷ qs) (p ∷ ps) f zero h = (both (part_fits q p) (fits_all qs ps) f).0
-fit_at (q ∷ qs) (p ∷ ps) f (suc t) h = fit_at qs ps (both (part_fits q p) (fits_all qs ps) f).1 t (omega arith)
+fit_at (q ∷ qs) (p ∷ ps) f zero h = (and_parts (part_fits q p) (fits_all qs ps) f).0
+fit_at (q ∷ qs) (p ∷ ps) f (suc t) h = fit_at qs ps (and_parts (part_fits q p) (fits_all qs ps) f).1 t (omega arith)
 
 abbrev blanks : List (List ℕ)
 blanks = cut part_sizes (replicate state_words 0)

@@ -9,6 +9,7 @@ use lib.ListN.{length, get_or, take, drop, set, length-set, length-drop}
 use lib.Seq.{drop-drop}
 use borrow.Author.Tests.{le-leb}
 use Rattle.std.specs.Prelude.{Option}
+use Rattle.std.proofs.lemmas.Bool.{and_from, and_parts}
 use Rattle.words.specs.Saturating.{saturating_add, max32}
 use Rattle.words.proofs.Laws.{add-at-most}
 use Rattle.model.specs.State.{raised_at}
@@ -18,7 +19,6 @@ use Rattle.model.specs.Layout.{row_fits, rows_fit, zeros, up_to}
 use Rattle.model.specs.Codec.{maybe, rows_at}
 use Rattle.model.specs.Parts.{any}
 use Rattle.model.specs.State.{with_rest, with_prev_week_min, bump_by}
-use Rattle.model.proofs.Bools.{both, join}
 use Rattle.rows.specs.Places.{laid, row_at, table_at}
 use Rattle.state.specs.Meaning.{place_of, part, week_part, counters_part, meaning, base, Sound, MeansSoundly}
 use Rattle.state.proofs.Frame.{shaped, part-is, part-long, changed-laid, counters-changed, week-changed}
@@ -78,10 +78,10 @@ word_fits : (m n : ℕ) (w : List ℕ) (i x : ℕ) → rows_fit n (up_to m ∷ [
 unfolding rows_fit row_fits zeros
 word_fits m zero w i x e h = refl
 word_fits m (suc n) [] i x e h = e
-word_fits m (suc n) (y ∷ w) zero x e h = join (join (join (le-leb x m h) (or-true (not (eqb x 0)))) refl) (both (row_fits (up_to m ∷ []) (y ∷ w)) (rows_fit n (up_to m ∷ []) w) e).1
+word_fits m (suc n) (y ∷ w) zero x e h = and_from _ _ (and_from _ _ (and_from _ _ (le-leb x m h) (or-true (not (eqb x 0)))) refl) (and_parts (row_fits (up_to m ∷ []) (y ∷ w)) (rows_fit n (up_to m ∷ []) w) e).1
 word_fits m (suc n) (y ∷ w) (suc i) x e h =
-    let b = both (row_fits (up_to m ∷ []) (y ∷ w)) (rows_fit n (up_to m ∷ []) w) e in
-    join b.0 (word_fits m n w i x b.1 h)
+    let b = and_parts (row_fits (up_to m ∷ []) (y ∷ w)) (rows_fit n (up_to m ∷ []) w) e in
+    and_from _ _ b.0 (word_fits m n w i x b.1 h)
 
 pub bumped : (w w' c d : List ℕ) (which by : ℕ) → Sound w → c ≡ table_at any 12 w (place_of counters_part) → d ≡ raised_at which by c → w' ≡ laid w (place_of counters_part) d
     → MeansSoundly w' (base w) (with_rest (bump_by which by (meaning w).rest) (meaning w))

@@ -7,9 +7,9 @@ use native.Mathlib.Nat.{add-zero, zero-mul}
 use native.Mathlib.Omega.{arith}
 use lib.ListN.{length, get_or, drop, set, length-set, drop_of_length-le, take-append-drop, get_or-map}
 use lib.Seq.{drop-drop}
+use Rattle.std.proofs.lemmas.Bool.{and_from}
 use Rattle.model.specs.Layout.{Part, fixed, size_of, part_fits, rows_fit}
 use Rattle.model.specs.Codec.{Row, rows_at, words_of, all_good}
-use Rattle.model.proofs.Bools.{join}
 use Rattle.model.proofs.RowLaws.{RowLaws, rows_long, rows-count, rows-reads, rows-writes}
 use Rattle.rows.specs.Places.{laid, row_at}
 use Rattle.state.specs.Meaning.{state_parts, place_of, words_in, part, Sound}
@@ -105,7 +105,7 @@ unfolding rows_fit
 one-fits r laws x g =
     let q = laws.reads x [] g in
     let z = append-nil (r.put x) in
-    (rw z at q.0, join (rw z at q.1) refl)
+    (rw z at q.0, and_from _ _ (rw z at q.1) refl)
 
 module _ {A : Type 0} (r : Row A) (laws : RowLaws r) (t : ℕ) (h : t < 15) (is : get_or state_parts t (fixed 0 []) ≡ fixed 1 r.cells) where
   pub one_at : (w : List ℕ) → Sound w → row_at r w (place_of t) ≡ r.get (part t w)

@@ -8,6 +8,7 @@ use native.Mathlib.Nat.{div-lt_iff_lt-mul}
 use native.Mathlib.Omega.{arith}
 use lib.ListN.{length, get_or, take, drop}
 use borrow.Author.Tests.{le-leb, lt-ltb}
+use Rattle.std.proofs.lemmas.Bool.{and_from}
 use Rattle.words.specs.Pairs.{high_of}
 use Rattle.model.specs.Codec.{Row, wide, ◌⊗◌, maybe, pad, Same, as_row}
 use Rattle.model.specs.Parts.{any, timer_row, jump_is, pending_is}
@@ -16,7 +17,6 @@ use Rattle.model.specs.Store.{variable_row_of}
 use Rattle.model.specs.declared.Variable.{Variable}
 use Rattle.model.specs.declared.VarValue.{VarValue}
 use Rattle.model.specs.declared.VarValue.TheVariants.{Int, Text}
-use Rattle.model.proofs.Bools.{join}
 use Rattle.rows.specs.Places.{laid}
 use Rattle.state.specs.Cuts.{Words}
 use Rattle.state.specs.Meaning.{pending_row}
@@ -51,7 +51,7 @@ pub wide-roomy : Roomy wide
 wide-roomy = record { fits = λ x h. lt-ltb x 18446744073709551616 (wide_fits x h.1.0) }
 
 pub ⊗-roomy : {A B : Type 0} {r : Row A} {s : Row B} → Roomy r → Roomy s → Roomy (r ⊗ s)
-⊗-roomy {r} {s} p q = record { fits = λ x h. join (p.fits x.0 (words-front (r.put x.0) (s.put x.1) h)) (q.fits x.1 (words_back (r.put x.0) (s.put x.1) h)) }
+⊗-roomy {r} {s} p q = record { fits = λ x h. and_from _ _ (p.fits x.0 (words-front (r.put x.0) (s.put x.1) h)) (q.fits x.1 (words_back (r.put x.0) (s.put x.1) h)) }
 
 pub pad-roomy : (n : ℕ) → Roomy (pad n)
 pad-roomy n = record { fits = λ x h. refl }
@@ -71,12 +71,12 @@ pending-roomy =
     as-roomy pending_is (⊗-roomy wide-roomy (⊗-roomy wide-roomy (⊗-roomy any-roomy (⊗-roomy any-roomy (⊗-roomy any-roomy (⊗-roomy (maybe-roomy (as-roomy jump_is (⊗-roomy any-roomy any-roomy))) (⊗-roomy any-roomy (⊗-roomy any-roomy (⊗-roomy wide-roomy (pad-roomy 1))))))))))
 
 pub timer-good : (name due : ℕ) → name < 4294967296 → due < 18446744073709551616 → timer_row.good (record { name = name; due = due }) ≡ true
-timer-good name due a b = join (le-leb name 4294967295 (omega arith)) (lt-ltb due 18446744073709551616 (omega arith))
+timer-good name due a b = and_from _ _ (le-leb name 4294967295 (omega arith)) (lt-ltb due 18446744073709551616 (omega arith))
 
 -- a variable's tag is 0 or 1
 pub variable-good : (x : Variable) → Words (variable_row.put (variable_row_of x)) → variable_row.good (variable_row_of x) ≡ true
 variable-good x h = by x.name x.value h
   where
     by : (name : ℕ) (v : VarValue) → Words (variable_row.put (variable_row_of (record { name = name; value = v }))) → variable_row.good (variable_row_of (record { name = name; value = v })) ≡ true
-    by name (Int n) h = join (any-roomy.fits name (h.0, tt)) (join refl (wide-roomy.fits n h.1.1))
-    by name (Text n) h = join (any-roomy.fits name (h.0, tt)) (join refl (wide-roomy.fits n h.1.1))
+    by name (Int n) h = and_from _ _ (any-roomy.fits name (h.0, tt)) (and_from _ _ refl (wide-roomy.fits n h.1.1))
+    by name (Text n) h = and_from _ _ (any-roomy.fits name (h.0, tt)) (and_from _ _ refl (wide-roomy.fits n h.1.1))

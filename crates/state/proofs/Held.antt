@@ -7,8 +7,8 @@ use native.Mathlib.Omega.{arith}
 use lib.Dec.{leb}
 use lib.ListN.{length, get_or, take, drop, length-append, take-append-drop}
 use lib.Seq.{drop-drop, get_or-drop, set-get_or, length-take-le}
+use Rattle.std.proofs.lemmas.Bool.{and_parts}
 use Rattle.model.specs.Codec.{Row, most, rows_at, all_good}
-use Rattle.model.proofs.Bools.{both}
 use Rattle.model.proofs.RowLaws.{RowLaws}
 use Rattle.model.proofs.CodecLaws.{most-laws}
 use Rattle.rows.specs.Places.{laid, row_at, table_at}
@@ -49,7 +49,7 @@ module _ {A : Type 0} (r : Row A) (laws : RowLaws r) (n : ℕ) where
     -- a row written over itself
     pub row_stays : laid p (1 + i * f) (r.put (get_or l i d)) ≡ p
     row_stays =
-        let good = good-at r laws l i d (both (leb (length l) n) (all_good r l) h.good).1 k in
+        let good = good-at r laws l i d (and_parts (leb (length l) n) (all_good r l) h.good).1 k in
         (holds-set r laws n p (laid p (1 + i * f) (r.put (get_or l i d))) l (get_or l i d) i h k good refl).words ∙ ap (most n r).put (set-get_or l i d) ∙ sym h.words
 
 -- other words over the first of some that were written

@@ -10,13 +10,13 @@ use lib.ListN.{length, get_or, take, drop, set, length-take, get_or-eq_default}
 use lib.Seq.{get_or-take, set_out, take-set-lt, take-take}
 use borrow.Author.Tests.{leb-true, ltb-true, ltb-false}
 use Rattle.std.proofs.lemmas.List.{take-map}
+use Rattle.std.proofs.lemmas.Bool.{and_parts}
 use Rattle.model.specs.Layout.{fixed, row_fits, rows_fit, zeros, up_to}
 use Rattle.model.specs.Codec.{Row, word, wide, maybe, rows_at}
 use Rattle.model.specs.Parts.{any}
 use Rattle.model.specs.State.{is_enabled, last_activation_at, cycle_pos_at, with_rest, with_enabled, with_last_activation, with_cycle_pos}
 use Rattle.model.specs.Store.{bit_of}
 use Rattle.model.specs.World.{is_one}
-use Rattle.model.proofs.Bools.{both}
 use Rattle.model.proofs.PartsLaws.{any_laws}
 use Rattle.model.proofs.RowLaws.{RowLaws, word_laws, wide_laws, maybe-laws, word_blank, wide-blank}
 use Rattle.model.proofs.StoreLaws.{bit-back}
@@ -32,7 +32,7 @@ use Rattle.state.proofs.Fixed.{fixed-at, fixed-set, rows_set, set_long, set-rows
 at_most : (m : ℕ) (p : List ℕ) → rows_fit 1 (up_to m ∷ []) p ≡ true → get_or p 0 0 ≤ m
 unfolding rows_fit row_fits zeros
 at_most m [] e = omega arith
-at_most m (x ∷ p) e = leb-true x m (both (leb x m) _ (both (leb x m && (not (eqb x 0) || true)) true (both _ _ e).0).0).0
+at_most m (x ∷ p) e = leb-true x m (and_parts (leb x m) _ (and_parts (leb x m && (not (eqb x 0) || true)) true (and_parts _ _ e).0).0).0
 
 module _ (w : List ℕ) (s : Sound w) where
   pub rules-few : rules_of w ≤ 64

@@ -11,6 +11,7 @@ use lib.Seq.{drop-append-le, drop-append_seam, get_or-take}
 use borrow.Author.Tests.{le-leb, lt-leb, lt-ltb}
 use borrow.Rule.Slice.PartMut.{put_mid}
 use Rattle.std.proofs.lemmas.List.{take-map}
+use Rattle.std.proofs.lemmas.Bool.{and_from}
 use Rattle.words.specs.Pairs.{low_of, high_of}
 use Rattle.words.specs.Saturating.{saturating_add, max64}
 use Rattle.words.proofs.Laws.{joined_words}
@@ -26,7 +27,6 @@ use Rattle.model.specs.Wheel.{not_due}
 use Rattle.model.specs.declared.Pending.{Pending}
 use Rattle.state.specs.declared.pending.Continuation.{Continuation}
 use Rattle.model.proofs.RowLaws.{RowLaws, wide_laws, ⊗-laws, as_row_laws, pad-laws}
-use Rattle.model.proofs.Bools.{join}
 use Rattle.model.proofs.PartsLaws.{any_laws, jump-laws}
 use Rattle.rows.specs.Places.{laid, row_at, table_at}
 use Rattle.rows.proofs.Writing.{one_set}
@@ -139,11 +139,11 @@ next-at w = sym (ap wide.get (part-is next_part (omega arith) w) ∙ both_words 
 -- a number of two words is written as a part
 pub wide_fits : (x : ℕ) → x ≤ max64 → (wide.get (wide.put x) ≡ x) × (rows_fit 1 wide.cells (wide.put x) ≡ true)
 unfolding rows_fit
-wide_fits x h = let q = wide_laws.reads x [] (lt-ltb x 18446744073709551616 (omega arith)) in (q.0, join q.1 refl)
+wide_fits x h = let q = wide_laws.reads x [] (lt-ltb x 18446744073709551616 (omega arith)) in (q.0, and_from _ _ q.1 refl)
 
 pub word_fits : (m x : ℕ) → x ≤ m → rows_fit 1 (up_to m ∷ []) (x ∷ []) ≡ true
 unfolding rows_fit row_fits zeros
-word_fits m x h = join (join (join (le-leb x m h) (or-true (not (eqb x 0)))) refl) refl
+word_fits m x h = and_from _ _ (and_from _ _ (and_from _ _ (le-leb x m h) (or-true (not (eqb x 0)))) refl) refl
 
 pub accepts-one : (w w' : List ℕ) (k : ℕ) → Sound w → k ≡ accepted w → k < max64 → w' ≡ laid w (place_of accepted_part) (wide.put (k + 1))
     → MeansSoundly w' (base w) (with_next (meaning w)) × (accepted w' ≡ suc k)

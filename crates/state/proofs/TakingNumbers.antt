@@ -10,13 +10,13 @@ use lib.ListN.{drop}
 use borrow.Author.Tests.{ltb-true, ltb-false, le-leb, lt-leb, eqb-true, eqb-false}
 use Rattle.std.specs.Prelude.{Option, None, Some}
 use Rattle.std.specs.Option.{SomeIff}
+use Rattle.std.proofs.lemmas.Bool.{and_parts}
 use Rattle.words.specs.Saturating.{saturating_add, max64}
 use Rattle.model.specs.Activate.{with_number}
 use Rattle.model.specs.Codec.{wide}
 use Rattle.model.specs.Layout.{row_fits, rows_fit}
 use Rattle.model.specs.State as model
 use Rattle.model.specs.State.{next_number}
-use Rattle.model.proofs.Bools.{both}
 use Rattle.model.proofs.RowLaws.{wide_laws}
 use Rattle.rows.specs.Places.{laid, row_at}
 use Rattle.state.specs.Cuts.{cut}
@@ -60,7 +60,7 @@ module _ (w : List ℕ) (s : Sound w) where
   unfolding rows_fit
   last-small =
       let p = part last_part w in
-      let g = (wide_laws.writes p (both (row_fits wide.cells p) true (s.parts.fit last_part (omega arith))).0).1 in
+      let g = (wide_laws.writes p (and_parts (row_fits wide.cells p) true (s.parts.fit last_part (omega arith))).0).1 in
       let less = ltb-true (wide.get p) 18446744073709551616 g in
       omega arith
 

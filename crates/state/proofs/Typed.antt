@@ -10,10 +10,10 @@ use lib.Dec.{leb, ltb}
 use lib.ListN.{length, get_or, take, drop, set, replicate, length-append, length-set, length-map, length-replicate, replicate-append-replicate, drop_of_length-le}
 use lib.Seq.{take_at, drop_at, set_split, split_at, length-take-le}
 use borrow.Author.Tests.{leb-true, ltb-true, ltb-false, le-leb, lt-leb}
+use Rattle.std.proofs.lemmas.Bool.{and_from, and_parts}
 use Rattle.model.specs.Layout.{counted, sizes, part_fits, parts_fit}
 use Rattle.model.specs.Codec.{Row, most, words_of, all_good}
 use Rattle.model.specs.Lists.{flatten, keep}
-use Rattle.model.proofs.Bools.{both, join}
 use Rattle.model.proofs.RowLaws.{RowLaws}
 use Rattle.model.proofs.RowLaws as row_laws
 use Rattle.model.proofs.CodecLaws.{most-laws, rest_of}
@@ -54,19 +54,19 @@ module _ {A : Type 0} (r : Row A) (laws : RowLaws r) where
   pub good-at : (l : List A) (i : ℕ) (d : A) → all_good r l ≡ true → i < length l → r.good (get_or l i d) ≡ true
   unfolding all_good
   good-at [] i d g h = absurd (omega arith)
-  good-at (x ∷ l) zero d g h = (both (r.good x) (all_good r l) g).0
-  good-at (x ∷ l) (suc i) d g h = good-at l i d (both (r.good x) (all_good r l) g).1 (omega arith)
+  good-at (x ∷ l) zero d g h = (and_parts (r.good x) (all_good r l) g).0
+  good-at (x ∷ l) (suc i) d g h = good-at l i d (and_parts (r.good x) (all_good r l) g).1 (omega arith)
 
   pub good-set : (l : List A) (i : ℕ) (x : A) → all_good r l ≡ true → r.good x ≡ true → all_good r (set l i x) ≡ true
   unfolding all_good
   good-set [] i x a b = a
-  good-set (y ∷ l) zero x a b = join b (both (r.good y) (all_good r l) a).1
-  good-set (y ∷ l) (suc i) x a b = let h = both (r.good y) (all_good r l) a in join h.0 (good-set l i x h.1 b)
+  good-set (y ∷ l) zero x a b = and_from _ _ b (and_parts (r.good y) (all_good r l) a).1
+  good-set (y ∷ l) (suc i) x a b = let h = and_parts (r.good y) (all_good r l) a in and_from _ _ h.0 (good-set l i x h.1 b)
 
   pub good-append : (l k : List A) → all_good r l ≡ true → all_good r k ≡ true → all_good r (l ++ k) ≡ true
   unfolding all_good
   good-append [] k a b = b
-  good-append (x ∷ l) k a b = let h = both (r.good x) (all_good r l) a in join h.0 (good-append l k h.1 b)
+  good-append (x ∷ l) k a b = let h = and_parts (r.good x) (all_good r l) a in and_from _ _ h.0 (good-append l k h.1 b)
 
   pub row_read : (l : List A) (rest : List ℕ) (i : ℕ) (d : A) → all_good r l ≡ true → i < length l → r.get (drop (i * f) (words_of r l ++ rest)) ≡ get_or l i d
   row_read l rest i d g h =
@@ -104,7 +104,7 @@ module _ {A : Type 0} (r : Row A) (laws : RowLaws r) where
 
     -- reading and writing
     pub good-few : (l : List A) → (most n r).good l ≡ true → length l ≤ n
-    good-few l g = leb-true (length l) n (both _ _ g).0
+    good-few l g = leb-true (length l) n (and_parts _ _ g).0
 
     pub put-long : (l : List A) → (most n r).good l ≡ true → length ((most n r).put l) ≡ 1 + n * f
     unfolding sizes
@@ -118,7 +118,7 @@ module _ {A : Type 0} (r : Row A) (laws : RowLaws r) where
       unfolding parts_fit
       holds-fit =
           let e = subst (λ (w : List ℕ). parts_fit (most n r).parts w ≡ true) (append-nil ((most n r).put l)) ((most-laws n laws).reads l [] h.good).1 in
-          rw h.words (both (part_fits (counted n r.cells) ((most n r).put l)) true e).0
+          rw h.words (and_parts (part_fits (counted n r.cells) ((most n r).put l)) true e).0
 
       pub holds-long : length p ≡ 1 + n * f
       holds-long = ap length h.words ∙ put-long l h.good
@@ -147,7 +147,7 @@ module _ {A : Type 0} (r : Row A) (laws : RowLaws r) where
     pub fit-holds : (p : List ℕ) → part_fits (counted n r.cells) p ≡ true → length p ≡ 1 + n * f → Counted n r p
     unfolding parts_fit sizes
     fit-holds p e l =
-        let w = (most-laws n laws).writes p (join e refl) in
+        let w = (most-laws n laws).writes p (and_from _ _ e refl) in
         let z : drop (1 + n * f + 0) p ≡ [] = drop_of_length-le p {i = 1 + n * f + 0} (omega arith) in
         record { words = sym w.0 ∙ ap (λ (x : List ℕ). (most n r).put ((most n r).get p) ++ x) z ∙ append-nil ((most n r).put ((most n r).get p)); good = w.1 }
 
@@ -163,13 +163,13 @@ module _ {A : Type 0} (r : Row A) (laws : RowLaws r) where
 
       good-cond : (b : Bool) (x : A) (l : List A) → r.good x ≡ true → all_good r l ≡ true → all_good r (cond b (x ∷ l) l) ≡ true
       unfolding all_good
-      good-cond true x l a b = join a b
+      good-cond true x l a b = and_from _ _ a b
       good-cond false x l a b = b
 
       good-keep : (l : List A) → all_good r l ≡ true → all_good r (keep test l) ≡ true
       unfolding all_good
       good-keep [] g = refl
-      good-keep (x ∷ l) g = let h = both (r.good x) (all_good r l) g in good-cond (test x) x (keep test l) h.0 (good-keep l h.1)
+      good-keep (x ∷ l) g = let h = and_parts (r.good x) (all_good r l) g in good-cond (test x) x (keep test l) h.0 (good-keep l h.1)
 
       few-cond : (b : Bool) (x : A) (l : List A) (m : ℕ) → length l ≤ m → length (cond b (x ∷ l) l) ≤ suc m
       few-cond true x l m h = omega arith
@@ -187,7 +187,7 @@ module _ {A : Type 0} (r : Row A) (laws : RowLaws r) where
           let z : length p - 1 ≡ n * f = omega (arith, holds-long p l h) in
           record {
             words = e ∙ rw (z, holds_rows p l h, keep-rows l) (table-of (keep test l) (omega arith));
-            good = join (le-leb (length (keep test l)) n (omega arith)) (good-keep l (both (leb (length l) n) (all_good r l) h.good).1);
+            good = and_from _ _ (le-leb (length (keep test l)) n (omega arith)) (good-keep l (and_parts (leb (length l) n) (all_good r l) h.good).1);
           }
 
     -- A ROW MORE
@@ -220,7 +220,7 @@ module _ {A : Type 0} (r : Row A) (laws : RowLaws r) where
         let d : length (l ++ (x ∷ [])) ≡ length l + 1 = length-append l (x ∷ []) in
         record {
           words = join-words p p₁ l x m h e k b;
-          good = join (le-leb (length (l ++ (x ∷ []))) n (omega arith)) (good-append l (x ∷ []) (both (leb (length l) n) (all_good r l) h.good).1 (join g refl));
+          good = and_from _ _ (le-leb (length (l ++ (x ∷ []))) n (omega arith)) (good-append l (x ∷ []) (and_parts (leb (length l) n) (all_good r l) h.good).1 (and_from _ _ g refl));
         }
 
     pub has-room : (p : List ℕ) (l : List A) → Holds n r p l → n ≤ 64 → 1 + n * f ≤ 16384 → length l < n → HasRoom f p
@@ -243,7 +243,7 @@ module _ {A : Type 0} (r : Row A) (laws : RowLaws r) where
               b ∙ ap (λ (z : List ℕ). laid z (1 + i * f) (r.put x)) h.words
               ∙ row_laid (length l ∷ []) l (replicate ((n - length l) * f) 0) i (1 + i * f) x refl k
               ∙ ap (λ (j : ℕ). j ∷ (words_of r (set l i x) ++ replicate ((n - j) * f) 0)) (sym m);
-          good = join (le-leb (length (set l i x)) n (omega (arith, m, holds-few p l h))) (good-set l i x (both (leb (length l) n) (all_good r l) h.good).1 g);
+          good = and_from _ _ (le-leb (length (set l i x)) n (omega (arith, m, holds-few p l h))) (good-set l i x (and_parts (leb (length l) n) (all_good r l) h.good).1 g);
         }
 
     -- behind the others, where there is room: b says whether there is

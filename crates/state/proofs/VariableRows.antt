@@ -13,6 +13,7 @@ use borrow.Rule.Slice.PartMut.{put_mid}
 use mir.Val.{Val}
 use denote.Laws.{Is}
 use denote.Enum.Declared.{row}
+use Rattle.std.proofs.lemmas.Bool.{and_from, and_parts}
 use Rattle.model.specs.Codec.{most, rows_at}
 use Rattle.model.specs.Parts.{variable_row}
 use Rattle.model.specs.Lists.{present, find, all}
@@ -22,7 +23,6 @@ use Rattle.model.specs.Store.{variable_of, variable_row_of, text_short}
 use Rattle.model.specs.declared.Variable.{Variable}
 use Rattle.model.specs.declared.VarValue.{VarValue}
 use Rattle.model.specs.declared.VarValue.TheVariants.{Int, Text}
-use Rattle.model.proofs.Bools.{both, join}
 use Rattle.model.proofs.PartsLaws.{variable-laws}
 use Rattle.model.specs.contracts.VarValue.{the_type}
 use Rattle.rows.specs.Places.{laid, table_at}
@@ -78,13 +78,13 @@ module _ (name : ℕ) (x : R) where
 
   -- texts stay numbers of one word
   short-cond : (b : Bool) (y : R) (l m : List R) → text_short x ≡ true → text_short y ≡ true → all text_short l ≡ true → all text_short m ≡ true → all text_short (cond b (x ∷ l) (y ∷ m)) ≡ true
-  short-cond true y l m p q h k = join p h
-  short-cond false y l m p q h k = join q k
+  short-cond true y l m p q h k = and_from _ _ p h
+  short-cond false y l m p q h k = and_from _ _ q k
 
   short-put : (l : List R) → text_short x ≡ true → all text_short l ≡ true → all text_short (put_row name x l) ≡ true
-  short-put [] p h = join p refl
+  short-put [] p h = and_from _ _ p refl
   short-put (y ∷ l) p h =
-      let q = both (text_short y) (all text_short l) h in
+      let q = and_parts (text_short y) (all text_short l) h in
       short-cond (has_name name y) y l (put_row name x l) p q.0 q.1 (short-put l p q.1)
 
   either : (b : Bool) (l m : List R) → all text_short l ≡ true → all text_short m ≡ true → all text_short (cond b l m) ≡ true
@@ -114,7 +114,7 @@ code-rows (suc n) v = ap (λ (l : List Variable). short_variable_of (variable_ro
 short-rows : (l : List R) → all text_short l ≡ true → map short_variable_of l ≡ map variable_of l
 short-rows [] h = refl
 short-rows (y ∷ l) h =
-    let q = both (text_short y) (all text_short l) h in
+    let q = and_parts (text_short y) (all text_short l) h in
     rw (short-is y q.0, short-rows l q.1)
 
 -- the rows of a table, read behind its count

@@ -11,6 +11,7 @@ use lib.Dec.{leb, eqb}
 use lib.ListN.{length, get_or, take, drop, length-append, drop_of_length-le}
 use lib.Seq.{take_at, drop_at}
 use borrow.Author.Tests.{leb-true, ltb-true, eqb-true}
+use Rattle.std.proofs.lemmas.Bool.{and_from, and_parts}
 use Rattle.model.specs.Layout.{row_fits, rows_fit}
 use Rattle.model.specs.Codec.{Row, word, wide, maybe, all, most, words_of, all_good}
 use Rattle.model.specs.Lists.{flatten}
@@ -19,7 +20,6 @@ use Rattle.model.specs.Parts.{any, bit, variable_row, timer_row, slot_row, Chang
 use Rattle.model.specs.Parts as parts
 use Rattle.model.specs.Store.{filled, variable_of, text_short, volatile_in}
 use Rattle.model.specs.World.{is_one}
-use Rattle.model.proofs.Bools.{both, join}
 use Rattle.model.proofs.PartsLaws.{any_laws, variable-laws, timer-laws, slot_laws}
 use Rattle.model.proofs.RowLaws.{RowLaws, word_laws, wide_laws, wide-blank, word_blank, maybe-laws, rows_long, rows-reads}
 use Rattle.state.specs.Cuts.{cut, sum}
@@ -55,7 +55,7 @@ bit-words (x ∷ l) = ap (λ (t : List ℕ). x ∷ t) (bit-words l)
 -- one row alone
 one-fit : {A : Type 0} (r : Row A) → RowLaws r → (a : A) → r.good a ≡ true → rows_fit 1 r.cells (r.put a) ≡ true
 unfolding rows_fit
-one-fit r laws a g = let f : row_fits r.cells (r.put a) ≡ true = rw append-nil at (laws.reads a [] g).1 in join f refl
+one-fit r laws a g = let f : row_fits r.cells (r.put a) ≡ true = rw append-nil at (laws.reads a [] g).1 in and_from _ _ f refl
 
 one-get : {A : Type 0} (r : Row A) → RowLaws r → (a : A) → r.good a ≡ true → r.get (r.put a) ≡ a
 one-get r laws a g = rw append-nil at (laws.reads a [] g).0
@@ -87,20 +87,20 @@ pub record Good (m : Changing) : Type 0 where
 pub good_of : (m : Changing) → changing_part.good m ≡ true → Good m
 unfolding changing_part
 good_of m g =
-    let (b, g₁) = both ((all 64 bit).good m.bits) _ g in
-    let (a, g₂) = both ((all 64 (maybe wide)).good m.activations) _ g₁ in
-    let (p, g₃) = both ((all 64 (maybe (word 15))).good m.positions) _ g₂ in
-    let (v, g₄) = both ((most 16 variable_row).good m.variables) _ g₃ in
-    let (t, g₅) = both ((most 16 timer_row).good m.timers) _ g₄ in
-    let (s, g₆) = both ((most 64 slot_row).good m.slots) _ g₅ in
-    let (c, g₇) = both ((most 32 parts.pending_row).good m.pending) _ g₆ in
-    let (w, g₈) = both ((maybe (word 10079)).good m.prev_week_min) _ g₇ in
-    let (n, g₉) = both (wide.good m.next) _ g₈ in
-    let (l, k) = both (wide.good m.last_number) ((all 12 any).good m.counters) g₉ in
-    let (bl, bg) = both (eqb (length m.bits) 64) (all_good bit m.bits) b in
-    let (al, ag) = both (eqb (length m.activations) 64) (all_good (maybe wide) m.activations) a in
-    let (pl, pg) = both (eqb (length m.positions) 64) (all_good (maybe (word 15)) m.positions) p in
-    let (kl, kg) = both (eqb (length m.counters) 12) (all_good any m.counters) k in
+    let (b, g₁) = and_parts ((all 64 bit).good m.bits) _ g in
+    let (a, g₂) = and_parts ((all 64 (maybe wide)).good m.activations) _ g₁ in
+    let (p, g₃) = and_parts ((all 64 (maybe (word 15))).good m.positions) _ g₂ in
+    let (v, g₄) = and_parts ((most 16 variable_row).good m.variables) _ g₃ in
+    let (t, g₅) = and_parts ((most 16 timer_row).good m.timers) _ g₄ in
+    let (s, g₆) = and_parts ((most 64 slot_row).good m.slots) _ g₅ in
+    let (c, g₇) = and_parts ((most 32 parts.pending_row).good m.pending) _ g₆ in
+    let (w, g₈) = and_parts ((maybe (word 10079)).good m.prev_week_min) _ g₇ in
+    let (n, g₉) = and_parts (wide.good m.next) _ g₈ in
+    let (l, k) = and_parts (wide.good m.last_number) ((all 12 any).good m.counters) g₉ in
+    let (bl, bg) = and_parts (eqb (length m.bits) 64) (all_good bit m.bits) b in
+    let (al, ag) = and_parts (eqb (length m.activations) 64) (all_good (maybe wide) m.activations) a in
+    let (pl, pg) = and_parts (eqb (length m.positions) 64) (all_good (maybe (word 15)) m.positions) p in
+    let (kl, kg) = and_parts (eqb (length m.counters) 12) (all_good any m.counters) k in
     record {
       bits_long = eqb-true _ _ bl;
       bits = bg;
@@ -167,20 +167,20 @@ module _ (m : Changing) (g : Good m) (n : ℕ) (h : n ≤ 64) where
 
   fit : fits_all state_parts (pieces n m) ≡ true
   fit =
-      join (ruled-fit bit (word_laws 1) 0 refl refl n h m.bits g.bits_long g.bits)
-      (join (ruled-fit (maybe wide) activations-laws None refl refl n h m.activations g.activations_long g.activations)
-      (join (ruled-fit (maybe any) positions-laws None refl refl n h m.positions g.positions_long g.positions)
-      (join (holds-fit variable_row variable-laws 16 _ m.variables (record { words = refl; good = g.variables }))
-      (join (holds-fit timer_row timer-laws 16 _ m.timers (record { words = refl; good = g.timers }))
-      (join (holds-fit slot_row slot_laws 64 _ m.slots (record { words = refl; good = g.slots }))
-      (join (holds-fit pending_row pending-laws 32 _ m.pending (record { words = refl; good = g.pending }))
-      (join (one-fit (maybe any) positions-laws m.prev_week_min g.week)
-      (join (one-fit wide wide_laws m.next g.next)
-      (join (one-fit wide wide_laws m.last_number g.last)
-      (join counters-fit (join (word_fits 32 (length m.pending) few) (join (one-fit wide wide_laws 0 refl) (join (one-fit wide wide_laws 0 refl) (join (word_fits 64 n h) refl))))))))))))))
+      and_from _ _ (ruled-fit bit (word_laws 1) 0 refl refl n h m.bits g.bits_long g.bits)
+      (and_from _ _ (ruled-fit (maybe wide) activations-laws None refl refl n h m.activations g.activations_long g.activations)
+      (and_from _ _ (ruled-fit (maybe any) positions-laws None refl refl n h m.positions g.positions_long g.positions)
+      (and_from _ _ (holds-fit variable_row variable-laws 16 _ m.variables (record { words = refl; good = g.variables }))
+      (and_from _ _ (holds-fit timer_row timer-laws 16 _ m.timers (record { words = refl; good = g.timers }))
+      (and_from _ _ (holds-fit slot_row slot_laws 64 _ m.slots (record { words = refl; good = g.slots }))
+      (and_from _ _ (holds-fit pending_row pending-laws 32 _ m.pending (record { words = refl; good = g.pending }))
+      (and_from _ _ (one-fit (maybe any) positions-laws m.prev_week_min g.week)
+      (and_from _ _ (one-fit wide wide_laws m.next g.next)
+      (and_from _ _ (one-fit wide wide_laws m.last_number g.last)
+      (and_from _ _ counters-fit (and_from _ _ (word_fits 32 (length m.pending) few) (and_from _ _ (one-fit wide wide_laws 0 refl) (and_from _ _ (one-fit wide wide_laws 0 refl) (and_from _ _ (word_fits 64 n h) refl))))))))))))))
     where
       few : length m.pending ≤ 32
-      few = leb-true _ _ (both (leb (length m.pending) 32) (all_good pending_row m.pending) g.pending).0
+      few = leb-true _ _ (and_parts (leb (length m.pending) 32) (all_good pending_row m.pending) g.pending).0
 
       counters-fit : rows_fit 12 any.cells (words_of any m.counters) ≡ true
       counters-fit =

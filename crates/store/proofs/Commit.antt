@@ -11,6 +11,7 @@ use lib.Dec.{leb}
 use lib.ListN.{length, take, drop, drop_of_length-le}
 use lib.Seq.{length-take-le}
 use borrow.Author.Tests.{leb-true}
+use Rattle.std.proofs.lemmas.Bool.{and_parts}
 use Rattle.words.specs.Saturating.{max64}
 use Rattle.model.specs.Layout.{rows_fit, row_fits, up_to}
 use Rattle.model.specs.declared.Cell.{Cell}
@@ -20,7 +21,6 @@ use Rattle.model.specs.Parts.{any, bit, variable_row, timer_row, slot_row, chang
 use Rattle.model.specs.Parts as parts
 use Rattle.model.specs.Store.{changing_of, filled, bit_of, variable_of, variable_row_of}
 use Rattle.model.specs.World.{is_one}
-use Rattle.model.proofs.Bools.{both}
 use Rattle.model.proofs.PartsLaws.{variable-laws, timer-laws, slot_laws}
 use Rattle.model.proofs.RowLaws.{RowLaws, word_laws, wide_laws, rows-writes}
 use Rattle.rows.specs.Places.{laid}
@@ -43,13 +43,13 @@ use Rattle.store.proofs.Wider.{word-wider, maybe-wider, pending-wider, words-wid
 one-row : {A : Type 0} (r : Row A) → RowLaws r → (p : List ℕ) → rows_fit 1 r.cells p ≡ true → length p ≡ length r.cells → p ≡ r.put (r.get p)
 unfolding rows_fit
 one-row r laws p f l =
-    let w = (laws.writes p (both (row_fits r.cells p) true f).0).0 in
+    let w = (laws.writes p (and_parts (row_fits r.cells p) true f).0).0 in
     let z : drop (length r.cells) p ≡ [] = drop_of_length-le p {i = length r.cells} (omega arith) in
     sym w ∙ ap (λ (x : List ℕ). r.put (r.get p) ++ x) z ∙ append-nil (r.put (r.get p))
 
 one-fits : (cs : List Cell) (p : List ℕ) → rows_fit 1 cs p ≡ true → row_fits cs p ≡ true
 unfolding rows_fit
-one-fits cs p f = (both (row_fits cs p) true f).0
+one-fits cs p f = (and_parts (row_fits cs p) true f).0
 
 bit-rows : (n : ℕ) (p : List ℕ) → length p ≡ n → rows_at bit n p ≡ p
 unfolding rows_at
@@ -94,7 +94,7 @@ module _ (v : List ℕ) (s : Sound v) where
   variables-are =
       let h = table-part variable_row variable-laws variables_part 16 (omega arith) refl v s in
       let l = (most 16 variable_row).get (part variables_part v) in
-      h.words ∙ ap (most 16 variable_row).put (sym (rows_back l (both (leb (length l) 16) (all_good variable_row l) h.good).1))
+      h.words ∙ ap (most 16 variable_row).put (sym (rows_back l (and_parts (leb (length l) 16) (all_good variable_row l) h.good).1))
 
   -- every record holds its number, none was accepted, and the last activation number has 64 bits
   module _ (numbers : stored_count v ≡ pending_count v) (none-new : accepted v ≡ 0) (last_Fits : (meaning v).last_number ≤ max64) where

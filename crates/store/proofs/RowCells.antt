@@ -13,7 +13,8 @@ use borrow.Author.Tests.{le-leb, lt-leb, ne_eqb, eqb-true}
 use Rattle.std.specs.Prelude.{count_by}
 use Rattle.std.specs.List.{list_all, range_with_len, enumerate_from}
 use Rattle.std.proofs.lemmas.List.Folds.{sum_by-zero}
-use Rattle.model.proofs.Bools.{both, or-true}
+use Rattle.std.proofs.lemmas.Bool.{and_parts}
+use Rattle.model.proofs.Bools.{or-true}
 use Rattle.model.proofs.RowLaws.{zeros-append}
 use Rattle.model.specs.Layout as layout
 use Rattle.model.specs.Layout.{zeros, row_fits, rows_fit}
@@ -87,8 +88,8 @@ unfolding row_fits zeros
 free-row [] w free l small = refl
 free-row (c ∷ cs) [] free l small = absurd (not-suc-le-zero l)
 free-row (c ∷ cs) (x ∷ w) free l small =
-    let (f, fs) = both _ _ free in
-    let (m, v) = both _ _ f in
+    let (f, fs) = and_parts _ _ free in
+    let (m, v) = and_parts _ _ f in
     let em : c.most ≡ 4294967295 = eqb-true c.most 4294967295 m in
     let ev : c.void ≡ 0 = eqb-true c.void 0 v in
     rw (em, ev, le-leb x 4294967295 (small 0), or-true (not (eqb x 0))) (free-row cs w fs (le_of_suc-le-suc l) (λ i. small (suc i)))
@@ -111,8 +112,8 @@ unfolding row_fits zeros
 void-row [] w void = refl
 void-row (c ∷ cs) [] void = refl
 void-row (c ∷ cs) (x ∷ w) void =
-    let (f, fs) = both _ _ void in
-    let (m, v) = both _ _ f in
+    let (f, fs) = and_parts _ _ void in
+    let (m, v) = and_parts _ _ f in
     let em : c.most ≡ 0 = eqb-true c.most 0 m in
     let ev : c.void ≡ 0 = eqb-true c.void 0 v in
     rw (em, ev, most-zero x, or-true (not (eqb x 0)), and-true (eqb x 0), void-row cs w fs)

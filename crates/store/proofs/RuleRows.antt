@@ -7,10 +7,10 @@ use native.Mathlib.Nat.{add_comm, zero-mul, suc-mul}
 use native.Mathlib.Omega.{arith}
 use lib.ListN.{length, take, drop, replicate, length-append, length-replicate, replicate-append-replicate, take-append-drop, drop_of_length-le}
 use lib.Seq.{take_at, drop_at, drop-drop, length-take-le}
+use Rattle.std.proofs.lemmas.Bool.{and_from, and_parts}
 use Rattle.model.specs.Layout.{zeros, rows_fit}
 use Rattle.model.specs.Codec.{Row, rows_at, words_of, all_good}
 use Rattle.model.specs.Store.{filled}
-use Rattle.model.proofs.Bools.{both, join}
 use Rattle.model.proofs.CodecLaws.{rest_of}
 use Rattle.model.proofs.RowLaws.{RowLaws, zeros-written, zeros-back, rows-count, rows_long, rows-reads, rows-writes}
 use Rattle.rows.proofs.Writing.{Long, words_append}
@@ -36,13 +36,13 @@ module _ {A : Type 0} (r : Row A) (laws : RowLaws r) (b : A) (blank : r.put b �
   fill-good : (m : ℕ) → all_good r (replicate m b) ≡ true
   unfolding all_good
   fill-good zero = refl
-  fill-good (suc m) = join good (fill-good m)
+  fill-good (suc m) = and_from _ _ good (fill-good m)
 
   pub good-take : (n : ℕ) (l : List A) → all_good r l ≡ true → all_good r (take n l) ≡ true
   unfolding all_good
   good-take zero l g = refl
   good-take (suc n) [] g = refl
-  good-take (suc n) (x ∷ l) g = let (a, c) = both (r.good x) (all_good r l) g in join a (good-take n l c)
+  good-take (suc n) (x ∷ l) g = let (a, c) = and_parts (r.good x) (all_good r l) g in and_from _ _ a (good-take n l c)
 
   module _ (n : ℕ) (h : n ≤ 64) where
     -- the rows of n rules of l, filled up

@@ -8,10 +8,10 @@ use native.Mathlib.Omega.{arith}
 use lib.Dec.{leb}
 use lib.ListN.{length, replicate, length-append}
 use borrow.Author.Tests.{leb-true, le-leb}
+use Rattle.std.proofs.lemmas.Bool.{and_from, and_parts}
 use Rattle.model.specs.Codec.{Row, word, ◌⊗◌, maybe, pad, Same, as_row, wide, words_of, all_good, most}
 use Rattle.model.specs.Parts as parts
 use Rattle.model.specs.Parts.{any, jump_row, pending_is}
-use Rattle.model.proofs.Bools.{both, join}
 use Rattle.state.specs.Meaning.{pending_row}
 
 pub record Wider {A : Type 0} (r q : Row A) : Type 0 where
@@ -30,7 +30,7 @@ behind-wider r {s} {q} h =
     record {
       long = lengths r.cells s.cells q.cells h.long;
       put = λ a. ap (λ (x : List ℕ). r.put a.0 ++ x) (h.put a.1);
-      good = λ a g. let (x, y) = both (r.good a.0) (s.good a.1) g in join x (h.good a.1 y);
+      good = λ a g. let (x, y) = and_parts (r.good a.0) (s.good a.1) g in and_from _ _ x (h.good a.1 y);
     }
   where
     lengths : {C : Type 0} (xs ys zs : List C) → length ys ≡ length zs → length (xs ++ ys) ≡ length (xs ++ zs)
@@ -42,7 +42,7 @@ first-wider s {r} {q} h =
     record {
       long = lengths r.cells q.cells s.cells h.long;
       put = λ a. ap (λ (x : List ℕ). x ++ s.put a.1) (h.put a.0);
-      good = λ a g. let (x, y) = both (r.good a.0) (s.good a.1) g in join (h.good a.0 x) y;
+      good = λ a g. let (x, y) = and_parts (r.good a.0) (s.good a.1) g in and_from _ _ (h.good a.0 x) y;
     }
   where
     lengths : {C : Type 0} (xs ys zs : List C) → length xs ≡ length ys → length (xs ++ zs) ≡ length (ys ++ zs)
@@ -80,10 +80,10 @@ module _ {A : Type 0} (r q : Row A) (h : Wider r q) where
   pub good-wider : (l : List A) → all_good r l ≡ true → all_good q l ≡ true
   unfolding all_good
   good-wider [] g = refl
-  good-wider (a ∷ l) g = let (x, y) = both (r.good a) (all_good r l) g in join (h.good a x) (good-wider l y)
+  good-wider (a ∷ l) g = let (x, y) = and_parts (r.good a) (all_good r l) g in and_from _ _ (h.good a x) (good-wider l y)
 
   pub most-wider : (n : ℕ) (l : List A) → (most n r).put l ≡ (most n q).put l
   most-wider n l = let e = words-wider l in λ i. length l ∷ (e i ++ replicate ((n - length l) * h.long i) 0)
 
   pub most-good : (n : ℕ) (l : List A) → (most n r).good l ≡ true → (most n q).good l ≡ true
-  most-good n l g = let (x, y) = both (leb (length l) n) (all_good r l) g in join x (good-wider l y)
+  most-good n l g = let (x, y) = and_parts (leb (length l) n) (all_good r l) g in and_from _ _ x (good-wider l y)

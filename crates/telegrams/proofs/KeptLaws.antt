@@ -6,9 +6,9 @@ use Rattle.std.specs.Prelude.{Option, None, Some}
 use Prim.Native.Nat.{ℕ, zero, suc}
 use borrow.Author.Tests.{eqb-true}
 use lib.Dec.{eqb}
+use Rattle.std.proofs.lemmas.Bool.{and_parts}
 use Rattle.model.specs.Lists.{present}
 use Rattle.model.specs.declared.Effect.{Effect}
-use Rattle.model.proofs.Bools.{both}
 use Rattle.model.proofs.TestLaws.{by}
 use Rattle.model.specs.Telegrams.{is_level, cuts, sets, cutting, stretch, later, Setting, setting, last_set}
 use Rattle.telegrams.specs.Recursion.{is_set, set_again, kept_head, keep_last}
@@ -27,11 +27,11 @@ level-not-cut x e = rw (eqb-true x.kind 12 e)
 
 pub again-level : (x : Effect) (xs : List Effect) → set_again x xs ≡ true → is_level x ≡ true
 unfolding set_again
-again-level x xs e = (both (is_level x) (is_set zero x.a xs) e).0
+again-level x xs e = (and_parts (is_level x) (is_set zero x.a xs) e).0
 
 pub again-set : (x : Effect) (xs : List Effect) → set_again x xs ≡ true → is_set zero x.a xs ≡ true
 unfolding set_again
-again-set x xs e = (both (is_level x) (is_set zero x.a xs) e).1
+again-set x xs e = (and_parts (is_level x) (is_set zero x.a xs) e).1
 
 -- THE SAME CUTS
 
@@ -58,7 +58,7 @@ adds-nothing : (t : ℕ) (x : Effect) (xs : List Effect) → set_again x xs ≡ 
 unfolding setting is_set sets
 adds-nothing t x xs e =
     by (sets t x)
-    (λ q. later-present (setting t x) (last_set t (stretch zero xs)) (rw (eqb-true x.a t (both (is_level x) (eqb x.a t) q).1) at (again-set x xs e)))
+    (λ q. later-present (setting t x) (last_set t (stretch zero xs)) (rw (eqb-true x.a t (and_parts (is_level x) (eqb x.a t) q).1) at (again-set x xs e)))
     (λ q. rw q (later-none (last_set t (stretch zero xs))))
 
 pub same-lamps : (l : List Effect) (n t : ℕ) → last_set t (stretch n (keep_last l)) ≡ last_set t (stretch n l)

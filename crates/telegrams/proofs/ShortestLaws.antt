@@ -9,9 +9,10 @@ use native.Mathlib.Omega.{arith}
 use borrow.Author.Tests.{eqb-true, eq-eqb}
 use lib.Dec.{eqb}
 use lib.ListN.{length}
+use Rattle.std.proofs.lemmas.Bool.{and_parts}
 use Rattle.model.specs.Lists.{present, keep}
 use Rattle.model.specs.declared.Effect.{Effect}
-use Rattle.model.proofs.Bools.{both, or-true}
+use Rattle.model.proofs.Bools.{or-true}
 use Rattle.model.proofs.TestLaws.{by}
 use Rattle.model.specs.Telegrams.{is_level, cuts, sets, stretch, later, setting, last_set}
 use Rattle.telegrams.specs.Recursion.{is_set, set_again, keep_last}
@@ -77,11 +78,11 @@ cut-other x e = by (is_level x) (λ q. absurd (false≢true (sym (level-not-cut 
 
 pub sets-level : (t : ℕ) (x : Effect) → sets t x ≡ true → is_level x ≡ true
 unfolding sets
-sets-level t x e = (both (is_level x) (eqb x.a t) e).0
+sets-level t x e = (and_parts (is_level x) (eqb x.a t) e).0
 
 sets-target : (t : ℕ) (x : Effect) → sets t x ≡ true → x.a ≡ t
 unfolding sets
-sets-target t x e = eqb-true x.a t (both (is_level x) (eqb x.a t) e).1
+sets-target t x e = eqb-true x.a t (and_parts (is_level x) (eqb x.a t) e).1
 
 -- a level sets its own target
 own : (x : Effect) → is_level x ≡ true → sets x.a x ≡ true

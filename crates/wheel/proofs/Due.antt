@@ -9,6 +9,7 @@ use Rattle.std.specs.Prelude.{None}
 use lib.Dec.{ltb, leb}
 use lib.ListN.{length, get_or, get_or-map}
 use borrow.Author.Tests.{ltb-true}
+use Rattle.std.proofs.lemmas.Bool.{and_parts}
 use Rattle.model.specs.Flat.{flatten_rules, set_of}
 use Rattle.model.specs.Image.{budget}
 use Rattle.model.specs.Lists.{all, keep}
@@ -17,7 +18,6 @@ use Rattle.model.specs.Rules.{rule_named}
 use Rattle.model.specs.Store.{in_rule, pending_fits}
 use Rattle.model.specs.Wheel.{due_before, due_now, due_indices}
 use Rattle.model.specs.declared.Pending.{Pending}
-use Rattle.model.proofs.Bools.{both}
 use Rattle.model.proofs.SortLaws.{all_keep, all-sort, all_map}
 use Rattle.model.proofs.DueIndices.{due_below, records-due}
 use Rattle.state.specs.Meaning.{meaning}
@@ -31,7 +31,7 @@ use Rattle.wheel.specs.Tick.{HasRecords, fits_set, are_indices, records_in}
 module _ (img : List ℕ) (c : Pending) (fits : fits_set img c ≡ true) where
   parts : (in_rule (set_of img (flatten_rules img)) c (rule_named img c.rule) ≡ true) × (ltb c.budget (budget img) ≡ true)
   unfolding pending_fits set_of
-  parts = both (in_rule (set_of img (flatten_rules img)) c (rule_named img c.rule)) (ltb c.budget (budget img)) fits
+  parts = and_parts (in_rule (set_of img (flatten_rules img)) c (rule_named img c.rule)) (ltb c.budget (budget img)) fits
 
   pub small-budget : image_refusal img ≡ 0 → c.budget ≤ 256
   small-budget ok = let b = budget-fits img (image-accepted img ok).passes in omega (arith, b.1, ltb-true c.budget (budget img) parts.1)
@@ -43,8 +43,8 @@ module _ (img : List ℕ) (c : Pending) (fits : fits_set img c ≡ true) where
 module _ {A : Type 0} (p : A → Bool) where
   pub all-at : (l : List A) (k : ℕ) (d : A) → all p l ≡ true → k < length l → p (get_or l k d) ≡ true
   all-at [] k d a h = absurd (not-suc-le-zero h)
-  all-at (x ∷ l) zero d a h = (both (p x) (all p l) a).0
-  all-at (x ∷ l) (suc k) d a h = all-at l k d (both (p x) (all p l) a).1 (le_of_suc-le-suc h)
+  all-at (x ∷ l) zero d a h = (and_parts (p x) (all p l) a).0
+  all-at (x ∷ l) (suc k) d a h = all-at l k d (and_parts (p x) (all p l) a).1 (le_of_suc-le-suc h)
 
 pub all-due : (p : Pending → Bool) (now : ℕ) (ps : List Pending) → all p ps ≡ true → all p (due_now now ps) ≡ true
 unfolding due_now
