@@ -2,7 +2,6 @@
 use borrow.Author.Tests.{leb-true}
 use Rattle.model.proofs.StoreLaws.{write_read}
 use Rattle.activate.specs.Carried.{carried_by}
-use Rattle.engine.proofs.CallLaws.{itself}
 use Rattle.engine.proofs.HandlingLaws.{fit, call-refused, call_ends}
 use Rattle.engine.proofs.handle.commit.Goals as goal
 
@@ -15,9 +14,6 @@ pub assign_numbers-requires : goal.assign_numbers-requires
 assign_numbers-requires c =
     let f = fit _ _ (carried_by c.args.lent.now) (rw c.in-Ok.is at c.fits.ensures) in
     (f.next, leb-true _ _ f.last)
-
-pub put_state-requires : goal.put_state-requires
-put_state-requires c = itself c.assign_numbers.ensures
 
 pub returns-in-Ok-clause-ends : goal.returns-in-Ok-clause-ends
 returns-in-Ok-clause-ends c s h e o =

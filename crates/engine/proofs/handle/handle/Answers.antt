@@ -1,5 +1,5 @@
 -- `engine::handle::handle` meets its contract. Assumes nothing.
-use Rattle.std.proofs.Common.{refl, sym, ◌∙◌, rules}
+use Rattle.std.proofs.Common.{sym, ◌∙◌, rules}
 use Rattle.std.proofs.lemmas.Result.{err_from_is_err_and}
 use lib.ListN.{length}
 use Rattle.wheel.proofs.Fires.{same-outcomes, same-effects}
@@ -21,9 +21,6 @@ returns-in_err-checked c =
     let s = array-is _ _ _ c.as_mut_array.ensures.cases (sym c.ok_or.ensures.value ∙ c.in_ok-words.was) in
     let p = err_from_is_err_and c.from_residual-in_err-checked.result c.from_residual-in_err-checked.ensures.1 in
     rw (p.1, p.2, ← s.same) (input-declined handled_values a.input a.snapshot.now (length a.outcomes.now) (length a.effects.now) _ _ _ _ c.in_err-checked.ensures.number c.clear.ensures c.clear-2.ensures)
-
-pub dispatch-requires : goal.dispatch-requires
-dispatch-requires c = record { ready = c.begin.ensures; nothing = refl }
 
 pub returns : goal.returns
 returns c =

@@ -3,9 +3,6 @@ use native.Mathlib.Omega.{arith}
 use Rattle.engine.proofs.SetLaws.{rules-begin, rules-go, rules-end}
 use Rattle.engine.proofs.sets.put_rules.Goals as goal
 
-pub unset_rules-requires : goal.unset_rules-requires
-unset_rules-requires c = omega (arith, c.size_of-n.ensures, c.requires)
-
 pub loop-i-init : goal.loop-i-init
 loop-i-init c = rules-begin _ c.args.store.now _ _ _ c.unset_rules.ensures
 
