@@ -14,8 +14,8 @@
  *             Stores of one call do not overlap. A store that is not const is written within its words only. A text is a pointer and its number of
  *             bytes.
  *   threads   Two calls may run at once if they share no store that either of them writes.
- *   stack     In bytes, at most, for every input, on x86-64: tick 25,048, load 21,144, run 20,776, enable 20,488, next_deadline 20,648,
- *             unload 20,456, counters 15,176, next_start 15,464, room 14,264, crontab 400, telegrams 104, new 56. The gate computes them from the machine code. The return address is in;
+ *   stack     In bytes, at most, for every input, on x86-64: tick 25,064, load 21,144, run 20,792, enable 20,488, next_deadline 20,648,
+ *             unload 20,456, counters 15,176, next_start 15,480, room 14,264, crontab 400, telegrams 104, new 56. The gate computes them from the machine code. The return address is in;
  *             not in: what memcpy, memmove and memset use, the arguments that the caller pushes, the dynamic linker, interrupts
  *             (docs/PERFORMANCE.md, "Stack").
  *   refusals  Each call returns 0, or the number of a refusal: the lowest that applies. A refused call has changed nothing: the store is as
