@@ -1,9 +1,9 @@
 /*
  * Cerambiu: a rules engine for the lighting of poultry houses, proved. This is its C interface: eight calls over words that the caller lends, one
  * that says what starts next by the wall clock, one that makes of a tick's effects the list to be sent on the bus, one that reads a line of a
- * crontab into triggers, and one that tells how much room an image needs.
+ * crontab into triggers, one that tells how much room an image needs, and one that numbers all short lists of a set of actions, for the bench.
  *
- * Link target/staticlib/libcerambiu.a (`.ci/build` writes it; 74 KiB of code and constants). The library keeps nothing between calls, allocates
+ * Link target/staticlib/libcerambiu.a (`.ci/build` writes it; 76 KiB of code and constants). The library keeps nothing between calls, allocates
  * nothing, reads no clock, calls nothing but memcpy, memmove and memset, and every call returns. All that it remembers of a house is in one store
  * of 16,384 words, which the caller keeps.
  *
@@ -15,7 +15,7 @@
  *             bytes.
  *   threads   Two calls may run at once if they share no store that either of them writes.
  *   stack     In bytes, at most, for every input, on x86-64: tick 25,064, load 21,144, run 20,792, enable 20,488, next_deadline 20,648,
- *             unload 20,456, counters 15,176, next_start 15,480, room 14,264, crontab 400, telegrams 104, new 56. The gate computes them from the machine code. The return address is in;
+ *             unload 20,456, counters 15,176, next_start 15,480, room 14,264, crontab 400, short_list 328, telegrams 104, new 56. The gate computes them from the machine code. The return address is in;
  *             not in: what memcpy, memmove and memset use, the arguments that the caller pushes, the dynamic linker, interrupts
  *             (docs/PERFORMANCE.md, "Stack").
  *   refusals  Each call returns 0, or the number of a refusal: the lowest that applies. A refused call has changed nothing: the store is as
@@ -75,6 +75,7 @@ extern "C" {
 #define CERAMBIU_TELEGRAMS_VALUES 2 /* number of effects kept, low word and high word */
 #define CERAMBIU_CRONTAB_VALUES 1   /* number of triggers */
 #define CERAMBIU_ROOM_VALUES 2      /* outcomes, effects */
+#define CERAMBIU_SHORT_LIST_VALUES 4 /* length, and three places, 0 past the length */
 
 /* REFUSALS, and who can cause each ------------------------------------------------------------------------------------------------- */
 
@@ -112,7 +113,12 @@ enum cerambiu_refusal {
 
     /* the host: telegrams alone */
     CERAMBIU_NO_EFFECTS = 60,    /* the words are no whole number of effects, or one has a kind above 12 */
-    CERAMBIU_LIST_SHORT = 61     /* fewer words lent for the list than 5 for each effect kept */
+    CERAMBIU_LIST_SHORT = 61,    /* fewer words lent for the list than 5 for each effect kept */
+
+    /* who writes the set: short_list alone */
+    CERAMBIU_SET_ACTIONS = 70,   /* no action record, more than 8, or no whole number of them */
+    CERAMBIU_SET_RECORD = 71,    /* a record with a list of its own, or one, or values or a pool, that load would refuse */
+    CERAMBIU_SET_LIST = 72       /* the number is not below the count of lists */
 };
 
 /* STORE ------------------------------------------------------------------------------------------------------------------------------
@@ -428,6 +434,15 @@ uint32_t cerambiu_crontab(const uint8_t *line, size_t line_bytes, uint32_t sunda
  * lends CERAMBIU_OUTCOME_WORDS and CERAMBIU_EFFECT_WORDS times as many words, or more, to every tick and run is never refused with 30; a unit that has less does
  * not load the image. Refusals: 10 to 17, as load. */
 uint32_t cerambiu_room(const uint32_t *image, size_t image_words, uint32_t *answer, size_t answer_words);
+
+/* List k of all lists of up to three of a set of actions, for a bench that runs every small case. It takes no store of a house. `actions` are one to
+ * eight action records, 8 words each, as in an image; `values` and `pool` are the tables that they lead to. n records give 1 + n + n * n + n * n * n
+ * lists, numbered from 0: the empty one, then those of one, two and three records; of one length the first place weighs most. With eight records list
+ * 9 is (0, 0), 10 is (0, 1), 17 is (1, 0) and 584 is (7, 7, 7). Every number below the count has a list that load accepts as the actions of one rule,
+ * with the limits 256, 8, 255, 255, 255 and these values and this pool; a record that it would refuse is 71 whichever list is asked for, and so are
+ * values or a pool that it would refuse. Answer: length, three places. Refusals: 70 to 72. Time: the words of the set, once. */
+uint32_t cerambiu_short_list(uint32_t k, const uint32_t *actions, size_t action_words, const uint32_t *values, size_t value_words, const uint32_t *pool,
+                             size_t pool_words, uint32_t *answer, size_t answer_words);
 
 #ifdef __cplusplus
 }

@@ -1,4 +1,4 @@
-//! The eight proved calls, the next start, the list of telegrams, the reader of crontab lines and the room that an image needs over word slices: `include/cerambiu.h`, which says what the words mean, in safe Rust.
+//! The eight proved calls, the next start, the list of telegrams, the reader of crontab lines, the room that an image needs and the numbers of short lists over word slices: `include/cerambiu.h`, which says what the words mean, in safe Rust.
 //!
 //! The functions of this module give Rust values. Those of [`words`] are the C functions as they are, with the lent words of the answer.
 
@@ -130,6 +130,14 @@ pub fn room(image: &[u32]) -> Result<Handled, Refused> {
     accepted(number, Handled { outcomes: answer[0], effects: answer[1] })
 }
 
+/// List k of all lists of up to three of the actions: its length, and the places of its records, 0 past the length.
+pub fn short_list(k: u32, actions: &[u32], values: &[u32], pool: &[u32]) -> Result<(u32, [u32; 3]), Refused> {
+    let mut answer = [0; 4];
+    let number = words::short_list(k, actions, values, pool, &mut answer);
+    let [length, places @ ..] = answer;
+    accepted(number, (length, places))
+}
+
 #[cfg(test)]
 mod tests {
     use super::*;
@@ -245,5 +253,15 @@ mod tests {
         assert_eq!(crontab(b"0 5 1 * 1-5", 6, &mut triggers), Err(Refused(51)));
         assert_eq!(crontab(b"0 5 1 * 7", 6, &mut triggers), Err(Refused(50)));
         assert_eq!(crontab(b"0 5 * * *", 7, &mut []), Err(Refused(50)));
+    }
+
+    #[test]
+    fn a_short_list() {
+        let eight = [21, 7, 0, 0, 0, 0, 0, 0].repeat(8);
+        assert_eq!(short_list(17, &eight, &[], &[]), Ok((2, [1, 0, 0])));
+        assert_eq!(short_list(584, &eight, &[], &[]), Ok((3, [7, 7, 7])));
+        assert_eq!(short_list(585, &eight, &[], &[]), Err(Refused(72)));
+        assert_eq!(short_list(0, &eight, &[], &[256]), Err(Refused(71)));
+        assert_eq!(short_list(0, &eight[1..], &[], &[256]), Err(Refused(70)));
     }
 }

@@ -73,6 +73,17 @@ mod c {
             answer: *mut u32,
             answer_words: usize,
         ) -> u32;
+        pub fn cerambiu_short_list(
+            k: u32,
+            actions: *const u32,
+            action_words: usize,
+            values: *const u32,
+            value_words: usize,
+            pool: *const u32,
+            pool_words: usize,
+            answer: *mut u32,
+            answer_words: usize,
+        ) -> u32;
         pub fn cerambiu_telegrams(
             effects: *const u32,
             effect_words: usize,
@@ -216,4 +227,22 @@ pub fn crontab(line: &[u8], sunday: u32, triggers: &mut [u32], answer: &mut [u32
 pub fn room(image: &[u32], answer: &mut [u32]) -> u32 {
     // SAFETY: as above.
     unsafe { c::cerambiu_room(image.as_ptr(), image.len(), answer.as_mut_ptr(), answer.len()) }
+}
+
+/// Values: the length of the list and its three places.
+pub fn short_list(k: u32, actions: &[u32], values: &[u32], pool: &[u32], answer: &mut [u32]) -> u32 {
+    // SAFETY: as above.
+    unsafe {
+        c::cerambiu_short_list(
+            k,
+            actions.as_ptr(),
+            actions.len(),
+            values.as_ptr(),
+            values.len(),
+            pool.as_ptr(),
+            pool.len(),
+            answer.as_mut_ptr(),
+            answer.len(),
+        )
+    }
 }

@@ -153,6 +153,19 @@ static void panel(void)
     print_next_start(snapshot);
 }
 
+/* List k of all short lists of three actions: a Log, a Wait and a Log. */
+static void short_list(uint32_t k)
+{
+    static const uint32_t actions[] = { 21, 7, 0, 0, 0, 0, 0, 0, 23, 1000, 0, 0, 0, 0, 0, 0, 21, 9, 0, 0, 0, 0, 0, 0 };
+    uint32_t answer[CERAMBIU_SHORT_LIST_VALUES];
+    uint32_t refusal = cerambiu_short_list(k, actions, COUNT(actions), NULL, 0, NULL, 0, answer, COUNT(answer));
+    if (refusal != CERAMBIU_OK) {
+        printf("shortlist refused %" PRIu32 "\n", refusal);
+        return;
+    }
+    printf("shortlist %" PRIu32 " %" PRIu32 " %" PRIu32 " %" PRIu32 "\n", answer[0], answer[1], answer[2], answer[3]);
+}
+
 int main(void)
 {
     uint32_t refusal = cerambiu_new(store, COUNT(store), 0);
@@ -185,5 +198,9 @@ int main(void)
     programme("0,30 5 * * 1-5 lights up");
     programme("0 5 1 * * lights up");
     panel();
+
+    /* The bench: three actions have 40 lists; number 18 is (0, 1, 2), the rule above. */
+    short_list(18);
+    short_list(40);
     return 0;
 }

@@ -22,10 +22,10 @@
 #define PATTERN 0xa5
 #define OWN_BYTES 256 /* for the frame that measures */
 
-enum call { NEW, LOAD, UNLOAD, ENABLE, RUN, DRY_RUN, TICK, NEXT_DEADLINE, COUNTERS, NEXT_START, TELEGRAMS, CRONTAB, ROOM };
+enum call { NEW, LOAD, UNLOAD, ENABLE, RUN, DRY_RUN, TICK, NEXT_DEADLINE, COUNTERS, NEXT_START, TELEGRAMS, CRONTAB, ROOM, SHORT_LIST };
 
 static const char *const names[] = { "new", "load", "unload", "enable", "run", "dry run", "tick", "next_deadline", "counters", "next_start",
-                                     "telegrams", "crontab", "room" };
+                                     "telegrams", "crontab", "room", "short_list" };
 
 static uint32_t store[CERAMBIU_STORE_WORDS], image[CERAMBIU_IMAGE_MAX_WORDS];
 static size_t image_words;
@@ -34,6 +34,9 @@ static uint32_t list[4096 * CERAMBIU_EFFECT_WORDS];
 static uint32_t snapshot[CERAMBIU_SNAPSHOT_HEAD_WORDS], answer[CERAMBIU_COUNTERS_VALUES];
 static uint32_t refusal;
 static const uint8_t line[] = { '*', ' ', '*', ' ', '*', ' ', '*', ' ', '0', '-', '6', ',', '0', '0', '1' };
+/* A Cycle, a percent and a Log, with the value and the scenes that they lead to. */
+static const uint32_t set[] = { 3, 0, 2, 0, 0, 0, 0, 0, 28, 1, 2, 0, 0, 0, 0, 0, 21, 7, 0, 0, 0, 0, 0, 0 };
+static const uint32_t number[] = { 0, 500000, 0, 0, 0, 0, 0, 0 }, scenes[] = { 4, 5 };
 
 static void make(enum call which)
 {
@@ -52,6 +55,7 @@ static void make(enum call which)
     case TELEGRAMS: refusal = cerambiu_telegrams(effects, es, list, COUNT(list), answer, a); break;
     case CRONTAB: refusal = cerambiu_crontab(line, sizeof(line), 6, list, COUNT(list), answer, a); break;
     case ROOM: refusal = cerambiu_room(image, image_words, answer, a); break;
+    case SHORT_LIST: refusal = cerambiu_short_list(17, set, COUNT(set), number, COUNT(number), scenes, COUNT(scenes), answer, a); break;
     }
 }
 
@@ -205,7 +209,7 @@ static void measure_all(size_t bytes[])
     needs(LOAD);
     look(0, 719);
     needs(TICK);
-    for (enum call which = ENABLE; which <= ROOM; which++) {
+    for (enum call which = ENABLE; which <= SHORT_LIST; which++) {
         look(which == TICK ? 2000 : 100, which == TICK ? 720 : 719);
         bytes[which] = needs(which);
     }
@@ -231,6 +235,7 @@ static void all_fit(void)
     fits(TELEGRAMS);
     fits(CRONTAB);
     fits(ROOM);
+    fits(SHORT_LIST);
     fits(UNLOAD);
 }
 
@@ -251,7 +256,7 @@ int main(void)
     for (size_t which = 0; which < COUNT(names); which++) {
         printf("%-14s %12zu %12zu %12zu\n", names[which], bytes[0][which], bytes[1][which], bytes[2][which]);
     }
-    printf("on 64 KB of stack, with each image: new, load, load again, tick, enable, run, dry run, tick, next_deadline, counters, next_start, telegrams, crontab, room, unload .. ");
+    printf("on 64 KB of stack, with each image: new, load, load again, tick, enable, run, dry run, tick, next_deadline, counters, next_start, telegrams, crontab, room, short_list, unload .. ");
     fflush(stdout);
     for (size_t i = 0; i < COUNT(images); i++) {
         images[i]();

@@ -11,6 +11,7 @@ pub mod house;
 pub mod next_start;
 pub mod random;
 pub mod script;
+pub mod short_lists;
 pub mod shrink;
 pub mod telegrams;
 pub mod vectors;

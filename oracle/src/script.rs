@@ -4,7 +4,7 @@
 //! new TIME | load TIME WORD.. | unload TIME | enable RULE 0|1 | tick WORD..
 //! run RULE DRY WORD.. | deadline | counters
 //! lend OUTCOME_WORDS EFFECT_WORDS | size WORDS | poke PLACE WORD | peek PLACE
-//! telegrams ROOM WORD.. | crontab SUNDAY ROOM TEXT | start WORD.. | room WORD..
+//! telegrams ROOM WORD.. | crontab SUNDAY ROOM TEXT | start WORD.. | room WORD.. | shortlist K A V P WORD..
 //! ```
 //!
 //! A `#` starts a comment, but in a TEXT, which is the rest of the line behind one blank. Bad text gets one line that names the line number and what is wrong, and

@@ -62,6 +62,14 @@ impl<'a> Both<'a> {
         &self.house.store
     }
 
+    /// The Rust's next deadline.
+    pub fn deadline(&mut self) -> Option<u64> {
+        match self.player.call(&Call::Deadline) {
+            Answer::Deadline(time) => time,
+            _ => None,
+        }
+    }
+
     /// A line of a script; behind each of the eight calls also the deadline and the counters.
     pub fn line(&mut self, call: &Call) -> Result<(), Difference> {
         match call {

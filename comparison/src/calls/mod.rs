@@ -18,7 +18,7 @@
 //! calls (`room`). Prints each difference, the counts, and what was met; its status is 1 if there is a difference or a cell that can be
 //! reached is empty.
 
-mod both;
+pub mod both;
 mod due;
 pub mod house;
 mod levels;
@@ -26,7 +26,7 @@ mod lists;
 mod sharing;
 mod starts;
 mod stores;
-mod tally;
+pub mod tally;
 
 use std::fs;
 use std::path::Path;

@@ -1,4 +1,4 @@
-// The calls of the C interface: the eight calls and the next start of crate `engine`, `telegrams`, `crontab` and `room`, as include/cerambiu.h describes them; crate `cerambiu_c` has
+// The calls of the C interface: the eight calls and the next start of crate `engine`, `telegrams`, `crontab`, `room` and `short_lists`, as include/cerambiu.h describes them; crate `cerambiu_c` has
 // them under C names. A call returns document 01's number of its refusal, 0 for none, and writes its values into the lent words of the answer. A contract is one
 // equation with the specification's call on words (model's `call_on`), for all arguments.
 #![tactic(auto)]
@@ -10,6 +10,8 @@ ghost use Rattle.model.specs.Crontab.{crontab};
 ghost use Rattle.next.specs.NextStart.{start_values};
 ghost use Rattle.engine.specs.Answers.{values_of, no_values, enabled_values, handled_values, due_values, counter_values};
 ghost use Rattle.room.specs.Needed.{numbers, room_for};
+ghost use Rattle.model.specs.ShortLists.{short_list};
+ghost use Rattle.short_lists.specs.Answers.{list_words};
 ghost use Rattle.engine.specs.Asked.{next_start_on};
 ghost use Rattle.cerambiu.specs.Called.{called, answered, lent_answer};
 ghost use Rattle.model.specs.Refusals.{refusal_number};
@@ -19,6 +21,7 @@ use activate::Handled;
 use model::Refusal;
 use next::NextStart;
 use room::Needed;
+use short_lists::ShortList;
 
 // What a call answers, as words.
 trait Answer {
@@ -112,6 +115,16 @@ impl Answer for Needed {
 
     fn put(self, answer: &mut [u32]) {
         put_values(answer, &[self.outcomes, self.effects]);
+    }
+}
+
+// The length of a short list and its places.
+impl Answer for ShortList {
+    ghost words = { list_words };
+
+    fn put(self, answer: &mut [u32]) {
+        let [first, second, third] = self.places;
+        put_values(answer, &[self.length, first, second, third]);
     }
 }
 
@@ -228,4 +241,16 @@ pub fn cerambiu_room(image: &[u32], answer: &mut [u32]) -> u32
     ensures { tells result answer.new [] ≡ told (length answer.old) (room_for image.now) }
 {
     put_answer(answer, room::room_for(image))
+}
+
+pub fn cerambiu_short_list(
+    k: u32,
+    actions: &[u32],
+    values: &[u32],
+    pool: &[u32],
+    answer: &mut [u32],
+) -> u32
+    ensures { tells result answer.new [] ≡ told (length answer.old) (short_list k actions.now values.now pool.now) }
+{
+    put_answer(answer, short_lists::short_list(k, actions, values, pool))
 }

@@ -8,6 +8,7 @@ ghost use Rattle.model.specs.Calls.{new, load, unload, enable, tick, run, deadli
 ghost use Rattle.model.specs.OnWords.{call_on};
 ghost use Rattle.model.specs.Crontab.{crontab};
 ghost use Rattle.room.specs.Needed.{room_for};
+ghost use Rattle.model.specs.ShortLists.{short_list};
 ghost use Rattle.engine.specs.Asked.{next_start_on};
 ghost use Rattle.cerambiu.specs.Called.{called, answered};
 ghost use Rattle.cerambiu.specs.Told.{tells, told, sending};
@@ -113,4 +114,17 @@ pub extern "C" fn cerambiu_room(image: &[u32], answer: &mut [u32]) -> u32
     ensures { tells result answer.new [] ≡ told (length answer.old) (room_for image.now) }
 {
     cerambiu::cerambiu_room(image, answer)
+}
+
+#[unsafe(no_mangle)]
+pub extern "C" fn cerambiu_short_list(
+    k: u32,
+    actions: &[u32],
+    values: &[u32],
+    pool: &[u32],
+    answer: &mut [u32],
+) -> u32
+    ensures { tells result answer.new [] ≡ told (length answer.old) (short_list k actions.now values.now pool.now) }
+{
+    cerambiu::cerambiu_short_list(k, actions, values, pool, answer)
 }

@@ -6,7 +6,7 @@ use Rattle.std.specs.Result.{is_err}
 use Prim.Native.Nat.{suc, ◌-◌}
 use native.Mathlib.Omega.{arith}
 use Rattle.model.specs.declared.Refusal.{Refusal}
-use Rattle.model.specs.declared.Refusal.TheVariants.{StoreLength, StoreRule, ImageLength, LimitRange, TablePlace, FieldRange, ListRange, RuleName, FlatSteps, TooMany, SnapshotLength, SnapshotRange, RowAddress, LentStores, SequenceNumber, ActivationNumber, LineForm, DayOrMonth, TriggerStore, EffectWords, TelegramStore}
+use Rattle.model.specs.declared.Refusal.TheVariants.{StoreLength, StoreRule, ImageLength, LimitRange, TablePlace, FieldRange, ListRange, RuleName, FlatSteps, TooMany, SnapshotLength, SnapshotRange, RowAddress, LentStores, SequenceNumber, ActivationNumber, LineForm, DayOrMonth, TriggerStore, EffectWords, TelegramStore, ActionWords, ActionRecord, ListNumber}
 use Rattle.model.specs.Refusals.{refusal_code, refusal_number}
 
 pub refusal-code-suc : (r : Refusal) → refusal_code r ≡ suc (refusal_code r - 1)
@@ -31,6 +31,9 @@ refusal-code-suc DayOrMonth = refl
 refusal-code-suc TriggerStore = refl
 refusal-code-suc EffectWords = refl
 refusal-code-suc TelegramStore = refl
+refusal-code-suc ActionWords = refl
+refusal-code-suc ActionRecord = refl
+refusal-code-suc ListNumber = refl
 
 pub refusal-some : (r : Refusal) → refusal_code r ≡ 0 → ⊥
 refusal-some r e = omega (arith, refusal-code-suc r)

@@ -34,3 +34,4 @@ pub mod Digits
 pub mod Asked
 pub mod Crontab
 pub mod CrontabMeaning
+pub mod ShortLists

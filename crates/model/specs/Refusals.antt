@@ -1,7 +1,7 @@
--- The numbers of refusals: document 01, "Who can cause a refusal", and the change requests 2 and 10. 0 is none.
+-- The numbers of refusals: document 01, "Who can cause a refusal", and the change requests 2, 10 and 13. 0 is none.
 use Rattle.std.specs.Prelude.{ℕ, Result, Ok, Err}
 pub use Rattle.model.specs.declared.Refusal.{Refusal}
-pub use Rattle.model.specs.declared.Refusal.TheVariants.{StoreLength, StoreRule, ImageLength, LimitRange, TablePlace, FieldRange, ListRange, RuleName, FlatSteps, TooMany, SnapshotLength, SnapshotRange, RowAddress, LentStores, SequenceNumber, ActivationNumber, LineForm, DayOrMonth, TriggerStore, EffectWords, TelegramStore}
+pub use Rattle.model.specs.declared.Refusal.TheVariants.{StoreLength, StoreRule, ImageLength, LimitRange, TablePlace, FieldRange, ListRange, RuleName, FlatSteps, TooMany, SnapshotLength, SnapshotRange, RowAddress, LentStores, SequenceNumber, ActivationNumber, LineForm, DayOrMonth, TriggerStore, EffectWords, TelegramStore, ActionWords, ActionRecord, ListNumber}
 
 abbrev pub refusal_code : Refusal → ℕ
 refusal_code StoreLength = 1
@@ -25,6 +25,9 @@ refusal_code DayOrMonth = 51
 refusal_code TriggerStore = 52
 refusal_code EffectWords = 60
 refusal_code TelegramStore = 61
+refusal_code ActionWords = 70
+refusal_code ActionRecord = 71
+refusal_code ListNumber = 72
 
 -- the number that a call answers: 0 where it is not refused
 abbrev pub refusal_number : {A : Type 0} → Result A Refusal → ℕ

@@ -613,6 +613,10 @@ pub enum Refusal {
     // Fewer telegrams.
     EffectWords = 60,
     TelegramStore = 61,
+    // All short lists.
+    ActionWords = 70,
+    ActionRecord = 71,
+    ListNumber = 72,
 }
 
 // What a call of the C interface answers.

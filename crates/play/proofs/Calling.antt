@@ -1,7 +1,7 @@
 -- A call on the words that are lent, as a C caller sees it, and what is printed for it. Assumes nothing.
-use Rattle.std.proofs.Common.{◌≡◌, ℕ, ◌≤◌, Bool, true, false, List, [], ◌++◌, length, take, drop, min, Result, Ok, Err, nat_le, refl, sym, ap, ◌∙◌, arith}
+use Rattle.std.proofs.Common.{◌≡◌, ℕ, ◌-◌, ◌≤◌, Bool, true, false, List, [], ◌++◌, length, take, drop, min, Result, Ok, Err, nat_le, refl, sym, ap, ◌∙◌, arith}
 use mathlib.Core.Path.{subst}
-use lib.ListN.{length-take, take-append-drop, drop_of_length-le}
+use lib.ListN.{length-take, length-drop, take-append-drop, drop_of_length-le}
 use lib.Seq.{take_all}
 use borrow.Author.Tests.{eq-eqb, ne_eqb, leb-true, leb-false}
 use Rattle.std.specs.Result.{MatchResult}
@@ -40,8 +40,25 @@ module _ (size n : ℕ) (w : List ℕ) (l : n ≡ min size (length w)) where
           let b : length w ≤ size = omega arith in
           drop_of_length-le w a ∙ sym (drop_of_length-le w b)
 
+  pub lent-behind : take (length w - n) (drop n w) ≡ drop size w
+  lent-behind = take_all (length w - n) (drop n w) (omega (arith, length-drop n w)) ∙ lent-rest
+
   pub lent-length : length (take n w) ≡ min size (length w)
   lent-length = length-take n w ∙ omega arith
+
+-- the words of a list in three parts, cut where it ends
+module _ (a b n m : ℕ) (w : List ℕ) (l : n ≡ min a (length w)) where
+  abbrev rest : List ℕ
+  rest = take (length w - n) (drop n w)
+
+  pub three-parts : m ≡ min b (length rest) → (f : List ℕ → List ℕ → List ℕ → Asked)
+      → f (take n w) (take m rest) (take (length rest - m) (drop m rest)) ≡ f (take a w) (take b (drop a w)) (drop b (drop a w))
+  three-parts k f =
+      let r : rest ≡ drop a w = lent-behind a n w l in
+      let h : m ≡ min b (length (drop a w)) = k ∙ ap (λ (z : List ℕ). min b (length z)) r in
+      let x : take m rest ≡ take b (drop a w) = ap (take m) r ∙ lent-first b m (drop a w) h in
+      let y : take (length rest - m) (drop m rest) ≡ drop b (drop a w) = ap (λ (z : List ℕ). take (length z - m) (drop m z)) r ∙ lent-behind b m (drop a w) h in
+      λ i. f (lent-first a n w l i) (x i) (y i)
 
 -- whether a call was refused, by its number
 abbrev pub Accepts : ℕ → Result (Unit {0}) Refused → Type 0

@@ -26,7 +26,7 @@ pub record Does (a : Obeyed) (w : List ℕ) (o o' : Output) : Type 0 where
 
 -- what a call does that a line says, and what is lent later
 abbrev pub done : Said → Lent → Obeyed
-done s l = doing 24576 327680 l.settings s.list.now s.text.now (get_or s.command.numbers 0 0) (get_or s.command.numbers 1 0) s.command.call l.store
+done s l = doing 24576 327680 l.settings s.list.now s.text.now (get_or s.command.numbers 0 0) (get_or s.command.numbers 1 0) (get_or s.command.numbers 2 0) s.command.call l.store
 
 abbrev pub lent_after : Said → Settings → Settings
 lent_after s t = settings_of s.command.call (get_or s.command.numbers 0 0) (get_or s.command.numbers 1 0) t

@@ -5,18 +5,19 @@ use Rattle.model.specs.Calls as Calls
 use Rattle.model.specs.OnWords.{call_on}
 use Rattle.model.specs.Asked.{Asked}
 use Rattle.model.specs.Crontab.{crontab}
+use Rattle.model.specs.ShortLists.{short_list}
 use Rattle.engine.specs.Asked.{next_start_on}
 use Rattle.room.specs.Needed.{room_for}
 use Rattle.cerambiu.specs.Called.{Called, answered}
 use Rattle.cerambiu.specs.Told.{told, sending}
 use Rattle.script.specs.Table.{rows}
 use Rattle.script.specs.declared.calls.Call.{Call}
-use Rattle.script.specs.declared.calls.Call.TheVariants.{New, Load, Unload, Enable, Tick, Run, Deadline, Counters, Lend, Size, Poke, Peek, Telegrams, Crontab, Start, RoomFor}
+use Rattle.script.specs.declared.calls.Call.TheVariants.{New, Load, Unload, Enable, Tick, Run, Deadline, Counters, Lend, Size, Poke, Peek, Telegrams, Crontab, Start, RoomFor, ShortList}
 use Rattle.script.specs.Script.{Line, Parsed, plain, parse}
 use Rattle.script.specs.declared.complain.Wrong.TheVariants.{LineTooLong}
 use Rattle.script.specs.Print.{peek_line, wrong_line}
 use Rattle.play.specs.declared.calls.Settings.{Settings}
-use Rattle.play.specs.Printed.{call_lines, told_lines, telegram_lines, trigger_lines, start_lines, room_lines}
+use Rattle.play.specs.Printed.{call_lines, told_lines, telegram_lines, trigger_lines, start_lines, room_lines, place_lines}
 
 -- ONE LINE ---------------------------------------------------------------------------------------------------------------------------
 -- the store's words after a line, and what is printed for it
@@ -45,30 +46,31 @@ asking_store n call lines a w = asking call lines (a (take n w)) w
 abbrev pub quiet : List ℕ → Obeyed
 quiet w = record { store = w; lines = [] }
 
--- what each call of the table does, with its numbers a and b, the words of its list and the bytes of its text. Tick and run are lent words for outcomes
+-- what each call of the table does, with its numbers a, b and c, the words of its list and the bytes of its text. Tick and run are lent words for outcomes
 -- and effects, of which the player has so many; a call that answers into a store of its own is lent words of those for effects
-unfoldable pub doing : ℕ → ℕ → Settings → List ℕ → List ℕ → ℕ → ℕ → Call → List ℕ → Obeyed
-doing os es t list text a b New = calling t.size (Calls.new a)
-doing os es t list text a b Load = calling t.size (Calls.load a list)
-doing os es t list text a b Unload = calling t.size (Calls.unload a)
-doing os es t list text a b Enable = calling t.size (Calls.enable a (b == 1))
-doing os es t list text a b Tick = calling t.size (Calls.tick list (min t.outcomes os) (min t.effects es))
-doing os es t list text a b Run = calling t.size (Calls.run a (b == 1) list (min t.outcomes os) (min t.effects es))
-doing os es t list text a b Deadline = calling t.size Calls.deadline
-doing os es t list text a b Counters = calling t.size Calls.counters
-doing os es t list text a b Lend = quiet
-doing os es t list text a b Size = quiet
-doing os es t list text a b Poke = λ w. quiet (set w a b)
-doing os es t list text a b Peek = λ w. record { store = w; lines = peek_line a (get_or w a 0) }
-doing os es t list text a b Telegrams = asking Telegrams telegram_lines (sending (min a es) list)
-doing os es t list text a b Crontab = asking Crontab trigger_lines (crontab text a (min b es))
-doing os es t list text a b Start = asking_store t.size Start start_lines (next_start_on list)
-doing os es t list text a b RoomFor = asking RoomFor room_lines (room_for list)
+unfoldable pub doing : ℕ → ℕ → Settings → List ℕ → List ℕ → ℕ → ℕ → ℕ → Call → List ℕ → Obeyed
+doing os es t list text a b c New = calling t.size (Calls.new a)
+doing os es t list text a b c Load = calling t.size (Calls.load a list)
+doing os es t list text a b c Unload = calling t.size (Calls.unload a)
+doing os es t list text a b c Enable = calling t.size (Calls.enable a (b == 1))
+doing os es t list text a b c Tick = calling t.size (Calls.tick list (min t.outcomes os) (min t.effects es))
+doing os es t list text a b c Run = calling t.size (Calls.run a (b == 1) list (min t.outcomes os) (min t.effects es))
+doing os es t list text a b c Deadline = calling t.size Calls.deadline
+doing os es t list text a b c Counters = calling t.size Calls.counters
+doing os es t list text a b c Lend = quiet
+doing os es t list text a b c Size = quiet
+doing os es t list text a b c Poke = λ w. quiet (set w a b)
+doing os es t list text a b c Peek = λ w. record { store = w; lines = peek_line a (get_or w a 0) }
+doing os es t list text a b c Telegrams = asking Telegrams telegram_lines (sending (min a es) list)
+doing os es t list text a b c Crontab = asking Crontab trigger_lines (crontab text a (min b es))
+doing os es t list text a b c Start = asking_store t.size Start start_lines (next_start_on list)
+doing os es t list text a b c RoomFor = asking RoomFor room_lines (room_for list)
+doing os es t list text a b c ShortList = asking ShortList place_lines (short_list a (take b list) (take c (drop b list)) (drop c (drop b list)))
 
 -- line number k
 abbrev pub obeyed : ℕ → ℕ → ℕ → Line → List ℕ → List ℕ → Settings → List ℕ → Obeyed
 obeyed os es k (Ok None) list text t w = quiet w
-obeyed os es k (Ok (Some c)) list text t w = doing os es t list text (get_or c.numbers 0 0) (get_or c.numbers 1 0) c.call w
+obeyed os es k (Ok (Some c)) list text t w = doing os es t list text (get_or c.numbers 0 0) (get_or c.numbers 1 0) (get_or c.numbers 2 0) c.call w
 obeyed os es k (Err wrong) list text t w = record { store = w; lines = wrong_line k wrong }
 
 -- `lend` and `size` are for later calls

@@ -106,3 +106,7 @@ start_lines answer lent = line (bytes_of "start") (start_text answer)
 -- the room of an image: outcomes and effects
 abbrev pub room_lines : List ℕ → List ℕ → List ℕ
 room_lines answer lent = line (bytes_of "room") (numbers (words_at answer 0 2))
+
+-- the length of a short list and its three places
+abbrev pub place_lines : List ℕ → List ℕ → List ℕ
+place_lines answer lent = line (bytes_of "shortlist") (numbers (words_at answer 0 4))

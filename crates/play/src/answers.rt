@@ -4,7 +4,7 @@
 ghost use Rattle.std.specs.Prelude.{◌≤◌, ◌==◌, [], get_or};
 ghost use Rattle.model.specs.Text.{bytes_of};
 ghost use Rattle.script.specs.Print.{numbers, line, refused_line, enabled_line, peek_line, handled_line};
-ghost use Rattle.play.specs.Printed.{words_at, row_line, row_lines, effect_lines, outcome_at, outcome_with, outcome_lines, handled_lines, deadline_of, telegram_lines, trigger_lines, start_lines, room_lines};
+ghost use Rattle.play.specs.Printed.{words_at, row_line, row_lines, effect_lines, outcome_at, outcome_with, outcome_lines, handled_lines, deadline_of, telegram_lines, trigger_lines, start_lines, room_lines, place_lines};
 ghost use Rattle.play.specs.Gathered.{Gathers};
 
 use crate::output::Output;
@@ -42,6 +42,13 @@ pub fn room(out: &mut Output, answer: &[u32; 16])
     ensures { Gathers out.old (room_lines answer.now []) out.new }
 {
     writeln!(out, "room{}", shown::first(answer, 2))
+}
+
+// A short list: its length and three places.
+pub fn short_list(out: &mut Output, answer: &[u32; 16])
+    ensures { Gathers out.old (place_lines answer.now []) out.new }
+{
+    writeln!(out, "shortlist{}", shown::first(answer, 4))
 }
 
 // The words of a record that a line shows: so many from word `from` on, of `width`.

@@ -1,13 +1,14 @@
 // A line's call is made on what is lent, and its answer printed.
-ghost use Rattle.std.specs.Prelude.{ℕ, ◌≡◌, ◌≢◌, List, MatchResult, length, min, get_or, set, replicate};
+ghost use Rattle.std.specs.Prelude.{ℕ, ◌≡◌, ◌≢◌, List, MatchResult, length, min, get_or, set, take, drop, replicate};
 ghost use Rattle.model.specs.Calls as Calls;
 ghost use Rattle.model.specs.Crontab as Crontab;
+ghost use Rattle.model.specs.ShortLists.{short_list};
 ghost use Rattle.engine.specs.Asked.{next_start_on};
 ghost use Rattle.room.specs.Needed.{room_for};
 ghost use Rattle.cerambiu.specs.Told.{sending};
 ghost use Rattle.script.specs.declared.calls.Call.TheVariants as Call;
 ghost use Rattle.script.specs.Scan.{Ranged};
-ghost use Rattle.play.specs.Printed.{telegram_lines, trigger_lines, start_lines, room_lines};
+ghost use Rattle.play.specs.Printed.{telegram_lines, trigger_lines, start_lines, room_lines, place_lines};
 ghost use Rattle.play.specs.Playing.{calling, asking, asking_store, beginning};
 ghost use Rattle.play.specs.declared.output.Output.{Output};
 ghost use Rattle.play.specs.Gathered.{Makes, Does, done, lent_after};
@@ -61,7 +62,7 @@ fn accepted(number: u32) -> Result<(), Refused>
     }
 }
 
-// kept: this and the eleven below are a call of the C interface each, with arguments and a printer of its own, as it would be no plainer: one function over
+// kept: this and the twelve below are a call of the C interface each, with arguments and a printer of its own, as it would be no plainer: one function over
 // closures would need the contracts of both as `requires`. A function that cuts a store would save a line in seven of them and three in a tick and a run, and be two, for `&` and for `&mut`, each with the clauses of what comes
 // back; a struct of the
 // three stores would be made by `make` for a tick and a run alone, and say besides that the stores that come back are those that were lent.
@@ -229,6 +230,25 @@ fn room(image: &[u32], out: &mut Output) -> Result<(), Refused>
     Ok(())
 }
 
+// The words of a list are those of actions, then of values, then of the pool.
+fn short_list(
+    k: u32,
+    actions: usize,
+    values: usize,
+    list: &[u32],
+    out: &mut Output,
+) -> Result<(), Refused>
+    ensures { (w : List ℕ) → Makes (asking Call.ShortList place_lines (short_list k (take actions list.now) (take values (drop actions list.now)) (drop values (drop actions list.now))) w) Call.ShortList w out.old out.new result }
+{
+    let n = actions.min(list.len());
+    let rest = &list[n..];
+    let m = values.min(rest.len());
+    let mut answer = [0u32; 16];
+    accepted(cerambiu::cerambiu_short_list(k, &list[..n], &rest[..m], &rest[m..], &mut answer))?;
+    answers::short_list(out, &answer);
+    Ok(())
+}
+
 fn poke(store: &mut [u32], place: usize, word: u32)
     ensures { store.new ≡ set store.old place word }
 {
@@ -265,7 +285,7 @@ impl Lent {
         ensures makes { Makes (done line.now self.old) line.now.command.call self.new.store out.old out.new result }
         ensures settings { self.new.settings ≡ lent_after line.now self.old.settings }
     {
-        let [a, b, _, _] = line.command.numbers;
+        let [a, b, c, _] = line.command.numbers;
         let (most, size) = (self.settings, self.settings.size);
         let (store, os, es) = (&mut self.store, &mut self.outcomes, &mut self.effects);
         match line.command.call {
@@ -281,6 +301,7 @@ impl Lent {
             Call::Crontab => crontab(a as u32, b as usize, line.text, es, out),
             Call::Start => start(size, line.list, store, out),
             Call::RoomFor => room(line.list, out),
+            Call::ShortList => short_list(a as u32, b as usize, c as usize, line.list, out),
             Call::Lend => {
                 (self.settings.outcomes, self.settings.effects) = (a as usize, b as usize);
                 Ok(())

@@ -6,10 +6,10 @@ use Rattle.model.specs.Text.{bytes_of}
 use Rattle.model.specs.Digits.{is_digit, value_from}
 use Rattle.decimal.specs.Numbers.{argument_of}
 use Rattle.script.specs.Words.{words_of, past_space, past_word, past_words}
-use Rattle.script.specs.Table.{Call, New, Load, Enable, Tick, Run, Lend, Peek, Crontab, Row, row, rows, calls as all_calls, Words}
-use Rattle.script.specs.declared.calls.Param.TheVariants.{Time, Rule, Mark, OutcomeWords, Place, Word, Sunday, TriggerWords}
-use Rattle.script.specs.Script.{Parsed, Line, Wrong, plain, command, call_named, parse, parse_call, numbers_from, ending, behind_name, list_from}
-use Rattle.script.specs.Script.{NoSuchCall, Missing, NotDecimal, OutOfRange, WordNotDecimal, WordOutOfRange, TooManyWords, ListTooLong, LineTooLong}
+use Rattle.script.specs.Table.{Call, New, Load, Enable, Tick, Run, Lend, Peek, Crontab, ShortList, Row, row, rows, calls as all_calls, Words}
+use Rattle.script.specs.declared.calls.Param.TheVariants.{Time, Rule, Mark, OutcomeWords, Place, Word, Sunday, TriggerWords, ActionWords}
+use Rattle.script.specs.Script.{Parsed, Line, Wrong, plain, command, call_named, parse, parse_call, numbers_from, ending, behind_name, list_from, counted}
+use Rattle.script.specs.Script.{NoSuchCall, Missing, NotDecimal, OutOfRange, WordNotDecimal, WordOutOfRange, TooFewWords, TooManyWords, ListTooLong, LineTooLong}
 use Rattle.script.specs.Print.{numbers, signed, line, handled_line, enabled_line, deadline_line, peek_line, refused_line, wrong_line}
 
 -- a line, with room for four words of a list
@@ -63,6 +63,19 @@ wrong-texts :
     ≡ map (λ (w : Wrong). plain (Err w)) (NotDecimal Crontab Sunday ∷ NotDecimal Crontab TriggerWords ∷ NotDecimal Crontab Sunday ∷ Missing Crontab TriggerWords ∷ OutOfRange Crontab TriggerWords ∷ OutOfRange Crontab Sunday ∷ [])
 unfolding says
 wrong-texts = refl
+
+-- a call whose numbers say how many words follow
+parts :
+    map says ("shortlist 17 2 0 1 7 8 9" ∷ "shortlist 17 0 0 0 # 5" ∷ "shortlist 17 2 0 1 7 8" ∷ "shortlist 17 1 0 1 7 8 9" ∷ "shortlist 17 1 0 9 x" ∷ "shortlist 17 8193" ∷ [])
+    ≡ record { line = Ok (Some (record { call = ShortList; numbers = 17 ∷ 2 ∷ 0 ∷ 1 ∷ []; words = 3; bytes = 0 })); list = 7 ∷ 8 ∷ 9 ∷ []; text = [] }
+    ∷ plain (Ok (Some (record { call = ShortList; numbers = 17 ∷ 0 ∷ 0 ∷ 0 ∷ []; words = 0; bytes = 0 })))
+    ∷ record { line = Err (TooFewWords ShortList); list = 7 ∷ 8 ∷ []; text = [] }
+    ∷ record { line = Err (TooManyWords ShortList); list = 7 ∷ 8 ∷ 9 ∷ []; text = [] }
+    ∷ plain (Err (WordNotDecimal ShortList 0))
+    ∷ plain (Err (OutOfRange ShortList ActionWords))
+    ∷ []
+unfolding says counted
+parts = refl
 
 -- a table with a call that has four numbers
 later : Call → Row

@@ -2,16 +2,16 @@
 use Rattle.std.proofs.Common.{◌≡◌, ℕ, suc, ◌+◌, ◌-◌, ◌<◌, ◌≤◌, List, [], ◌∷◌, ◌++◌, length, take, drop, set, get_or, replicate, Option, None, Some, Result, Ok, Err, refl, sym, ap, ◌∙◌, arith, append_assoc, add-one, length-drop, drop-cons}
 use borrow.Author.Tests.{lt-ltb, le-ltb}
 use mathlib.Core.List.{append-nil}
-use lib.ListN.{length-append, take-append-drop, drop_of_length-le}
+use lib.ListN.{length-append, length-set, take-append-drop, drop_of_length-le}
 use lib.Seq.{take-suc-set, drop-set-lt, drop-drop, take_all, drop_at, length-take-le}
 use Rattle.words.specs.Saturating.{max32}
 use Rattle.decimal.specs.declared.NotANumber.{NotANumber}
 use Rattle.decimal.specs.Numbers.{argument_of}
 use Rattle.script.specs.Words.{words_of, uncommented, past_space, past_word, past_words}
-use Rattle.script.specs.Table.{Call, Param, Row, rows, most_of, Tail, Nothing, Words, Text}
-use Rattle.script.specs.Script.{Line, plain, command, Wrong, NoSuchCall, Missing, TooManyWords, ListTooLong, wrong_number, numbers_from, Listed, wrong_word, listed, list_from, stopped, line_with, with_list, ending, parse_call, call_named, behind_name, parse}
+use Rattle.script.specs.Table.{Call, Param, Row, rows, most_of, Tail, Nothing, Words, Parts, Text}
+use Rattle.script.specs.Script.{Line, plain, command, Wrong, NoSuchCall, Missing, TooFewWords, TooManyWords, ListTooLong, wrong_number, numbers_from, Listed, wrong_word, listed, list_from, stopped, wanted_by, count_wrong, first_wrong, counted, line_with, with_list, ending, parse_call, call_named, behind_name, parse}
 use Rattle.script.proofs.Splits.{EndOf, end-words, cut-rest}
-use Rattle.script.specs.Scan.{TakesWord, TakesNumber, TakesNumbers, word_number, end_with, ListEnds, Parses}
+use Rattle.script.specs.Scan.{TakesWord, TakesNumber, TakesNumbers, word_number, end_with, ListEnds, Counts, Parses}
 
 -- NUMBERS ------------------------------------------------------------------------------------------------------------------------------
 module _ (text : List ℕ) (call : Call) (p : Param) where
@@ -34,16 +34,17 @@ pub record Numbering (text : List ℕ) (call : Call) (ps : List Param) (four res
   pub takes : numbers_from call ps [] (words_of text) ≡ numbers_from call (drop i ps) (take i four) (words_of rest)
   pub kept : drop i four ≡ drop i (replicate 4 0)
   pub left : rest ≡ past_words i text
+  pub long : length four ≡ 4
 
 pub none-numbered : (text : List ℕ) (call : Call) (ps : List Param) → Numbering text call ps (replicate 4 0) text 0
 unfolding past_words
-none-numbered text call ps = record { takes = refl; kept = refl; left = refl }
+none-numbered text call ps = record { takes = refl; kept = refl; left = refl; long = refl }
 
-module _ (text : List ℕ) (call : Call) (ps : List Param) (four rest : List ℕ) (i : ℕ) (n : Numbering text call ps four rest i) (l : length four ≡ 4) where
+module _ (text : List ℕ) (call : Call) (ps : List Param) (four rest : List ℕ) (i : ℕ) (n : Numbering text call ps four rest i) where
   pub numbers-end : length ps ≡ i → i ≤ 4 → TakesNumbers text call ps four rest
   unfolding numbers_from
   numbers-end e h =
-      let m : length (take i four) ≡ i = length-take-le i four (omega arith) in
+      let m : length (take i four) ≡ i = length-take-le i four (omega (arith, n.long)) in
       record {
         numbers = take i four;
         takes = let all : length ps ≤ i = omega arith in n.takes ∙ rw (drop_of_length-le ps all) refl;
@@ -59,9 +60,10 @@ module _ (text : List ℕ) (call : Call) (ps : List Param) (four rest : List ℕ
     unfolding past_words
     numbers_more v rest' t k =
         record {
-          takes = rw (add-one, take-suc-set four i v (omega arith)) (n.takes ∙ (here (words_of rest) ∙ t.takes (drop (suc i) ps) (take i four)));
+          takes = rw (add-one, take-suc-set four i v (omega (arith, n.long))) (n.takes ∙ (here (words_of rest) ∙ t.takes (drop (suc i) ps) (take i four)));
           kept = drop-set-lt (i + 1) four i v (omega arith) ∙ (sym (drop-drop 1 i four) ∙ (ap (drop 1) n.kept ∙ drop-drop 1 i (replicate 4 0)));
           left = rw add-one (t.left ∙ ap (λ (z : List ℕ). past_word (past_space z)) n.left);
+          long = length-set four i v ∙ n.long;
         }
 
 -- LISTS ----------------------------------------------------------------------------------------------------------------------------
@@ -184,6 +186,54 @@ module _ (row : Row) (room : ℕ) (call : Call) (text : List ℕ) where
           go None m f = let z : n ≡ m = cc in ap (λ (k : ℕ). command call t.numbers k 0) z
           go (Some v) m f = let z : ◌≡◌ {A = ℕ} 0 1 = cc in absurd (omega arith)
 
+    module _ (e : row.tail ≡ Parts) (xs ys : List ℕ) where
+      abbrev read : Listed
+      read = list_from call room 0 (words_of rest)
+
+      abbrev wanted : Option Wrong
+      wanted = count_wrong call (wanted_by four) (length read.words)
+
+      -- the line, by what is wrong with a word and with their number
+      parts : parse_call row room call text ≡ record { line = line_with (first_wrong read.wrong wanted) (command call t.numbers (length read.words) 0); list = read.words; text = [] }
+      unfolding ending counted
+      parts = goes-on ∙ rw (e, t.padded) refl
+
+      pub parts-stopped : (w : Wrong) → ListEnds read xs ys (Err w) → Parses (parse_call row room call text) xs ys (Err w)
+      parts-stopped w h = rw parts (record { line = go read.wrong (length read.words) wanted h.ends; list = h.list })
+        where
+          go : (o : Option Wrong) (n : ℕ) (x : Option Wrong) → Err w ≡ end_with o n → Err w ≡ line_with (first_wrong o x) (command call t.numbers (length read.words) 0)
+          go None n x f = let z : ◌≡◌ {A = ℕ} 0 1 = cc in absurd (omega arith)
+          go (Some v) n x f = let z : w ≡ v = cc in rw z
+
+      -- so many words were read
+      ended : (n : ℕ) → ListEnds read xs ys (Ok n) → (read.wrong ≡ None) × (n ≡ length read.words)
+      ended n h = go read.wrong (length read.words) h.ends
+        where
+          go : (o : Option Wrong) (m : ℕ) → Ok n ≡ end_with o m → (o ≡ None) × (n ≡ m)
+          go None m f = (refl, cc)
+          go (Some v) m f = let z : ◌≡◌ {A = ℕ} 0 1 = cc in absurd (omega arith)
+
+      pub parts-counted : (n : ℕ) → ListEnds read xs ys (Ok n) → Counts (count_wrong call (wanted_by four) n) (Ok tt) → Parses (parse_call row room call text) xs ys (call_with n 0)
+      parts-counted n h f =
+          let d = ended n h in
+          rw (parts, d.0, ← d.1, f) (record { line = made n 0; list = h.list })
+
+      pub parts-refused : (n : ℕ) (w : Wrong) → ListEnds read xs ys (Ok n) → Counts (count_wrong call (wanted_by four) n) (Err w) → Parses (parse_call row room call text) xs ys (Err w)
+      parts-refused n w h f =
+          let d = ended n h in
+          rw (parts, d.0, ← d.1, f) (record { line = refl; list = h.list })
+
+-- how many words stand there, and how many are wanted
+module _ (call : Call) (wanted n : ℕ) where
+  pub too_few_words : n < wanted → Counts (count_wrong call wanted n) (Err (TooFewWords call))
+  too_few_words h = rw (lt-ltb n wanted h)
+
+  pub too_many_words : wanted < n → Counts (count_wrong call wanted n) (Err (TooManyWords call))
+  too_many_words h = rw (le-ltb n wanted (omega arith), lt-ltb wanted n h)
+
+  pub as_wanted : wanted ≤ n → n ≤ wanted → Counts (count_wrong call wanted n) (Ok tt)
+  as_wanted h k = rw (le-ltb n wanted h, le-ltb wanted n k)
+
 -- BEHIND THE NAME ------------------------------------------------------------------------------------------------------------------------
 behind : (text rest : List ℕ) → rest ≡ past_words 1 text → EndOf text rest
 behind text rest r = rw r (end-words 1 text)
@@ -196,6 +246,7 @@ module _ (row : Row) (line text rest : List ℕ) (t : text ≡ uncommented line)
   unfolding behind_name
   no_text Nothing h n = rw (h, ← t, append-nil) r
   no_text Words h n = rw (h, ← t, append-nil) r
+  no_text Parts h n = rw (h, ← t, append-nil) r
   no_text Text h n = absurd (n refl)
 
   pub to_end : row.tail ≡ Text → take (length line - (length text - length rest)) (drop (length text - length rest) line) ≡ behind_name row line

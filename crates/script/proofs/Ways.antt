@@ -9,8 +9,8 @@ use Rattle.decimal.specs.Numbers.{argument_of}
 use Rattle.decimal.specs.declared.NotANumber.{NotANumber}
 use Rattle.decimal.proofs.DigitLaws.{taken-most}
 use Rattle.script.specs.Words.{words_of, uncommented, past_words}
-use Rattle.script.specs.Table.{Call, Param, Row, rows, most_of, Tail, Nothing, Words, Text}
-use Rattle.script.specs.Script.{Command, Line, Parsed, plain, over, command, Wrong, NoSuchCall, Missing, TooManyWords, wrong_number, with_number, numbers_from, Listed, list_from, line_with, at_end, with_list, tailed, ending, going_on, parse_call, call_named, behind_name, called_by, parse_words, parse}
+use Rattle.script.specs.Table.{Call, Param, Row, rows, most_of, Tail, Nothing, Words, Parts, Text}
+use Rattle.script.specs.Script.{Command, Line, Parsed, plain, over, command, Wrong, NoSuchCall, Missing, TooManyWords, wrong_number, with_number, numbers_from, Listed, list_from, counted, line_with, at_end, with_list, tailed, ending, going_on, parse_call, call_named, behind_name, called_by, parse_words, parse}
 use Rattle.script.specs.Scan.{Parses, Finds}
 use Rattle.script.proofs.Splits.{EndOf, end-then, end-words, end-drop, cut-rest}
 
@@ -85,6 +85,7 @@ module _ (t : Call → Row) (line : List ℕ) (room : ℕ) (call : Call) where
         → Way t line (tailed x n room call s ns ws)
     way-tail Nothing h n ns r ws = way_end ns r ws
     way-tail Words h n ns r ws = way-list ns r (list_from call room 0 ws)
+    way-tail Parts h n ns r ws = way-list ns r (counted call ns (list_from call room 0 ws))
     way-tail Text h n ns r ws =
         let f = end-then (e h) (end-then (end-words n s) (end-drop 1 (past_words n s))) in
         call-way call ns [] (drop 1 (past_words n s)) f.front r f.whole

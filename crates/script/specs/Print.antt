@@ -5,7 +5,7 @@ use Rattle.words.specs.Saturating.{max32, max64}
 use Rattle.words.specs.Signed.{signed32}
 use Rattle.model.specs.Text.{bytes_of}
 use Rattle.script.specs.Table.{Call, rows, param_name, most_of}
-use Rattle.script.specs.Script.{Wrong, NoSuchCall, Missing, NotDecimal, OutOfRange, WordNotDecimal, WordOutOfRange, TooManyWords, ListTooLong, LineTooLong}
+use Rattle.script.specs.Script.{Wrong, NoSuchCall, Missing, NotDecimal, OutOfRange, WordNotDecimal, WordOutOfRange, TooFewWords, TooManyWords, ListTooLong, LineTooLong}
 
 -- NUMBERS ------------------------------------------------------------------------------------------------------------------------
 -- numbers in decimal digits, each behind a space
@@ -62,6 +62,7 @@ wrong_text (NotDecimal call p) = of_call call (param_name p ++ bytes_of " is no 
 wrong_text (OutOfRange call p) = of_call call (param_name p ++ over_text (most_of p))
 wrong_text (WordNotDecimal call k) = of_call call (bytes_of "word" ++ (numbers (k ∷ []) ++ bytes_of " is no decimal number"))
 wrong_text (WordOutOfRange call k) = of_call call (bytes_of "word" ++ (numbers (k ∷ []) ++ bytes_of " does not fit into 32 bits"))
+wrong_text (TooFewWords call) = of_call call (bytes_of "a word too few")
 wrong_text (TooManyWords call) = of_call call (bytes_of "a word too many")
 wrong_text (ListTooLong call room) = of_call call (bytes_of "more than" ++ (numbers (room ∷ []) ++ bytes_of " words"))
 wrong_text LineTooLong = bytes_of "line too long"

@@ -50,6 +50,10 @@ pub record ListEnds (l : Listed) (before after : List ℕ) (r : Result ℕ Wrong
   pub ends : r ≡ end_with l.wrong (length l.words)
   pub list : after ≡ over l.words before
 
+-- what is wrong with the number of words, if anything
+abbrev pub Counts : Option Wrong → Result (Unit {0}) Wrong → Type 0
+Counts o r = MatchResult r (λ _. o ≡ None) (λ w. o ≡ Some w)
+
 -- the answer r, with the lent list before and after, is what the definition gives
 pub record Parses (p : Parsed) (before after : List ℕ) (r : Line) : Type 0 where
   pub line : r ≡ p.line

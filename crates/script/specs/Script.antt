@@ -1,5 +1,5 @@
 -- The script language: one line is one call of a table. What a line says, or what is wrong with it.
-use Rattle.std.specs.Prelude.{ℕ, suc, List, [], ◌∷◌, ◌++◌, length, drop, replicate, nat_lt, if◌then◌else◌, Option, None, Some, Result, Ok, Err}
+use Rattle.std.specs.Prelude.{ℕ, suc, ◌+◌, List, [], ◌∷◌, ◌++◌, length, drop, replicate, get_or, nat_lt, if◌then◌else◌, Option, None, Some, Result, Ok, Err}
 use Rattle.std.specs.List.{find}
 use Rattle.std.specs.Str.{bytes_eq}
 use Rattle.words.specs.Saturating.{max32}
@@ -7,10 +7,10 @@ use Rattle.decimal.specs.Numbers.{argument_of}
 use Rattle.decimal.specs.declared.NotANumber.{NotANumber}
 use Rattle.decimal.specs.declared.NotANumber.TheVariants.{NoNumber, TooLarge}
 use Rattle.script.specs.Words.{words_of, uncommented, past_words}
-use Rattle.script.specs.Table.{Call, Param, Row, most_of, calls, Tail, Nothing, Words, Text}
+use Rattle.script.specs.Table.{Call, Param, Row, most_of, calls, Tail, Nothing, Words, Parts, Text}
 pub use Rattle.script.specs.declared.Command.{Command}
 pub use Rattle.script.specs.declared.complain.Wrong.{Wrong}
-pub use Rattle.script.specs.declared.complain.Wrong.TheVariants.{NoSuchCall, Missing, NotDecimal, OutOfRange, WordNotDecimal, WordOutOfRange, TooManyWords, ListTooLong, LineTooLong}
+pub use Rattle.script.specs.declared.complain.Wrong.TheVariants.{NoSuchCall, Missing, NotDecimal, OutOfRange, WordNotDecimal, WordOutOfRange, TooFewWords, TooManyWords, ListTooLong, LineTooLong}
 
 -- a call, nothing, or what is wrong
 abbrev pub Line : Type 0
@@ -78,6 +78,24 @@ list_from call room i [] = stopped None
 list_from call room i (w ∷ ws) =
     if nat_lt i room then listed call i (argument_of max32 w) (list_from call room (suc i) ws) else stopped (Some (ListTooLong call room))
 
+-- PARTS OF A LIST --------------------------------------------------------------------------------------------------------------------
+-- how many words a call's four numbers want: those behind the first say how many words each part has
+abbrev pub wanted_by : List ℕ → ℕ
+wanted_by four = get_or four 1 0 + get_or four 2 0 + get_or four 3 0
+
+abbrev pub count_wrong : Call → ℕ → ℕ → Option Wrong
+count_wrong call wanted n =
+    if nat_lt n wanted then Some (TooFewWords call) else
+    (if nat_lt wanted n then Some (TooManyWords call) else None)
+
+abbrev pub first_wrong : Option Wrong → Option Wrong → Option Wrong
+first_wrong None w = w
+first_wrong (Some v) w = Some v
+
+-- a list of as many words as are wanted; what is wrong with a word comes first
+unfoldable pub counted : Call → List ℕ → Listed → Listed
+counted call ns l = record { words = l.words; wrong = first_wrong l.wrong (count_wrong call (wanted_by (over ns (replicate 4 0))) (length l.words)) }
+
 -- CALLS ----------------------------------------------------------------------------------------------------------------------------
 abbrev pub line_with : Option Wrong → Line → Line
 line_with None x = x
@@ -97,6 +115,7 @@ with_text call ns text = record { line = command call ns 0 (length text); list =
 abbrev pub tailed : Tail → ℕ → ℕ → Call → List ℕ → List ℕ → List (List ℕ) → Parsed
 tailed Nothing n room call s ns ws = plain (at_end call ws (command call ns 0 0))
 tailed Words n room call s ns ws = with_list call ns (list_from call room 0 ws)
+tailed Parts n room call s ns ws = with_list call ns (counted call ns (list_from call room 0 ws))
 tailed Text n room call s ns ws = with_text call ns (drop 1 (past_words n s))
 
 unfoldable pub ending : Row → ℕ → Call → List ℕ → List ℕ → List (List ℕ) → Parsed
@@ -117,6 +136,7 @@ call_named t w = find (λ c. bytes_eq (t c).name w) calls
 abbrev pub comment_of : Tail → List ℕ → List ℕ
 comment_of Nothing line = []
 comment_of Words line = []
+comment_of Parts line = []
 comment_of Text line = drop (length (uncommented line)) line
 
 unfoldable pub behind_name : Row → List ℕ → List ℕ

@@ -4,11 +4,11 @@ use Prim.Native.String.{String}
 use Rattle.words.specs.Saturating.{max32, max64}
 use Rattle.model.specs.Text.{bytes_of}
 pub use Rattle.script.specs.declared.calls.Call.{Call}
-pub use Rattle.script.specs.declared.calls.Call.TheVariants.{New, Load, Unload, Enable, Tick, Run, Deadline, Counters, Lend, Size, Poke, Peek, Telegrams, Crontab, Start, RoomFor}
+pub use Rattle.script.specs.declared.calls.Call.TheVariants.{New, Load, Unload, Enable, Tick, Run, Deadline, Counters, Lend, Size, Poke, Peek, Telegrams, Crontab, Start, RoomFor, ShortList}
 pub use Rattle.script.specs.declared.calls.Param.{Param}
-use Rattle.script.specs.declared.calls.Param.TheVariants.{Time, Rule, Mark, DryMark, OutcomeWords, EffectWords, WordCount, Place, Word, Room, Sunday, TriggerWords}
+use Rattle.script.specs.declared.calls.Param.TheVariants.{Time, Rule, Mark, DryMark, OutcomeWords, EffectWords, WordCount, Place, Word, Room, Sunday, TriggerWords, ListNumber, ActionWords, ValueWords, PoolWords}
 pub use Rattle.script.specs.declared.calls.Tail.{Tail}
-pub use Rattle.script.specs.declared.calls.Tail.TheVariants.{Nothing, Words, Text}
+pub use Rattle.script.specs.declared.calls.Tail.TheVariants.{Nothing, Words, Parts, Text}
 
 -- PARAMETERS -------------------------------------------------------------------------------------------------------------------------
 abbrev pub param_name : Param → List ℕ
@@ -24,6 +24,10 @@ param_name Word = bytes_of "word"
 param_name Room = bytes_of "room"
 param_name Sunday = bytes_of "Sunday"
 param_name TriggerWords = bytes_of "number of trigger words"
+param_name ListNumber = bytes_of "list number"
+param_name ActionWords = bytes_of "number of action words"
+param_name ValueWords = bytes_of "number of value words"
+param_name PoolWords = bytes_of "number of pool words"
 
 -- the largest number: a time has 64 bits, a word 32, a mark is 0 or 1; lent stores and the store's places are limited
 abbrev pub most_of : Param → ℕ
@@ -39,9 +43,13 @@ most_of Word = max32
 most_of Room = 8192
 most_of Sunday = max32
 most_of TriggerWords = 16384
+most_of ListNumber = max32
+most_of ActionWords = 8192
+most_of ValueWords = 8192
+most_of PoolWords = 8192
 
 -- CALLS ------------------------------------------------------------------------------------------------------------------------------
--- a name, up to four parameters, and what stands behind them: nothing, a list of words, or a text
+-- a name, up to four parameters, and what stands behind them: nothing, a list of words, a list of as many words as its numbers behind the first say, or a text
 pub record Row : Type 0 where
   pub name : List ℕ
   pub params : List Param
@@ -67,10 +75,11 @@ rows Telegrams = row "telegrams" (Room ∷ []) Words
 rows Crontab = row "crontab" (Sunday ∷ TriggerWords ∷ []) Text
 rows Start = row "start" [] Words
 rows RoomFor = row "room" [] Words
+rows ShortList = row "shortlist" (ListNumber ∷ ActionWords ∷ ValueWords ∷ PoolWords ∷ []) Parts
 
 -- all of them
 unfoldable pub calls : List Call
-calls = New ∷ Load ∷ Unload ∷ Enable ∷ Tick ∷ Run ∷ Deadline ∷ Counters ∷ Lend ∷ Size ∷ Poke ∷ Peek ∷ Telegrams ∷ Crontab ∷ Start ∷ RoomFor ∷ []
+calls = New ∷ Load ∷ Unload ∷ Enable ∷ Tick ∷ Run ∷ Deadline ∷ Counters ∷ Lend ∷ Size ∷ Poke ∷ Peek ∷ Telegrams ∷ Crontab ∷ Start ∷ RoomFor ∷ ShortList ∷ []
 
 -- the largest number of a call's parameter i, and 0 where it has none
 abbrev pub largest_of : Call → ℕ → ℕ

@@ -37,6 +37,7 @@ pub enum Call {
     Crontab,
     Start,
     RoomFor,
+    ShortList,
 }
 
 #[derive(Clone, Copy, PartialEq, Eq)]
@@ -53,6 +54,10 @@ pub enum Param {
     Room,
     Sunday,
     TriggerWords,
+    ListNumber,
+    ActionWords,
+    ValueWords,
+    PoolWords,
 }
 
 // What stands behind the numbers of a call.
@@ -60,6 +65,8 @@ pub enum Param {
 pub enum Tail {
     Nothing,
     Words,
+    // As many words as the numbers behind the first say.
+    Parts,
     Text,
 }
 
@@ -82,7 +89,7 @@ impl Shape {
     }
 }
 
-const CALLS: [Call; 16] = [
+const CALLS: [Call; 17] = [
     Call::New,
     Call::Load,
     Call::Unload,
@@ -99,6 +106,15 @@ const CALLS: [Call; 16] = [
     Call::Crontab,
     Call::Start,
     Call::RoomFor,
+    Call::ShortList,
+];
+
+// Which list, and how many words each part of the list that follows has.
+static SHORT_LIST: [Param; 4] = [
+    Param::ListNumber,
+    Param::ActionWords,
+    Param::ValueWords,
+    Param::PoolWords,
 ];
 
 impl Call {
@@ -135,6 +151,7 @@ impl Call {
             ),
             Call::Start => Shape::new("start", &[], Tail::Words),
             Call::RoomFor => Shape::new("room", &[], Tail::Words),
+            Call::ShortList => Shape::new("shortlist", &SHORT_LIST, Tail::Parts),
         }
     }
 
@@ -191,6 +208,10 @@ impl Param {
             Param::Room => "room",
             Param::Sunday => "Sunday",
             Param::TriggerWords => "number of trigger words",
+            Param::ListNumber => "list number",
+            Param::ActionWords => "number of action words",
+            Param::ValueWords => "number of value words",
+            Param::PoolWords => "number of pool words",
         }
     }
 
@@ -200,12 +221,16 @@ impl Param {
     {
         match self {
             Param::Time => u64::MAX,
-            Param::Rule | Param::WordCount | Param::Word | Param::Sunday => u32::MAX as u64,
+            Param::Rule | Param::WordCount | Param::Word | Param::Sunday | Param::ListNumber => {
+                u32::MAX as u64
+            }
             Param::Mark | Param::DryMark => 1,
             Param::OutcomeWords => OUTCOME_WORDS as u64,
             Param::EffectWords => EFFECT_WORDS as u64,
             Param::Place => STORE_WORDS as u64 - 1,
-            Param::Room => LIST_WORDS as u64,
+            Param::Room | Param::ActionWords | Param::ValueWords | Param::PoolWords => {
+                LIST_WORDS as u64
+            }
             Param::TriggerWords => TRIGGER_WORDS as u64,
         }
     }

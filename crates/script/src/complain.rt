@@ -14,6 +14,7 @@ pub enum Wrong {
     OutOfRange { call: Call, param: Param },
     WordNotDecimal { call: Call, word: usize },
     WordOutOfRange { call: Call, word: usize },
+    TooFewWords { call: Call },
     TooManyWords { call: Call },
     ListTooLong { call: Call, room: usize },
     LineTooLong,
@@ -54,6 +55,7 @@ impl fmt::Display for Wrong {
             Wrong::WordOutOfRange { call, word } => {
                 write!(f, "{call}: word {word}{}", Over(WORD_MOST))
             }
+            Wrong::TooFewWords { call } => write!(f, "{call}: a word too few"),
             Wrong::TooManyWords { call } => write!(f, "{call}: a word too many"),
             Wrong::ListTooLong { call, room } => write!(f, "{call}: more than {room} words"),
             Wrong::LineTooLong => write!(f, "line too long"),

@@ -4,8 +4,8 @@ ghost use Rattle.words.specs.Saturating.{max32};
 ghost use Rattle.decimal.specs.Numbers.{argument_of};
 ghost use Rattle.script.specs.Words.{words_of, uncommented, past_words};
 ghost use Rattle.script.specs.Table.{rows};
-ghost use Rattle.script.specs.Script.{parse_call, list_from, behind_name};
-ghost use Rattle.script.specs.Scan.{NextNumber, AllNumbers, word_number, ListEnds, Parses};
+ghost use Rattle.script.specs.Script.{parse_call, list_from, wanted_by, count_wrong, behind_name};
+ghost use Rattle.script.specs.Scan.{NextNumber, AllNumbers, word_number, ListEnds, Counts, Parses};
 
 use crate::calls::Tail;
 use crate::{Call, Command, Param, Wrong, scan};
@@ -69,6 +69,23 @@ fn items(text: &[u8], call: Call, list: &mut [u32]) -> Result<usize, Wrong>
     }
 }
 
+// Whether a list has as many words as the numbers behind the first say.
+#[tactic(auto, using(crate::proofs::Reading::too_few_words, crate::proofs::Reading::too_many_words, crate::proofs::Reading::as_wanted))]
+fn counted(call: Call, numbers: [u64; 4], words: usize) -> Result<(), Wrong>
+    ensures { Counts (count_wrong call (wanted_by numbers) words) result }
+{
+    let [_, a, b, c] = numbers;
+    let wanted = a as u128 + b as u128 + c as u128;
+    let given = words as u128;
+    if given < wanted {
+        return Err(Wrong::TooFewWords { call });
+    }
+    if wanted < given {
+        return Err(Wrong::TooManyWords { call });
+    }
+    Ok(())
+}
+
 // The numbers and what stands behind them, from the bytes behind a call's name.
 pub fn call_of(text: &[u8], call: Call, list: &mut [u32]) -> Result<Command, Wrong>
     ensures { MatchResult result (λ c. Parses (parse_call (rows call) (length list.old) call text.now) list.old list.new (Ok (Some c))) (λ w. Parses (parse_call (rows call) (length list.old) call text.now) list.old list.new (Err w)) }
@@ -87,6 +104,11 @@ pub fn call_of(text: &[u8], call: Call, list: &mut [u32]) -> Result<Command, Wro
         },
         Tail::Words => {
             let words = items(rest, call, list)?;
+            Ok(Command { words, ..command })
+        }
+        Tail::Parts => {
+            let words = items(rest, call, list)?;
+            counted(call, numbers, words)?;
             Ok(Command { words, ..command })
         }
         Tail::Text => {

@@ -1,9 +1,12 @@
 //! The calls of the script language, a row for each, and the parser over the rows.
 
+use std::cmp::Ordering;
+
 use crate::check;
 use crate::crontab;
 use crate::house::{Call, House};
 use crate::next_start;
+use crate::short_lists;
 use crate::telegrams;
 
 /// The longest image or snapshot in words.
@@ -21,11 +24,13 @@ const AT: Param = Param("time", TIME);
 const RULE: Param = Param("rule", WORD);
 const PLACE: Param = Param("place", 16_383);
 
-/// What stands behind the numbers of a call: nothing, a list of words, or the rest of the line behind one blank, as it stands.
+/// What stands behind the numbers of a call: nothing, a list of words, as many words as its numbers behind the first say, or the rest of the line behind one
+/// blank, as it stands.
 #[derive(Clone, Copy, PartialEq, Eq)]
 pub enum Tail {
     Nothing,
     Words,
+    Parts,
     Text,
 }
 
@@ -110,6 +115,17 @@ pub const ROWS: &[Row] = &[
         tail: Tail::Words,
         meaning: Meaning::Own(|_, given| room(&given.list)),
     },
+    Row {
+        name: "shortlist",
+        params: &[
+            Param("list number", WORD),
+            Param("number of action words", LIST_WORDS as u64),
+            Param("number of value words", LIST_WORDS as u64),
+            Param("number of pool words", LIST_WORDS as u64),
+        ],
+        tail: Tail::Parts,
+        meaning: Meaning::Own(|_, given| short_lists::answer(given)),
+    },
 ];
 
 /// What a player prints for the room that an image needs.
@@ -193,6 +209,7 @@ fn given(row: &Row, mut rest: &[u8]) -> Result<Given, String> {
         Tail::Nothing if word(&mut rest).is_some() => return Err("a word too many".to_owned()),
         Tail::Nothing => {}
         Tail::Words => given.list = list(rest)?,
+        Tail::Parts => given.list = parts(rest, given.numbers[1..].iter().sum())?,
         Tail::Text => given.text = rest.get(1..).unwrap_or_default().to_vec(),
     }
     Ok(given)
@@ -209,6 +226,16 @@ fn list(mut rest: &[u8]) -> Result<Vec<u32>, String> {
         words.push(number(word, WORD).map_err(|why| format!("word {i} {why}"))? as u32);
     }
     Ok(words)
+}
+
+/// All words that are left, which must be so many.
+fn parts(rest: &[u8], wanted: u64) -> Result<Vec<u32>, String> {
+    let words = list(rest)?;
+    match (words.len() as u64).cmp(&wanted) {
+        Ordering::Less => Err("a word too few".to_owned()),
+        Ordering::Equal => Ok(words),
+        Ordering::Greater => Err("a word too many".to_owned()),
+    }
 }
 
 /// Decimal digits and nothing else, or what is wrong with them.

@@ -137,6 +137,7 @@ fn a_call_and_its_line_are_each_other_back() {
         "new 18446744073709551615", "load 1 2 3", "unload 0", "enable 5 1", "tick 1 2", "tick",
         "run 5 1 2 3", "deadline", "counters", "lend 6 5", "size 7", "poke 1 2", "peek 3",
         "telegrams 8192 12 1 10 0 0", "crontab 6 16 0 5 * * 1-5 # up", "crontab 7 0", "start 1 2", "start", "room 5 1 0",
+        "shortlist 1 8 0 2 21 7 0 0 0 0 0 0 1 2",
     ];
     for text in lines {
         let call = parse(text).expect("good text").expect("a call");
@@ -160,6 +161,20 @@ fn the_room_that_an_image_needs_asks_no_store() {
     let image = LOAD.trim_start_matches("load 0");
     let text = played(&["size 1", &format!("room{}", image.trim_end()), "room", "room x"]);
     assert_eq!(text, "room 32 96\nroom refused 10\nline 5: room: word 0 is no decimal number\n");
+}
+
+#[test]
+fn a_short_list_asks_no_store() {
+    let logs = "21 7 0 0 0 0 0 0 ".repeat(8);
+    let lines: Vec<String> = [17, 0, 585].iter().map(|k| format!("shortlist {k} 64 0 0 {logs}")).collect();
+    let text = played(&[
+        "size 1", &lines[0], &lines[1], &lines[2], "shortlist 0 0 0 0", "shortlist 9 8 0 1 21 7 0 0 0 0 0 0 256",
+        "shortlist 0 8 0 1 21 7 0 0 0 0 0 0", "shortlist 0 8 0 0 21 7 0 0 0 0 0 0 1", "shortlist 0 8193", "shortlist 0 8 0",
+    ]);
+    let expected = "shortlist 2 1 0 0\nshortlist 0 0 0 0\nshortlist refused 72\nshortlist refused 70\nshortlist refused 71\n\
+        line 8: shortlist: a word too few\nline 9: shortlist: a word too many\n\
+        line 10: shortlist: number of action words is over 8192\nline 11: shortlist: number of pool words is missing\n";
+    assert_eq!(text, expected);
 }
 
 #[test]

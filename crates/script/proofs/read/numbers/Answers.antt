@@ -8,9 +8,9 @@ loop-i-init c = none-numbered _ _ _
 
 pub loop-i-preserved : goal.loop-i-preserved
 loop-i-preserved c =
-    numbers_more _ _ c.params-param-items.result.now _ _ _ c.loop-i.invariant (search rules) _ c.loop-i-test.true _ _ c.in_ok-numbers.ensures (search rules)
+    numbers_more _ _ c.params-param-items.result.now _ _ _ c.loop-i.invariant _ c.loop-i-test.true _ _ c.in_ok-numbers.ensures (search rules)
 
 pub returns : goal.returns
 returns c =
     rw (← c.params-param-items.ensures.params)
-    (numbers-end _ _ c.params-param-items.result.now _ _ _ c.loop-i.invariant (search rules) (omega arith) (omega arith))
+    (numbers-end _ _ c.params-param-items.result.now _ _ _ c.loop-i.invariant (omega arith) (omega arith))

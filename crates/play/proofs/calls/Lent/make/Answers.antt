@@ -27,6 +27,10 @@ returns-in-Crontab-clause-makes c =
     let e : length c.args.self.now.effects ≡ 327680 = search rules in
     rw (c.in-Crontab.is, ← e) (c.crontab.ensures _)
 
+pub returns-in-ShortList-clause-makes : goal.returns-in-ShortList-clause-makes
+unfolding doing
+returns-in-ShortList-clause-makes c = rw c.in-ShortList.is (c.short_list.ensures _)
+
 pub returns-in-RoomFor-clause-makes : goal.returns-in-RoomFor-clause-makes
 unfolding doing
 returns-in-RoomFor-clause-makes c = rw c.in-RoomFor.is (c.room.ensures _)

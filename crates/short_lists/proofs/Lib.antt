@@ -1,0 +1,11 @@
+pub mod Blocks
+pub mod Digits
+pub mod Theorems
+pub mod FormulaLaws
+pub mod Chunks
+pub mod SimpleFields
+pub mod OneStep
+pub mod ImageParts
+pub mod Accepted
+pub mod Examples
+pub mod CodeLaws
