@@ -1,7 +1,7 @@
 -- Demand 3 of the eight functions, from their contracts and the theorem about the specification's calls on words. Assumes nothing.
 use mathlib.Core.Path.{◌≡◌, refl, sym, ap, ap₂, ◌∙◌}
 use mathlib.Core.Bool.{true}
-use mathlib.Core.List.{List, [], ◌∷◌, map}
+use mathlib.Core.List.{List, [], ◌∷◌, map, map-map}
 use Rattle.std.specs.Prelude.{Some}
 use Prim.Native.Nat.{ℕ, suc, ◌<◌, ◌^◌}
 use native.Mathlib.Omega.{arith}
@@ -121,10 +121,6 @@ unfolding seen_on answers_on seen
 values_seen w [] = refl
 values_seen w (c ∷ cs) = ap (λ (l : List (List ℕ)). values_of (call_on c w).answer ∷ l) (values_seen (call_on c w).store cs)
 
-map-map : {A B C : Type 0} (f : B → C) (g : A → B) (xs : List A) → map (λ x. f (g x)) xs ≡ map f (map g xs)
-map-map f g [] = refl
-map-map f g (x ∷ xs) = ap (λ (l : List _). f (g x) ∷ l) (map-map f g xs)
-
 -- THE THEOREM -----------------------------------------------------------------------------------------------------------------------
 pub demand3-of-calls : (w : List ℕ) (s : Store) → read w ≡ Some s → (xs : List AnyRun) → From w xs → Demand3OfCalls w s xs
 demand3-of-calls w s e xs h =
@@ -134,8 +130,8 @@ demand3-of-calls w s e xs h =
     let o = shows-are w xs h in
     record {
       shows = o;
-      numbers = map-map (λ (o : Seen). o.number) shown_by xs ∙ ap (map (λ (o : Seen). o.number)) o ∙ numbers-seen w cs ∙ ap (map number_of) d.answers;
-      values = map-map (λ (o : Seen). o.values) shown_by xs ∙ ap (map (λ (o : Seen). o.values)) o ∙ values_seen w cs ∙ ap (map values_of) d.answers;
+      numbers = sym (map-map (λ (o : Seen). o.number) shown_by xs) ∙ ap (map (λ (o : Seen). o.number)) o ∙ numbers-seen w cs ∙ ap (map number_of) d.answers;
+      values = sym (map-map (λ (o : Seen). o.values) shown_by xs) ∙ ap (map (λ (o : Seen). o.values)) o ∙ values_seen w cs ∙ ap (map values_of) d.answers;
       reads = ap read l ∙ d.reads;
       refused = λ x b n. left_alone x n;
       demand3 = d.demand3;

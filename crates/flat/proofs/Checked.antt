@@ -4,7 +4,7 @@ use mathlib.Core.Bool.{Bool, true, false, ◌||◌, cond}
 use mathlib.Core.List.{List, [], ◌∷◌, map}
 use Rattle.std.specs.Prelude.{Option, Some}
 use Prim.Native.Nat.{ℕ, zero, suc, ◌+◌, ◌*◌, ◌-◌, ◌/◌, ◌≤◌, ◌<◌}
-use native.Mathlib.Nat.{mul_comm}
+use native.Mathlib.Nat.{mul_comm, add-zero}
 use native.Mathlib.Omega.{arith}
 use native.Mathlib.Decide.{dec_le}
 use borrow.Author.Tests.{lt-ltb, le-ltb, leb-true, ltb-true, ne_eqb}
@@ -89,9 +89,6 @@ module _ (img : List ℕ) (t width : ℕ) (wide : width_of t ≡ width) (ends : 
       ∙ get_or-drop (first_of img t) img (i * width + j) 0
       ∙ ap (λ (n : ℕ). get_or img n 0) e
       ∙ ap (λ (n : ℕ). get_or img (first_of img t + n * i + j) 0) (sym wide)
-
-zero_more : (n : ℕ) → n + 0 ≡ n
-zero_more n = omega arith
 
 eight : width_of actions ≡ 8
 unfolding width_of
@@ -213,7 +210,7 @@ module _ (img : List ℕ) (h : Checked img) where
     action-list : (kind j : ℕ) → j < 7 → get_or acts (i * 8) 0 ≡ kind → ((code : ℕ) → field_of actions kind code j ≡ Nested)
         → Behind (length acts / 8) i (get_or acts (i * 8 + j) 0) (get_or acts (i * 8 + (j + 1)) 0)
     action-list kind j m e f =
-        let k : word_at img actions i 0 ≡ kind = sym (action-word 0 (omega arith)) ∙ ap (λ (n : ℕ). get_or acts n 0) (zero_more (i * 8)) ∙ e in
+        let k : word_at img actions i 0 ≡ kind = sym (action-word 0 (omega arith)) ∙ ap (λ (n : ℕ). get_or acts n 0) (add-zero (i * 8)) ∙ e in
         let x = led actions i j (omega arith) (rw acts-size l) (wide_enough j m) in
         let y = rw (k, f (word_at img actions i 1)) at x in
         rw (action-word j (omega arith), action-word (j + 1) (omega arith), ← acts-size) (behind img i (word_at img actions i j) (word_at img actions i (j + 1)) y)

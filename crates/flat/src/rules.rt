@@ -16,7 +16,7 @@ use model::{FlattenCtx, Refusal};
 const LIST_WORDS: usize = 268 * 4;
 
 // Refusal 16: "over 2,048 flat steps, or `flatten_action` taken over 65,536 times for all rules together".
-const MOST_STEPS: usize = 2048;
+pub const MOST_STEPS: usize = 2048;
 
 const MOST_ACTIONS: usize = 65536;
 

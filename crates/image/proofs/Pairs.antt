@@ -67,7 +67,7 @@ six_pairs (a ∷ b ∷ c ∷ d ∷ e ∷ f ∷ g ∷ k ∷ []) h = refl
 six_pairs (a ∷ b ∷ c ∷ d ∷ e ∷ f ∷ g ∷ k ∷ x ∷ w) h = absurd (omega arith)
 
 -- five behind a test
-pub joined : (x a b c d e : Bool) → x && (a && (b && (c && (d && (e && true))))) ≡ ((((x && a) && b) && c) && d) && e
+joined : (x a b c d e : Bool) → x && (a && (b && (c && (d && (e && true))))) ≡ ((((x && a) && b) && c) && d) && e
 joined x a b c d e = simp (and_assoc, and-true)
 
 pub row-fields : {A : Type 0} (q : A → List ℕ → Bool) (d : A) (r : List A) (w : List ℕ) (x : Bool) → length r ≡ 5 → length w ≡ 8

@@ -2,12 +2,13 @@
 use mathlib.Core.Path.{◌≡◌, refl, sym, ap, ap₂}
 use Prim.Native.Nat.{ℕ, zero, suc, ◌+◌, ◌≤◌}
 use native.Mathlib.Omega.{arith}
-use mathlib.Core.Bool.{Bool, true, false, not, ◌||◌, false≢true, true≢false}
+use mathlib.Core.Bool.{Bool, true, false, not, false≢true}
 use mathlib.Core.List.{List, [], ◌∷◌, map}
 use Rattle.std.specs.Prelude.{Option, None, Some}
 use lib.Dec.{eqb}
 use lib.ListN.{length}
 use borrow.Author.Tests.{eqb-true, eqb-false, eq-eqb, ne_eqb}
+use Rattle.std.proofs.lemmas.Bool.{or_parts}
 use Rattle.words.specs.Saturating.{max64}
 use Rattle.model.specs.World.{now_of}
 use Rattle.model.specs.Lists.{all}
@@ -128,14 +129,6 @@ call-origins false deadline tr l f h = refl
 call-origins false counters tr l f h = refl
 
 -- EFFECTS BY NUMBER AND BY ORIGIN ------------------------------------------------------------------------------------------------------
-or_l : (a b : Bool) → a || b ≡ false → a ≡ false
-or_l true b h = absurd (true≢false h)
-or_l false b h = refl
-
-or_r : (a b : Bool) → a || b ≡ false → b ≡ false
-or_r true b h = absurd (true≢false h)
-or_r false b h = h
-
 abbrev pub act : ℕ → ℕ → Activation
 act m b = record { number = m; budget = b }
 
@@ -153,7 +146,7 @@ same-effects m b (o ∷ os) = ap₂ (λ t r. only_if t (length o.effects) + r) (
 
 pub none-effects : (n : ℕ) (os : List Outcome) → is_in n (map number_of os) ≡ false → effects_with n os ≡ 0
 none-effects n [] h = refl
-none-effects n (o ∷ os) h = let i = none-effects n os (or_r (eqb n o.number) _ h) in rw (or_l (eqb n o.number) _ h) (omega arith)
+none-effects n (o ∷ os) h = let b = or_parts (eqb n o.number) _ h in let i = none-effects n os b.1 in rw b.0 (omega arith)
 
 not-from : (m b b' n : ℕ) → eqb (suc m) n ≡ false → from (act m b') (origin_of b n) ≡ false
 unfolding same_activation
@@ -164,8 +157,9 @@ pub none-origins : (m b b' : ℕ) (ns : List ℕ) (os : List Outcome) → is_in 
 none-origins m b b' [] os h = refl
 none-origins m b b' (n ∷ ns) [] h = refl
 none-origins m b b' (n ∷ ns) (o ∷ os) h =
-    let i = none-origins m b b' ns os (or_r (eqb (suc m) n) _ h) in
-    rw (not-from m b b' n (or_l (eqb (suc m) n) _ h)) (omega arith)
+    let c = or_parts (eqb (suc m) n) _ h in
+    let i = none-origins m b b' ns os c.1 in
+    rw (not-from m b b' n c.0) (omega arith)
 
 -- numbers that are all 0
 pub zeros-none : (m : ℕ) (ns : List ℕ) → all is_zero ns ≡ true → is_in (suc m) ns ≡ false

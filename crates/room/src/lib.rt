@@ -14,6 +14,7 @@ use image::layout::{Image, Table};
 use model::{Refusal, Trigger};
 
 // The most rules of a set, and the most timers and continuations that wait in a state.
+// kept: state's place.rt has the three numbers too. Neither crate stands on the other, and each proves its own against the specification.
 const MOST_RULES: usize = 64;
 
 const MOST_TIMERS: u64 = 16;

@@ -7,7 +7,7 @@ use native.Mathlib.Omega.{arith}
 use lib.Dec.{ltb, eqb}
 use lib.ListN.{length-append}
 use borrow.Author.Tests.{ltb-true, ltb-false, le-ltb}
-use Rattle.std.proofs.lemmas.Bool.{or_parts}
+use Rattle.std.proofs.lemmas.Bool.{or_parts, not-true}
 use Rattle.model.proofs.StoreLaws.{read-write}
 use Rattle.model.specs.Lists.{all}
 use Rattle.model.specs.Field.{unless}
@@ -140,11 +140,7 @@ answers-unshared s (c ∷ cs) =
 
 -- where 16 did not refuse, load is as it was
 not-sixteen : (n : ℕ) → not (eqb n 16) ≡ true → eqb n 16 ≡ false
-not-sixteen n h = go (eqb n 16) h
-  where
-    go : (b : Bool) → not b ≡ true → b ≡ false
-    go true e = absurd (false≢true e)
-    go false e = refl
+not-sixteen n h = not-true (eqb n 16) h
 
 load-before : (t : ℕ) (img : List ℕ) (s : Store) → eqb (refusal_before img) 16 ≡ false → load_unshared t img s ≡ load_before t img s
 unfolding load_unshared load_before

@@ -1,8 +1,9 @@
 // A counted table in words, whatever its rows are: its count, rows of `width` words, zeros behind.
-// kept: that words are a table of so many rows (`Counted`) is asked by six functions of slots.rt, timers.rt, variables.rt and sequence.rt. A struct of the lent words that is seen
-// as the list of its rows, with that as its invariant, would be no plainer: it holds a `&mut`, and its lender learns what was written only where each function that makes
-// or takes it ensures that the field keeps its ghost name, a clause in the place of the other. And the rows of variables and of pending records are not those of the `Row` of their
-// types, which reads one word of a text, and no trigger past 4: the struct would serve two of the four tables.
+// kept: that words are a table of so many rows (`Counted`) is asked by six functions of slots.rt, timers.rt, variables.rt and sequence.rt. A struct of the lent words, with a count
+// within them as its invariant, was tried in a proof apart, with rows of one word and without the zeros behind: `try_push` then asks nothing and all of it closes, but only where
+// `new` and each method ensure that the words keep their ghost name: without that, what the lender's function ensures of its words does not close. So a clause stands in the place
+// of the other. And the rows of variables and of pending records are not those of the `Row` of their types, which reads one word of a text, and no trigger past 4: the struct would
+// serve two of the four tables.
 ghost use Rattle.std.specs.Prelude.{◌≡◌, Bool, IsTrue, cond, [], ◌+◌, ◌-◌, ◌≤◌, ◌<◌, ltb, length, get_or, take};
 ghost use Rattle.model.specs.Lists.{keep};
 ghost use Rattle.state.specs.Cuts.{rows_in, table_of, passes, with_row, HasRoom, Words, Fits, Table, RowSet};

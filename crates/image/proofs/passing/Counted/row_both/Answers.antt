@@ -1,10 +1,9 @@
 -- `image::passing::Counted::row_both` meets its contract. Assumes nothing.
 use mathlib.Core.Path.{◌≡◌, ◌∙◌}
 use Prim.Native.Nat.{ℕ}
-use mathlib.Core.Bool.{Bool, ◌&&◌}
+use mathlib.Core.Bool.{Bool}
 use mathlib.Core.List.{List}
 use native.Mathlib.Omega.{arith}
-use lib.Dec.{eqb, leb}
 use lib.ListN.{length, get_or, drop}
 use Rattle.std.proofs.Common.{rules}
 use Rattle.std.proofs.lemmas.List.{take_all, length-drop}
@@ -17,7 +16,6 @@ use Rattle.fields.proofs.Chains.{computes-all}
 use Rattle.image.specs.Passing.{both_pass, row_both}
 use Rattle.image.proofs.OnePass.{zero-is}
 use Rattle.image.proofs.Pairs.{YieldsList-from_pairs, has-two, row-fields}
-use Rattle.image.proofs.Voids.{voids, void-words, behind-two}
 use Rattle.image.proofs.passing.Counted.row_both.Goals as goal
 
 pub all-fields-requires-clause-callable : goal.all-fields-requires-clause-callable
@@ -36,5 +34,4 @@ returns c =
     let q : Field → List ℕ → Bool = λ f p. both_pass c.args.self.now.image.now c.args.holder f (get_or p 0 0) (get_or p 1 0) in
     let road = YieldsList-from_zip (YieldsList-at c.zip.ensures.first (YieldsList-from_slice r c.iter.ensures.rest)) (YieldsList-at c.zip.ensures.second (YieldsList-from_pairs (drop 1 w) _ c.windows.ensures.size (c.windows.ensures.rest ∙ take_all 7 (drop 1 w) (omega (arith, length-drop 1 w))))) in
     let all = computes-all c.all-fields.new.self _ (λ p. q p.0 p.1) c.all-fields.result c.all-fields.ensures.ran road (λ x b u k. search rules) in
-    let last : _ ≡ voids w 6 2 = c.eq.ensures ∙ void-words w 6 2 (omega arith) in
-    rw (last, behind-two (leb (get_or w 0 0) c.args.last && c.all-fields.result) (eqb (get_or w 6 0) 0) (eqb (get_or w 7 0) 0), all, row-fields q void r w _ five (omega arith), zero-is (get_or w 6 0), zero-is (get_or w 7 0))
+    rw (all, row-fields q void r w _ five (omega arith), zero-is (get_or w 6 0), zero-is (get_or w 7 0))
