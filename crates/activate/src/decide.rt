@@ -16,7 +16,7 @@ pub enum Decision {
     Unevaluable,
 }
 
-// kept: a rule that never ran apart, and no `is_some_and`: `within` of the specification has an equation for each of the two cases, and each is found by the check here.
+// kept: no `is_some_and`, as it would be no plainer: the two ways out are the two equations of `within`, line for line, and the check finds both (tried: with a closure it does not).
 #[tactic(auto, unfolding(model::specs::Activate::in_cooldown, words::specs::Saturating::saturating_sub))]
 fn in_cooldown(env: &eval::Env, i: u32) -> bool
     ensures { InCooldownIs env.now.snapshot.now env.now.image.now i (meaning env.now.state.now).rest result }

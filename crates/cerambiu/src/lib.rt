@@ -110,6 +110,7 @@ impl Answer for usize {
 }
 
 // The room for outcomes and effects.
+// kept: the `put` of `Handled` once more: see `Needed` of room.
 impl Answer for Needed {
     ghost words = { numbers };
 

@@ -36,6 +36,7 @@ fn value_of(word: &[u8]) -> Option<u64>
 // A text that is to be a number of at most `most`. An empty one is 0.
 // kept: not the library's `u64::from_str_radix`, as it would be no plainer: it wants a `&str`, takes a `+`, and stops at the first fault, where a number that is
 // too long, with a letter behind it, is no number here.
+// kept: a match, and no `filter` and `ok_or`, as it would be no plainer: one arm says both when a number is taken and that it is.
 pub fn read(word: &[u8], most: u64) -> Result<u64, NotANumber>
     ensures { result ≡ argument_of most word.now }
 {

@@ -26,7 +26,7 @@ pub fn without_set(store: &Checked, v: &mut State)
 }
 
 // What the store keeps for the rule of a name: its last activation, and its cycle position.
-// kept: a match, and no `map_or`: `kept_at` of the specification has an equation for each arm.
+// kept: a match, and no `map_or`, as it would be no plainer: the two arms are the two equations of `kept_at`.
 fn kept_of(store: &Checked, name: u32) -> (Option<u64>, Option<u32>)
     ensures activation { result.0 ≡ kept store.now.loaded store.now.vol.rest.last_activation name }
     ensures position { result.1 ≡ kept store.now.loaded store.now.vol.rest.cycle_pos name }

@@ -26,7 +26,7 @@ fn next_from(store: &Checked, sun: Option<model::SunTimes>, t: u32) -> Option<Fi
 }
 
 // In the world of a snapshot that is accepted.
-// kept: a match, and no `map_or`: one arm for each answer, as `next_start` of the specification tells them apart.
+// kept: a match, and no `map_or`, as it would be no plainer: one arm for each answer that `next_start` tells apart.
 pub fn next_start(store: &Checked, snapshot: &Accepted) -> NextStart
     ensures { result ≡ next_start store.now (world_of snapshot.now) }
 {

@@ -18,7 +18,7 @@ pub fn rule_enabled(env: &Env, rule: u32) -> bool
 }
 
 // True for a rule that is not loaded, and for one that never fired.
-// kept: these two apart, and no `is_none_or`: `last_fired_older` of the specification has an equation for each.
+// kept: no `is_none_or`, as it would be no plainer: the ways out are the equations of `last_fired_older`, line for line.
 #[tactic(auto, unfolding(words::specs::Saturating::saturating_sub, model::specs::Eval::last_fired_older, model::specs::Eval::eval_condition))]
 pub fn last_fired_older_than(env: &Env, rule: u32, ms: u32) -> bool
     ensures { Evaluates env.now (condition.LastFiredOlderThan rule ms) (Some result) }

@@ -13,6 +13,7 @@ use state::State;
 
 // kept: beside `exec`, whose three other arms are its calls too. One match of both would answer by two definitions of the specification, `exec` and `dry_step`, and
 // ask of a dry run that one more continuation can be accepted, which `DryReady` does not say.
+// kept: that the job is dry is asked here, by `run_steps_dry` and by activate's `run_dry`: a type for a dry job would be made for the one call of `run_dry`, and be opened for the outcome.
 fn exec_dry(env: &Env, v: &mut State, here: Placed) -> StepResult
     requires { env.now.job.dry ≡ true }
     ensures { DryStepsIn env.now.snapshot.now env.now.image.now env.now.job v.old here.point here.step (step_done v.new result) }

@@ -30,7 +30,8 @@ use state::reasons::Reason;
 // given, `(env.new.snapshot ≡ env.old.snapshot) × (env.new.image ≡ env.old.image) × (env.new.job ≡ env.old.job)`, and each loop to carry it along; and the struct would be
 // taken apart where conditions and values are evaluated, since `eval::Env` has the state shared. As it is, what stays is lent as `&Env`, and needs no clause.
 // A run has its rule's steps beside it too: only what finds the next step reads them, and no action.
-// kept: functions that take it, and no methods, as they would be no plainer: what they change is the state, so that `env` and `v` stand beside each other in both.
+// kept: actions and steps are functions that take it, and no methods, as they would be no plainer: what they change is the state, so that `env` and `v` stand beside each other
+// in both. Its two methods only read.
 #[derive(Clone, Copy)]
 pub struct Env<'a> {
     pub snapshot: &'a [u32],

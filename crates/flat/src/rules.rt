@@ -21,7 +21,7 @@ pub const MOST_STEPS: usize = 2048;
 const MOST_ACTIONS: usize = 65536;
 
 // The row of list k: where it begins, and how many steps it has; written if there is room.
-// kept: two words, and no `rows::row::Row`: this crate does not stand on `rows`, and store's `own_begin` says what a row of its own would need.
+// kept: two words, and no `rows::row::Row`: this crate does not stand on `rows`, and store's `RulePart::begin` says what a row of its own would need.
 fn put_list(lists: &mut [u32], k: usize, first: u32, size: u32)
     ensures { (k + 1) * 2 ≤ length lists.old →
         take ((k + 1) * 2) lists.new ≡ take (k * 2) lists.old ++ first ∷ size ∷ [] }

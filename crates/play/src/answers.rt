@@ -114,6 +114,7 @@ fn outcome_line(out: &mut Output, i: u32, outcomes: &[u32])
 }
 
 // Outcome i and its effects.
+// kept: out, outcomes and effects side by side, here and in the two below: a struct of the two stores would be made for one call of `handled`, and be taken apart here.
 #[tactic(auto, using(crate::proofs::Gathering::gathers_lines))]
 fn outcome_of(out: &mut Output, i: u32, outcomes: &[u32], effects: &[u32])
     ensures { Gathers out.old (outcome_with outcomes.now effects.now i) out.new }

@@ -63,9 +63,9 @@ fn accepted(number: u32) -> Result<(), Refused>
 }
 
 // kept: this and the twelve below are a call of the C interface each, with arguments and a printer of its own, as it would be no plainer: one function over
-// closures would need the contracts of both as `requires`. A function that cuts a store would save a line in seven of them and three in a tick and a run, and be two, for `&` and for `&mut`, each with the clauses of what comes
-// back; a struct of the
-// three stores would be made by `make` for a tick and a run alone, and say besides that the stores that come back are those that were lent.
+// closures would need the contracts of both as `requires`. A function that cuts a store would save a line in seven of them and three in a tick and a run, and be two, for `&` and
+// for `&mut`, each with the clauses of what comes back; a struct of the three stores would be made by `make` for a tick and a run alone, and say besides that the stores that come
+// back are those that were lent.
 // Tried: `new`, `load` and `unload` as arms of `make`, where the store is lent as a field: the clause `makes` did not close, which is of `self.new.store`.
 fn new(size: usize, time: u64, store: &mut [u32]) -> Result<(), Refused>
     ensures { (o : Output) → Makes (calling size (Calls.new time) store.old) Call.New store.new o o result }

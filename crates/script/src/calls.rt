@@ -15,6 +15,7 @@ pub const EFFECT_WORDS: usize = 327680;
 pub const LIST_WORDS: usize = 8192;
 
 // The words of a store, and of the triggers of a line of a crontab at most.
+// kept: the words of a store, as `store::table::WORDS` has them too: neither crate stands on the other.
 const STORE_WORDS: usize = 16384;
 
 const TRIGGER_WORDS: usize = 16384;

@@ -12,7 +12,7 @@ use model::Field;
 // The words of a record.
 const WIDTH: usize = 8;
 
-// The words that an image of three actions leaves for values and pool.
+// The words that an image of three actions leaves for values and pool: of an image's 4,096 words 53 are a rule, three actions and the trailer.
 const ROOM: usize = 4043;
 
 // Whether an action is none with a list of its own.
@@ -48,6 +48,7 @@ impl Sizes {
     }
 
     // Whether word j of a record is in its range and leads where it may.
+    // kept: beside image's `word_passes`, which reads a word of an image: here is one record of no image, and where a field leads is told by two sizes.
     #[tactic(auto, unfolding(crate::specs::Checks::word_passes, crate::specs::Checks::field_passes))]
     fn word_passes(self, t: Table, words: &[u32], j: u32) -> bool
         requires { j < 8 }
@@ -72,6 +73,7 @@ impl Sizes {
         is_plain(fields::word(words, 0)) && self.record_passes(Table::Actions, words)
     }
 
+    // kept: `chunks_exact`, here and below, and no `as_chunks`, as it would be no plainer: what reads a record asks for no length.
     fn actions_pass(self, actions: &[u32]) -> bool
         ensures { result ≡ actions_pass self.values self.pool actions.now }
     {

@@ -11,6 +11,7 @@ ghost use Rattle.model.specs.ShortLists.{count_of, list_at, places_of, actions_f
 use model::Refusal;
 
 // How many places a list has, and these; 0 past them.
+// kept: a length beside the array, and no ArrayVec, as it would be no plainer: the four words are the answer, 0 past the length, and the definition is the list of them.
 #[derive(Clone, Copy)]
 pub struct ShortList {
     pub length: u32,

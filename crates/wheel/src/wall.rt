@@ -43,6 +43,7 @@ impl Env<'_> {
 
 impl Rule<'_, '_> {
     // The kind of the first due trigger of the rule. That one before it asks for a sun that is not known is noted.
+    // kept: the flag is lent beside the answer: a rule may miss the sun and be due by a later trigger, which no Result says both of; and a tick counts one miss for all its rules.
     pub(crate) fn due_wall_kind(
         &self,
         window: Window,
