@@ -1,9 +1,10 @@
 /*
  * Cerambiu: a rules engine for the lighting of poultry houses, proved. This is its C interface: eight calls over words that the caller lends, one
  * that says what starts next by the wall clock, one that makes of a tick's effects the list to be sent on the bus, one that reads a line of a
- * crontab into triggers, one that tells how much room an image needs, and one that numbers all short lists of a set of actions, for the bench.
+ * crontab into triggers, one that tells how much room an image needs, one that numbers all short lists of a set of actions, for the bench, and one
+ * that writes an image anew, equal sets as equal words.
  *
- * Link target/staticlib/libcerambiu.a (`.ci/build` writes it; 76 KiB of code and constants). The library keeps nothing between calls, allocates
+ * Link target/staticlib/libcerambiu.a (`.ci/build` writes it; 79 KiB of code and constants). The library keeps nothing between calls, allocates
  * nothing, reads no clock, calls nothing but memcpy, memmove and memset, and every call returns. All that it remembers of a house is in one store
  * of 16,384 words, which the caller keeps.
  *
@@ -15,7 +16,8 @@
  *             bytes.
  *   threads   Two calls may run at once if they share no store that either of them writes.
  *   stack     In bytes, at most, for every input, on x86-64: tick 25,064, load 21,144, run 20,792, enable 20,488, next_deadline 20,648,
- *             unload 20,456, counters 15,176, next_start 15,480, room 14,264, crontab 400, short_list 328, telegrams 104, new 56. The gate computes them from the machine code. The return address is in;
+ *             unload 20,456, counters 15,176, next_start 15,480, room 14,264, rewrite 13,832, crontab 400, short_list 328,
+ *             telegrams 104, new 56. The gate computes them from the machine code. The return address is in;
  *             not in: what memcpy, memmove and memset use, the arguments that the caller pushes, the dynamic linker, interrupts
  *             (docs/PERFORMANCE.md, "Stack").
  *   refusals  Each call returns 0, or the number of a refusal: the lowest that applies. A refused call has changed nothing: the store is as
@@ -76,6 +78,7 @@ extern "C" {
 #define CERAMBIU_CRONTAB_VALUES 1   /* number of triggers */
 #define CERAMBIU_ROOM_VALUES 2      /* outcomes, effects */
 #define CERAMBIU_SHORT_LIST_VALUES 4 /* length, and three places, 0 past the length */
+#define CERAMBIU_REWRITE_VALUES 1   /* number of words */
 
 /* REFUSALS, and who can cause each ------------------------------------------------------------------------------------------------- */
 
@@ -86,7 +89,7 @@ enum cerambiu_refusal {
     CERAMBIU_STORE_SIZE = 1,     /* any call: the store is not 16,384 words */
     CERAMBIU_STORE_RULE = 2,     /* any call but new: the store breaks a store rule (docs/STORE.md, document 01); make it new */
 
-    /* the rule author: load and room */
+    /* the rule author: load, room and rewrite */
     CERAMBIU_IMAGE_SIZE = 10,    /* under 13 or over 4,096 words */
     CERAMBIU_IMAGE_LIMIT = 11,   /* a limit of the trailer out of range */
     CERAMBIU_IMAGE_TABLE = 12,   /* a table out of place, or no whole number of records */
@@ -105,6 +108,10 @@ enum cerambiu_refusal {
     CERAMBIU_NO_ROOM = 30,       /* more outcomes or effects than the lent stores hold; never where what cerambiu_room tells is lent */
     CERAMBIU_NO_NUMBER = 31,     /* the call's continuations would take the next sequence number past 2^64 - 1 */
     CERAMBIU_NO_ACTIVATION_NUMBER = 32, /* the call's activations would take the last activation number past 2^64 - 1 */
+
+    /* rewrite alone: the rule author, and the host */
+    CERAMBIU_REWRITE_SIZE = 40,  /* the new image would exceed 4,096 words */
+    CERAMBIU_REWRITE_ROOM = 41,  /* the host's: fewer words lent than the new image has */
 
     /* who writes the line: crontab alone */
     CERAMBIU_CRONTAB_FORM = 50,  /* the line is not of the POSIX form, or Sunday's number is above 6 */
@@ -443,6 +450,17 @@ uint32_t cerambiu_room(const uint32_t *image, size_t image_words, uint32_t *answ
  * values or a pool that it would refuse. Answer: length, three places. Refusals: 70 to 72. Time: the words of the set, once. */
 uint32_t cerambiu_short_list(uint32_t k, const uint32_t *actions, size_t action_words, const uint32_t *values, size_t value_words, const uint32_t *pool,
                              size_t pool_words, uint32_t *answer, size_t answer_words);
+
+/* Writes an image that load accepts anew, into `lent`: two images get equal words exactly if they describe the same rules and blocks with the same
+ * limits, wherever their records lie. Rules and blocks keep their order, blocks that nobody calls too. Each list is written whole, then record by
+ * record what it mentions, each with all inside it before the next; once for each mention, so that nothing is shared; an empty list has first 0;
+ * records that nothing mentions are left out. Load accepts what is written, the calls answer with it as with the first image, and written anew it
+ * stays as it is. No store is read; `image` stays as it is.
+ *
+ * 4,096 words are always enough. Words behind the new image are 0, and all of them on a refusal. Since nothing is shared the new image can be longer
+ * than the first: where it would have more than 4,096 words it is 40, in any room, and at once, however many it would have. Answer: the number of
+ * words. Refusals: 10 to 17 as load, 40, 41. */
+uint32_t cerambiu_rewrite(const uint32_t *image, size_t image_words, uint32_t *lent, size_t lent_words, uint32_t *answer, size_t answer_words);
 
 #ifdef __cplusplus
 }

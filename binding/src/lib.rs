@@ -1,4 +1,4 @@
-//! The eight proved calls, the next start, the list of telegrams, the reader of crontab lines, the room that an image needs and the numbers of short lists over word slices: `include/cerambiu.h`, which says what the words mean, in safe Rust.
+//! The eight proved calls, the next start, the list of telegrams, the reader of crontab lines, the room that an image needs, the numbers of short lists and images written anew over word slices: `include/cerambiu.h`, which says what the words mean, in safe Rust.
 //!
 //! The functions of this module give Rust values. Those of [`words`] are the C functions as they are, with the lent words of the answer.
 
@@ -8,6 +8,7 @@ pub const STORE_WORDS: usize = 16_384;
 pub const OUTCOME_WORDS: usize = 8;
 pub const EFFECT_WORDS: usize = 5;
 pub const TRIGGER_WORDS: usize = 8;
+pub const IMAGE_MAX_WORDS: usize = 4_096;
 pub const COUNTERS: usize = 16;
 
 /// Document 01's number of a refusal. A refused call has changed nothing.
@@ -138,6 +139,13 @@ pub fn short_list(k: u32, actions: &[u32], values: &[u32], pool: &[u32]) -> Resu
     accepted(number, (length, places))
 }
 
+/// The image written anew into the lent words, equal sets as equal words. How many words it has; the lent words behind them are 0.
+pub fn rewrite(image: &[u32], lent: &mut [u32]) -> Result<u32, Refused> {
+    let mut answer = [0];
+    let number = words::rewrite(image, lent, &mut answer);
+    accepted(number, answer[0])
+}
+
 #[cfg(test)]
 mod tests {
     use super::*;
@@ -263,5 +271,39 @@ mod tests {
         assert_eq!(short_list(585, &eight, &[], &[]), Err(Refused(72)));
         assert_eq!(short_list(0, &eight, &[], &[256]), Err(Refused(71)));
         assert_eq!(short_list(0, &eight[1..], &[], &[256]), Err(Refused(70)));
+    }
+
+    #[test]
+    fn one_image_for_one_rule_set() {
+        // Two Logs that nothing mentions stand in front of the rule's actions.
+        let mut other = IMAGE[..16].to_vec();
+        other.extend([21, 1, 0, 0, 0, 0, 0, 0, 21, 2, 0, 0, 0, 0, 0, 0]);
+        other.extend(&IMAGE[16..]);
+        other[8] = 2;
+        other[66..].fill(56);
+        let mut written = [9; 60];
+        assert_eq!(rewrite(&other, &mut written), Ok(53));
+        assert_eq!(written[..53], IMAGE);
+        assert_eq!(written[53..], [0; 7]);
+        assert_eq!(rewrite(&IMAGE, &mut written[..53]), Ok(53));
+        assert_eq!(written[..53], IMAGE);
+        assert_eq!(rewrite(&other, &mut written[..52]), Err(Refused(41)));
+        assert_eq!(written[..52], [0; 52]);
+        assert_eq!(rewrite(&IMAGE[1..], &mut []), Err(Refused(12)));
+        assert_eq!(rewrite(&[], &mut []), Err(Refused(10)));
+    }
+
+    #[test]
+    fn a_set_of_too_many_records_is_refused_at_once() {
+        // A block that nobody calls: 400 Conditionals, each with the next record as then and as else.
+        let mut image = vec![3, 0, 1, 0, 0, 0, 0, 0, 14, 0, 0, 0, 0, 0, 0, 0];
+        (1..=400).for_each(|next| image.extend([27, 0, next, 1, next, 1, 0, 0]));
+        image.extend([21, 7, 0, 0, 0, 0, 0, 0]);
+        let end = image.len() as u32;
+        image.extend([8, 8, 255, 255, 255, 0, 0, 8, 8, 16, end, end, end]);
+        let mut written = [9; IMAGE_MAX_WORDS];
+        assert_eq!(rewrite(&image, &mut written), Err(Refused(40)));
+        assert_eq!(written, [0; IMAGE_MAX_WORDS]);
+        assert_eq!(rewrite(&image, &mut []), Err(Refused(40)));
     }
 }

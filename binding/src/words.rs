@@ -93,6 +93,14 @@ mod c {
             answer_words: usize,
         ) -> u32;
         pub fn cerambiu_room(image: *const u32, image_words: usize, answer: *mut u32, answer_words: usize) -> u32;
+        pub fn cerambiu_rewrite(
+            image: *const u32,
+            image_words: usize,
+            lent: *mut u32,
+            lent_words: usize,
+            answer: *mut u32,
+            answer_words: usize,
+        ) -> u32;
     }
 }
 
@@ -241,6 +249,21 @@ pub fn short_list(k: u32, actions: &[u32], values: &[u32], pool: &[u32], answer:
             values.len(),
             pool.as_ptr(),
             pool.len(),
+            answer.as_mut_ptr(),
+            answer.len(),
+        )
+    }
+}
+
+/// Value: the number of words written.
+pub fn rewrite(image: &[u32], lent: &mut [u32], answer: &mut [u32]) -> u32 {
+    // SAFETY: as above.
+    unsafe {
+        c::cerambiu_rewrite(
+            image.as_ptr(),
+            image.len(),
+            lent.as_mut_ptr(),
+            lent.len(),
             answer.as_mut_ptr(),
             answer.len(),
         )

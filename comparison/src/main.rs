@@ -9,7 +9,7 @@
 //! Prints the counts, the slowest images, and each difference; its status is 1 if there is one, or if a cell of the table is empty.
 //!
 //! `comparison calls ..` compares the eight calls (`calls`), `comparison telegrams ..` the list of telegrams (`telegrams`), `comparison crontab ..` lines of a
-//! crontab (`crontab`), `comparison bench ..` plays all short lists of sets (`bench`), `comparison speed ..` times them, `comparison once ..` makes each check once (`speed`), and `comparison small-stack ..` makes every
+//! crontab (`crontab`), `comparison bench ..` plays all short lists of sets (`bench`), `comparison rewrite ..` images written anew (`rewrite`), `comparison speed ..` times them, `comparison once ..` makes each check once (`speed`), and `comparison small-stack ..` makes every
 //! call of scripts on a small stack (`small_stack`).
 
 mod bench;
@@ -23,6 +23,7 @@ mod good_stores;
 mod kept;
 mod proved;
 mod refusals;
+mod rewrite;
 mod room;
 mod sleeping;
 mod small_stack;
@@ -46,7 +47,8 @@ fn numbers() -> Option<[u64; 3]> {
 
 fn main() -> ExitCode {
     let command = calls::command().or_else(telegrams::command).or_else(crontab::command).or_else(bench::command);
-    if let Some(status) = command.or_else(speed::command).or_else(small_stack::command).or_else(sleeping::command) {
+    let command = command.or_else(rewrite::command).or_else(speed::command);
+    if let Some(status) = command.or_else(small_stack::command).or_else(sleeping::command) {
         return status;
     }
     let Some([histories, sweeps, seed]) = numbers() else {

@@ -1,6 +1,6 @@
 /*
  * A house in C: a new store, the rule of document 01's example, a run, two ticks; then three refusals, one for each who can cause one;
- * then what is sent on the bus for three effects, two lines of a crontab, and what starts next.
+ * then what is sent on the bus for three effects, two lines of a crontab, what starts next, and an image written anew.
  *
  *   .ci/build
  *   cc -std=c99 -Iinclude examples/c/main.c target/staticlib/libcerambiu.a -o house && ./house
@@ -166,6 +166,29 @@ static void short_list(uint32_t k)
     printf("shortlist %" PRIu32 " %" PRIu32 " %" PRIu32 " %" PRIu32 "\n", answer[0], answer[1], answer[2], answer[3]);
 }
 
+/* Support: the rules of the example behind two Logs that nothing mentions, as another panel may save them. Written anew they are the example's words. */
+static void compare(void)
+{
+    static const uint32_t other[] = {
+        5, 1, 0, 0, 0, 0, 0, 0, 2, 3, 0, 0, 0, 0, 0, 0,
+        CERAMBIU_LOG, 1, 0, 0, 0, 0, 0, 0,
+        CERAMBIU_LOG, 2, 0, 0, 0, 0, 0, 0,
+        CERAMBIU_LOG, 7, 0, 0, 0, 0, 0, 0,
+        CERAMBIU_WAIT, 1000, 0, 0, 0, 0, 0, 0,
+        CERAMBIU_LOG, 9, 0, 0, 0, 0, 0, 0,
+        8, 0, 1, 0, 0, 0, 16, 16, 16, 16, 56, 56, 56,
+    };
+    static uint32_t written[CERAMBIU_IMAGE_MAX_WORDS];
+    uint32_t count[CERAMBIU_REWRITE_VALUES];
+    uint32_t refusal = cerambiu_rewrite(other, COUNT(other), written, COUNT(written), count, COUNT(count));
+    if (refusal != CERAMBIU_OK) {
+        printf("rewrite refused %" PRIu32 "\n", refusal);
+        return;
+    }
+    const bool same = count[0] == COUNT(image) && memcmp(written, image, sizeof(image)) == 0;
+    printf("rewrite %" PRIu32 ", %s\n", count[0], same ? "the same rules" : "other rules");
+}
+
 int main(void)
 {
     uint32_t refusal = cerambiu_new(store, COUNT(store), 0);
@@ -202,5 +225,6 @@ int main(void)
     /* The bench: three actions have 40 lists; number 18 is (0, 1, 2), the rule above. */
     short_list(18);
     short_list(40);
+    compare();
     return 0;
 }

@@ -22,10 +22,10 @@
 #define PATTERN 0xa5
 #define OWN_BYTES 256 /* for the frame that measures */
 
-enum call { NEW, LOAD, UNLOAD, ENABLE, RUN, DRY_RUN, TICK, NEXT_DEADLINE, COUNTERS, NEXT_START, TELEGRAMS, CRONTAB, ROOM, SHORT_LIST };
+enum call { NEW, LOAD, UNLOAD, ENABLE, RUN, DRY_RUN, TICK, NEXT_DEADLINE, COUNTERS, NEXT_START, TELEGRAMS, CRONTAB, ROOM, SHORT_LIST, REWRITE };
 
 static const char *const names[] = { "new", "load", "unload", "enable", "run", "dry run", "tick", "next_deadline", "counters", "next_start",
-                                     "telegrams", "crontab", "room", "short_list" };
+                                     "telegrams", "crontab", "room", "short_list", "rewrite" };
 
 static uint32_t store[CERAMBIU_STORE_WORDS], image[CERAMBIU_IMAGE_MAX_WORDS];
 static size_t image_words;
@@ -56,6 +56,7 @@ static void make(enum call which)
     case CRONTAB: refusal = cerambiu_crontab(line, sizeof(line), 6, list, COUNT(list), answer, a); break;
     case ROOM: refusal = cerambiu_room(image, image_words, answer, a); break;
     case SHORT_LIST: refusal = cerambiu_short_list(17, set, COUNT(set), number, COUNT(number), scenes, COUNT(scenes), answer, a); break;
+    case REWRITE: refusal = cerambiu_rewrite(image, image_words, list, COUNT(list), answer, a); break;
     }
 }
 
@@ -78,7 +79,7 @@ static void *measure(void *which)
     return NULL;
 }
 
-/* Makes a call on a thread whose stack is these bytes. It must not be refused. */
+/* Makes a call on a thread whose stack is these bytes. It must not be refused; the deep image shares its list and is too long to be written anew. */
 static void on_stack(void *bytes, size_t count, void *(*makes)(void *), enum call which)
 {
     pthread_attr_t attributes;
@@ -89,7 +90,7 @@ static void on_stack(void *bytes, size_t count, void *(*makes)(void *), enum cal
         exit(1);
     }
     pthread_attr_destroy(&attributes);
-    if (refusal != CERAMBIU_OK) {
+    if (refusal != CERAMBIU_OK && !(which == REWRITE && refusal == CERAMBIU_REWRITE_SIZE)) {
         printf("%s refused %u\n", names[which], (unsigned)refusal);
         exit(1);
     }
@@ -209,7 +210,7 @@ static void measure_all(size_t bytes[])
     needs(LOAD);
     look(0, 719);
     needs(TICK);
-    for (enum call which = ENABLE; which <= SHORT_LIST; which++) {
+    for (enum call which = ENABLE; which <= REWRITE; which++) {
         look(which == TICK ? 2000 : 100, which == TICK ? 720 : 719);
         bytes[which] = needs(which);
     }
@@ -236,6 +237,7 @@ static void all_fit(void)
     fits(CRONTAB);
     fits(ROOM);
     fits(SHORT_LIST);
+    fits(REWRITE);
     fits(UNLOAD);
 }
 
@@ -256,7 +258,7 @@ int main(void)
     for (size_t which = 0; which < COUNT(names); which++) {
         printf("%-14s %12zu %12zu %12zu\n", names[which], bytes[0][which], bytes[1][which], bytes[2][which]);
     }
-    printf("on 64 KB of stack, with each image: new, load, load again, tick, enable, run, dry run, tick, next_deadline, counters, next_start, telegrams, crontab, room, short_list, unload .. ");
+    printf("on 64 KB of stack, with each image: new, load, load again, tick, enable, run, dry run, tick, next_deadline, counters, next_start, telegrams, crontab, room, short_list, rewrite, unload .. ");
     fflush(stdout);
     for (size_t i = 0; i < COUNT(images); i++) {
         images[i]();

@@ -10,9 +10,11 @@ pub mod generate;
 pub mod house;
 pub mod next_start;
 pub mod random;
+pub mod rewrite;
 pub mod script;
 pub mod short_lists;
 pub mod shrink;
+pub mod tables;
 pub mod telegrams;
 pub mod vectors;
 

@@ -4,9 +4,11 @@ mod common;
 
 use std::collections::BTreeSet;
 
+use barn::image::Unread;
 use barn::names::Book;
 use barn::schema::{kinds, Table};
-use barn::{image, parse, spell};
+use barn::{image, parse, spell, written};
+use cerambiu::Refused;
 use oracle::house::Call;
 
 /// Images that are tried at the least.
@@ -18,6 +20,8 @@ struct Tally {
     /// Tables and kinds that were met; of values also the reading.
     met: BTreeSet<(Table, u32, u32)>,
     tried: usize,
+    /// Accepted images whose lists are shared so often that they are not read.
+    too_large: usize,
     longest_text: usize,
 }
 
@@ -26,7 +30,14 @@ impl Tally {
         if common::load_number(words) != 0 || !self.seen.insert(words.to_vec()) {
             return;
         }
-        let tree = image::read(words).unwrap_or_else(|why| panic!("accepted by load and not read: {why:?}: {words:?}"));
+        let tree = match image::read(words) {
+            Ok(tree) => tree,
+            Err(Unread::TooLarge) => {
+                assert_eq!(written::written(words), Err(Refused(40)), "not read, and written anew: {words:?}");
+                return self.too_large += 1;
+            }
+            Err(why) => panic!("accepted by load and not read: {why:?}: {words:?}"),
+        };
         let text = spell::text(&tree, &Book::default());
         let file = parse::file(&text, &Book::default()).unwrap_or_else(|faults| {
             panic!("{}\n{text}", barn::fault::render("shown", &text, &faults));
@@ -37,6 +48,9 @@ impl Tally {
         if written.len() <= image::MOST_WORDS {
             assert_eq!(common::load_number(&written), 0, "load accepts what is written: {written:?}");
             assert_eq!(image::write(&image::read(&written).expect("read")), written, "writing a written one changes nothing");
+            assert_eq!(written::written(words).as_ref(), Ok(&written), "the proved function writes the same words");
+        } else {
+            assert_eq!(written::written(words), Err(Refused(40)), "too long, and written anew: {words:?}");
         }
         tree.each(|table, record| {
             let reading = if table == Table::Values && record.kind > 0 { record.word(0) } else { 0 };
@@ -74,5 +88,5 @@ fn show_then_words_gives_the_same_tree() {
     for (kind, reading) in [1, 2].into_iter().flat_map(|kind| (0..=22).map(move |reading| (kind, reading))) {
         assert!(tally.met.contains(&(Table::Values, kind, reading)), "value {kind} with reading {reading} was never met");
     }
-    println!("round trip: {} images, {of_files} of them of files, the longest text {} bytes", tally.tried, tally.longest_text);
+    println!("round trip: {} images, {of_files} of them of files, the longest text {} bytes; {} too large", tally.tried, tally.longest_text, tally.too_large);
 }

@@ -37,6 +37,7 @@ use oracle::house::Call;
 use oracle::script;
 
 use both::{Both, Difference};
+pub use lists::small_actions;
 use crate::store_reader;
 use stores::Stores;
 use tally::Tally;

@@ -19,9 +19,9 @@ tells r a l = record { number = r; answer = a; lent = l }
 unfoldable pub told : ℕ → Asked → Told
 told n a = tells a.number (lent_answer n a.values) a.lent
 
--- how many triggers
-abbrev pub trigger_values : ℕ → List ℕ
-trigger_values n = n ∷ []
+-- how many triggers or words
+abbrev pub one_value : ℕ → List ℕ
+one_value n = n ∷ []
 
 -- TELEGRAMS, which asks no store
 -- the count in two words, low first

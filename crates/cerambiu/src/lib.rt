@@ -1,4 +1,4 @@
-// The calls of the C interface: the eight calls and the next start of crate `engine`, `telegrams`, `crontab`, `room` and `short_lists`, as include/cerambiu.h describes them; crate `cerambiu_c` has
+// The calls of the C interface: the eight calls and the next start of crate `engine`, `telegrams`, `crontab`, `room`, `short_lists` and `rewrite`, as include/cerambiu.h describes them; crate `cerambiu_c` has
 // them under C names. A call returns document 01's number of its refusal, 0 for none, and writes its values into the lent words of the answer. A contract is one
 // equation with the specification's call on words (model's `call_on`), for all arguments.
 #![tactic(auto)]
@@ -11,11 +11,12 @@ ghost use Rattle.next.specs.NextStart.{start_values};
 ghost use Rattle.engine.specs.Answers.{values_of, no_values, enabled_values, handled_values, due_values, counter_values};
 ghost use Rattle.room.specs.Needed.{numbers, room_for};
 ghost use Rattle.model.specs.ShortLists.{short_list};
+ghost use Rattle.model.specs.Rewrite.{rewritten};
 ghost use Rattle.short_lists.specs.Answers.{list_words};
 ghost use Rattle.engine.specs.Asked.{next_start_on};
 ghost use Rattle.cerambiu.specs.Called.{called, answered, lent_answer};
 ghost use Rattle.model.specs.Refusals.{refusal_number};
-ghost use Rattle.cerambiu.specs.Told.{tells, told, trigger_values, count_values, sending};
+ghost use Rattle.cerambiu.specs.Told.{tells, told, one_value, count_values, sending};
 
 use activate::Handled;
 use model::Refusal;
@@ -90,9 +91,9 @@ impl Answer for NextStart {
     }
 }
 
-// How many triggers a line of a crontab has.
+// How many triggers a line of a crontab has, or words an image that is written anew.
 impl Answer for u32 {
-    ghost words = { trigger_values };
+    ghost words = { one_value };
 
     fn put(self, answer: &mut [u32]) {
         put_values(answer, &[self]);
@@ -254,4 +255,11 @@ pub fn cerambiu_short_list(
     ensures { tells result answer.new [] ≡ told (length answer.old) (short_list k actions.now values.now pool.now) }
 {
     put_answer(answer, short_lists::short_list(k, actions, values, pool))
+}
+
+// Asks no store: an image written anew, equal sets as equal words.
+pub fn cerambiu_rewrite(image: &[u32], lent: &mut [u32], answer: &mut [u32]) -> u32
+    ensures { tells result answer.new lent.new ≡ told (length answer.old) (rewritten image.now (length lent.old)) }
+{
+    put_answer(answer, rewrite::rewrite(image, lent))
 }

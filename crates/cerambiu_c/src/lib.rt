@@ -9,6 +9,7 @@ ghost use Rattle.model.specs.OnWords.{call_on};
 ghost use Rattle.model.specs.Crontab.{crontab};
 ghost use Rattle.room.specs.Needed.{room_for};
 ghost use Rattle.model.specs.ShortLists.{short_list};
+ghost use Rattle.model.specs.Rewrite.{rewritten};
 ghost use Rattle.engine.specs.Asked.{next_start_on};
 ghost use Rattle.cerambiu.specs.Called.{called, answered};
 ghost use Rattle.cerambiu.specs.Told.{tells, told, sending};
@@ -127,4 +128,11 @@ pub extern "C" fn cerambiu_short_list(
     ensures { tells result answer.new [] ≡ told (length answer.old) (short_list k actions.now values.now pool.now) }
 {
     cerambiu::cerambiu_short_list(k, actions, values, pool, answer)
+}
+
+#[unsafe(no_mangle)]
+pub extern "C" fn cerambiu_rewrite(image: &[u32], lent: &mut [u32], answer: &mut [u32]) -> u32
+    ensures { tells result answer.new lent.new ≡ told (length answer.old) (rewritten image.now (length lent.old)) }
+{
+    cerambiu::cerambiu_rewrite(image, lent, answer)
 }

@@ -6,7 +6,7 @@ use Rattle.std.specs.Result.{is_err}
 use Prim.Native.Nat.{suc, ◌-◌}
 use native.Mathlib.Omega.{arith}
 use Rattle.model.specs.declared.Refusal.{Refusal}
-use Rattle.model.specs.declared.Refusal.TheVariants.{StoreLength, StoreRule, ImageLength, LimitRange, TablePlace, FieldRange, ListRange, RuleName, FlatSteps, TooMany, SnapshotLength, SnapshotRange, RowAddress, LentStores, SequenceNumber, ActivationNumber, LineForm, DayOrMonth, TriggerStore, EffectWords, TelegramStore, ActionWords, ActionRecord, ListNumber}
+use Rattle.model.specs.declared.Refusal.TheVariants.{StoreLength, StoreRule, ImageLength, LimitRange, TablePlace, FieldRange, ListRange, RuleName, FlatSteps, TooMany, SnapshotLength, SnapshotRange, RowAddress, LentStores, SequenceNumber, ActivationNumber, WrittenLength, ImageStore, LineForm, DayOrMonth, TriggerStore, EffectWords, TelegramStore, ActionWords, ActionRecord, ListNumber}
 use Rattle.model.specs.Refusals.{refusal_code, refusal_number}
 
 pub refusal-code-suc : (r : Refusal) → refusal_code r ≡ suc (refusal_code r - 1)
@@ -26,6 +26,8 @@ refusal-code-suc RowAddress = refl
 refusal-code-suc LentStores = refl
 refusal-code-suc SequenceNumber = refl
 refusal-code-suc ActivationNumber = refl
+refusal-code-suc WrittenLength = refl
+refusal-code-suc ImageStore = refl
 refusal-code-suc LineForm = refl
 refusal-code-suc DayOrMonth = refl
 refusal-code-suc TriggerStore = refl

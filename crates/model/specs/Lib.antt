@@ -35,3 +35,5 @@ pub mod Asked
 pub mod Crontab
 pub mod CrontabMeaning
 pub mod ShortLists
+pub mod Tree
+pub mod Rewrite

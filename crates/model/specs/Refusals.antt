@@ -1,7 +1,7 @@
--- The numbers of refusals: document 01, "Who can cause a refusal", and the change requests 2, 10 and 13. 0 is none.
+-- The numbers of refusals: document 01, "Who can cause a refusal", and the change requests 2, 10, 11 and 13. 0 is none.
 use Rattle.std.specs.Prelude.{ℕ, Result, Ok, Err}
 pub use Rattle.model.specs.declared.Refusal.{Refusal}
-pub use Rattle.model.specs.declared.Refusal.TheVariants.{StoreLength, StoreRule, ImageLength, LimitRange, TablePlace, FieldRange, ListRange, RuleName, FlatSteps, TooMany, SnapshotLength, SnapshotRange, RowAddress, LentStores, SequenceNumber, ActivationNumber, LineForm, DayOrMonth, TriggerStore, EffectWords, TelegramStore, ActionWords, ActionRecord, ListNumber}
+pub use Rattle.model.specs.declared.Refusal.TheVariants.{StoreLength, StoreRule, ImageLength, LimitRange, TablePlace, FieldRange, ListRange, RuleName, FlatSteps, TooMany, SnapshotLength, SnapshotRange, RowAddress, LentStores, SequenceNumber, ActivationNumber, WrittenLength, ImageStore, LineForm, DayOrMonth, TriggerStore, EffectWords, TelegramStore, ActionWords, ActionRecord, ListNumber}
 
 abbrev pub refusal_code : Refusal → ℕ
 refusal_code StoreLength = 1
@@ -20,6 +20,8 @@ refusal_code RowAddress = 22
 refusal_code LentStores = 30
 refusal_code SequenceNumber = 31
 refusal_code ActivationNumber = 32
+refusal_code WrittenLength = 40
+refusal_code ImageStore = 41
 refusal_code LineForm = 50
 refusal_code DayOrMonth = 51
 refusal_code TriggerStore = 52

@@ -606,6 +606,9 @@ pub enum Refusal {
     LentStores = 30,
     SequenceNumber = 31,
     ActivationNumber = 32,
+    // One image for one rule set.
+    WrittenLength = 40,
+    ImageStore = 41,
     // Programmes from a crontab.
     LineForm = 50,
     DayOrMonth = 51,

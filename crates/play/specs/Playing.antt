@@ -6,18 +6,19 @@ use Rattle.model.specs.OnWords.{call_on}
 use Rattle.model.specs.Asked.{Asked}
 use Rattle.model.specs.Crontab.{crontab}
 use Rattle.model.specs.ShortLists.{short_list}
+use Rattle.model.specs.Rewrite.{rewritten}
 use Rattle.engine.specs.Asked.{next_start_on}
 use Rattle.room.specs.Needed.{room_for}
 use Rattle.cerambiu.specs.Called.{Called, answered}
 use Rattle.cerambiu.specs.Told.{told, sending}
 use Rattle.script.specs.Table.{rows}
 use Rattle.script.specs.declared.calls.Call.{Call}
-use Rattle.script.specs.declared.calls.Call.TheVariants.{New, Load, Unload, Enable, Tick, Run, Deadline, Counters, Lend, Size, Poke, Peek, Telegrams, Crontab, Start, RoomFor, ShortList}
+use Rattle.script.specs.declared.calls.Call.TheVariants.{New, Load, Unload, Enable, Tick, Run, Deadline, Counters, Lend, Size, Poke, Peek, Telegrams, Crontab, Start, RoomFor, ShortList, Rewrite}
 use Rattle.script.specs.Script.{Line, Parsed, plain, parse}
 use Rattle.script.specs.declared.complain.Wrong.TheVariants.{LineTooLong}
 use Rattle.script.specs.Print.{peek_line, wrong_line}
 use Rattle.play.specs.declared.calls.Settings.{Settings}
-use Rattle.play.specs.Printed.{call_lines, told_lines, telegram_lines, trigger_lines, start_lines, room_lines, place_lines}
+use Rattle.play.specs.Printed.{call_lines, told_lines, telegram_lines, trigger_lines, start_lines, room_lines, place_lines, rewrite_lines}
 
 -- ONE LINE ---------------------------------------------------------------------------------------------------------------------------
 -- the store's words after a line, and what is printed for it
@@ -66,6 +67,7 @@ doing os es t list text a b c Crontab = asking Crontab trigger_lines (crontab te
 doing os es t list text a b c Start = asking_store t.size Start start_lines (next_start_on list)
 doing os es t list text a b c RoomFor = asking RoomFor room_lines (room_for list)
 doing os es t list text a b c ShortList = asking ShortList place_lines (short_list a (take b list) (take c (drop b list)) (drop c (drop b list)))
+doing os es t list text a b c Rewrite = asking Rewrite rewrite_lines (rewritten list (min a es))
 
 -- line number k
 abbrev pub obeyed : ℕ → ℕ → ℕ → Line → List ℕ → List ℕ → Settings → List ℕ → Obeyed

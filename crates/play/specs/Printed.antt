@@ -110,3 +110,7 @@ room_lines answer lent = line (bytes_of "room") (numbers (words_at answer 0 2))
 -- the length of a short list and its three places
 abbrev pub place_lines : List ℕ → List ℕ → List ℕ
 place_lines answer lent = line (bytes_of "shortlist") (numbers (words_at answer 0 4))
+
+-- an image written anew: how many words it has, and these
+abbrev pub rewrite_lines : List ℕ → List ℕ → List ℕ
+rewrite_lines answer image = line (bytes_of "rewrite") (numbers (words_at answer 0 1) ++ numbers (words_at image 0 (get_or answer 0 0)))

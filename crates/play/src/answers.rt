@@ -4,7 +4,7 @@
 ghost use Rattle.std.specs.Prelude.{◌≤◌, ◌==◌, [], get_or};
 ghost use Rattle.model.specs.Text.{bytes_of};
 ghost use Rattle.script.specs.Print.{numbers, line, refused_line, enabled_line, peek_line, handled_line};
-ghost use Rattle.play.specs.Printed.{words_at, row_line, row_lines, effect_lines, outcome_at, outcome_with, outcome_lines, handled_lines, deadline_of, telegram_lines, trigger_lines, start_lines, room_lines, place_lines};
+ghost use Rattle.play.specs.Printed.{words_at, row_line, row_lines, effect_lines, outcome_at, outcome_with, outcome_lines, handled_lines, deadline_of, telegram_lines, trigger_lines, start_lines, room_lines, place_lines, rewrite_lines};
 ghost use Rattle.play.specs.Gathered.{Gathers};
 
 use crate::output::Output;
@@ -49,6 +49,15 @@ pub fn short_list(out: &mut Output, answer: &[u32; 16])
     ensures { Gathers out.old (place_lines answer.now []) out.new }
 {
     writeln!(out, "shortlist{}", shown::first(answer, 4))
+}
+
+// An image written anew: how many words it has, and these.
+pub fn rewrite(out: &mut Output, answer: &[u32; 16], image: &[u32])
+    ensures { Gathers out.old (rewrite_lines answer.now image.now) out.new }
+{
+    let count = shown::first(answer, 1);
+    let words = shown::first(image, answer[0] as usize);
+    writeln!(out, "rewrite{count}{words}")
 }
 
 // The words of a record that a line shows: so many from word `from` on, of `width`.

@@ -3,12 +3,13 @@ ghost use Rattle.std.specs.Prelude.{ℕ, ◌≡◌, ◌≢◌, List, MatchResult
 ghost use Rattle.model.specs.Calls as Calls;
 ghost use Rattle.model.specs.Crontab as Crontab;
 ghost use Rattle.model.specs.ShortLists.{short_list};
+ghost use Rattle.model.specs.Rewrite.{rewritten};
 ghost use Rattle.engine.specs.Asked.{next_start_on};
 ghost use Rattle.room.specs.Needed.{room_for};
 ghost use Rattle.cerambiu.specs.Told.{sending};
 ghost use Rattle.script.specs.declared.calls.Call.TheVariants as Call;
 ghost use Rattle.script.specs.Scan.{Ranged};
-ghost use Rattle.play.specs.Printed.{telegram_lines, trigger_lines, start_lines, room_lines, place_lines};
+ghost use Rattle.play.specs.Printed.{telegram_lines, trigger_lines, start_lines, room_lines, place_lines, rewrite_lines};
 ghost use Rattle.play.specs.Playing.{calling, asking, asking_store, beginning};
 ghost use Rattle.play.specs.declared.output.Output.{Output};
 ghost use Rattle.play.specs.Gathered.{Makes, Does, done, lent_after};
@@ -62,7 +63,7 @@ fn accepted(number: u32) -> Result<(), Refused>
     }
 }
 
-// kept: this and the twelve below are a call of the C interface each, with arguments and a printer of its own, as it would be no plainer: one function over
+// kept: this and the thirteen below are a call of the C interface each, with arguments and a printer of its own, as it would be no plainer: one function over
 // closures would need the contracts of both as `requires`. A function that cuts a store would save a line in seven of them and three in a tick and a run, and be two, for `&` and
 // for `&mut`, each with the clauses of what comes back; a struct of the three stores would be made by `make` for a tick and a run alone, and say besides that the stores that come
 // back are those that were lent.
@@ -249,6 +250,17 @@ fn short_list(
     Ok(())
 }
 
+fn rewrite(room: usize, image: &[u32], effects: &mut [u32], out: &mut Output) -> Result<(), Refused>
+    ensures { (w : List ℕ) → Makes (asking Call.Rewrite rewrite_lines (rewritten image.now (min room (length effects.old))) w) Call.Rewrite w out.old out.new result }
+{
+    let n = room.min(effects.len());
+    let lent = &mut effects[..n];
+    let mut answer = [0u32; 16];
+    accepted(cerambiu::cerambiu_rewrite(image, lent, &mut answer))?;
+    answers::rewrite(out, &answer, lent);
+    Ok(())
+}
+
 fn poke(store: &mut [u32], place: usize, word: u32)
     ensures { store.new ≡ set store.old place word }
 {
@@ -302,6 +314,7 @@ impl Lent {
             Call::Start => start(size, line.list, store, out),
             Call::RoomFor => room(line.list, out),
             Call::ShortList => short_list(a as u32, b as usize, c as usize, line.list, out),
+            Call::Rewrite => rewrite(a as usize, line.list, es, out),
             Call::Lend => {
                 (self.settings.outcomes, self.settings.effects) = (a as usize, b as usize);
                 Ok(())

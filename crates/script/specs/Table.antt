@@ -4,7 +4,7 @@ use Prim.Native.String.{String}
 use Rattle.words.specs.Saturating.{max32, max64}
 use Rattle.model.specs.Text.{bytes_of}
 pub use Rattle.script.specs.declared.calls.Call.{Call}
-pub use Rattle.script.specs.declared.calls.Call.TheVariants.{New, Load, Unload, Enable, Tick, Run, Deadline, Counters, Lend, Size, Poke, Peek, Telegrams, Crontab, Start, RoomFor, ShortList}
+pub use Rattle.script.specs.declared.calls.Call.TheVariants.{New, Load, Unload, Enable, Tick, Run, Deadline, Counters, Lend, Size, Poke, Peek, Telegrams, Crontab, Start, RoomFor, ShortList, Rewrite}
 pub use Rattle.script.specs.declared.calls.Param.{Param}
 use Rattle.script.specs.declared.calls.Param.TheVariants.{Time, Rule, Mark, DryMark, OutcomeWords, EffectWords, WordCount, Place, Word, Room, Sunday, TriggerWords, ListNumber, ActionWords, ValueWords, PoolWords}
 pub use Rattle.script.specs.declared.calls.Tail.{Tail}
@@ -76,10 +76,11 @@ rows Crontab = row "crontab" (Sunday ∷ TriggerWords ∷ []) Text
 rows Start = row "start" [] Words
 rows RoomFor = row "room" [] Words
 rows ShortList = row "shortlist" (ListNumber ∷ ActionWords ∷ ValueWords ∷ PoolWords ∷ []) Parts
+rows Rewrite = row "rewrite" (Room ∷ []) Words
 
 -- all of them
 unfoldable pub calls : List Call
-calls = New ∷ Load ∷ Unload ∷ Enable ∷ Tick ∷ Run ∷ Deadline ∷ Counters ∷ Lend ∷ Size ∷ Poke ∷ Peek ∷ Telegrams ∷ Crontab ∷ Start ∷ RoomFor ∷ ShortList ∷ []
+calls = New ∷ Load ∷ Unload ∷ Enable ∷ Tick ∷ Run ∷ Deadline ∷ Counters ∷ Lend ∷ Size ∷ Poke ∷ Peek ∷ Telegrams ∷ Crontab ∷ Start ∷ RoomFor ∷ ShortList ∷ Rewrite ∷ []
 
 -- the largest number of a call's parameter i, and 0 where it has none
 abbrev pub largest_of : Call → ℕ → ℕ

@@ -39,6 +39,7 @@ pub enum Call {
     Start,
     RoomFor,
     ShortList,
+    Rewrite,
 }
 
 #[derive(Clone, Copy, PartialEq, Eq)]
@@ -90,7 +91,7 @@ impl Shape {
     }
 }
 
-const CALLS: [Call; 17] = [
+const CALLS: [Call; 18] = [
     Call::New,
     Call::Load,
     Call::Unload,
@@ -108,6 +109,7 @@ const CALLS: [Call; 17] = [
     Call::Start,
     Call::RoomFor,
     Call::ShortList,
+    Call::Rewrite,
 ];
 
 // Which list, and how many words each part of the list that follows has.
@@ -153,6 +155,7 @@ impl Call {
             Call::Start => Shape::new("start", &[], Tail::Words),
             Call::RoomFor => Shape::new("room", &[], Tail::Words),
             Call::ShortList => Shape::new("shortlist", &SHORT_LIST, Tail::Parts),
+            Call::Rewrite => Shape::new("rewrite", &[Param::Room], Tail::Words),
         }
     }
 

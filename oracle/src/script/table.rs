@@ -6,6 +6,7 @@ use crate::check;
 use crate::crontab;
 use crate::house::{Call, House};
 use crate::next_start;
+use crate::rewrite;
 use crate::short_lists;
 use crate::telegrams;
 
@@ -23,6 +24,7 @@ pub struct Param(pub &'static str, pub u64);
 const AT: Param = Param("time", TIME);
 const RULE: Param = Param("rule", WORD);
 const PLACE: Param = Param("place", 16_383);
+const ROOM: Param = Param("room", 8_192);
 
 /// What stands behind the numbers of a call: nothing, a list of words, as many words as its numbers behind the first say, or the rest of the line behind one
 /// blank, as it stands.
@@ -91,7 +93,7 @@ pub const ROWS: &[Row] = &[
     row("peek", &[PLACE], Tail::Nothing, |given| Call::Peek { place: given.word(0) }),
     Row {
         name: "telegrams",
-        params: &[Param("room", 8_192)],
+        params: &[ROOM],
         tail: Tail::Words,
         meaning: Meaning::Own(|_, given| telegrams::lines(given.word(0) as usize, &given.list)),
     },
@@ -125,6 +127,12 @@ pub const ROWS: &[Row] = &[
         ],
         tail: Tail::Parts,
         meaning: Meaning::Own(|_, given| short_lists::answer(given)),
+    },
+    Row {
+        name: "rewrite",
+        params: &[ROOM],
+        tail: Tail::Words,
+        meaning: Meaning::Own(|_, given| rewrite::line(given.word(0) as usize, &given.list)),
     },
 ];
 

@@ -138,6 +138,7 @@ fn a_call_and_its_line_are_each_other_back() {
         "run 5 1 2 3", "deadline", "counters", "lend 6 5", "size 7", "poke 1 2", "peek 3",
         "telegrams 8192 12 1 10 0 0", "crontab 6 16 0 5 * * 1-5 # up", "crontab 7 0", "start 1 2", "start", "room 5 1 0",
         "shortlist 1 8 0 2 21 7 0 0 0 0 0 0 1 2",
+        "rewrite 8192 1 2", "rewrite 0",
     ];
     for text in lines {
         let call = parse(text).expect("good text").expect("a call");
@@ -182,6 +183,18 @@ fn a_line_of_a_crontab_asks_no_store() {
     let text = played(&["size 1", "crontab 6 16 30,0 5 * * 1-5 # up", "crontab 6 15 30,0 5 * * *", "crontab 6 16 0 5 1 * *", "crontab 7 16 0 5 * * *"]);
     let list = "crontab 2\ntrigger 5 0 31\ntrigger 5 30 31\n";
     assert_eq!(text, format!("{list}crontab refused 52\ncrontab refused 51\ncrontab refused 50\n"));
+}
+
+#[test]
+fn writing_an_image_asks_no_store() {
+    let alone = "8 8 255 255 255 0 0 0 0 0 0 0 0";
+    let unused = "21 7 0 0 0 0 0 0 8 8 255 255 255 0 0 0 0 0 8 8 8";
+    let text = played(&[
+        "size 1", &format!("rewrite 13 {unused}"), &format!("rewrite 12 {unused}"), "rewrite 8192", &format!("rewrite 0 {alone} 0"),
+        &format!("rewrite 8193 {alone}"), "rewrite", "rewrite 13 x",
+    ]);
+    let complaints = "line 7: rewrite: room is over 8192\nline 8: rewrite: room is missing\nline 9: rewrite: word 0 is no decimal number\n";
+    assert_eq!(text, format!("rewrite 13 {alone}\nrewrite refused 41\nrewrite refused 10\nrewrite refused 11\n{complaints}"));
 }
 
 fn said(text: &[u8]) -> Result<Vec<u8>, String> {

@@ -1,7 +1,7 @@
 -- `cerambiu::cerambiu_crontab` meets its contract. Assumes nothing.
-use Rattle.cerambiu.specs.Told.{trigger_values}
+use Rattle.cerambiu.specs.Told.{one_value}
 use Rattle.cerambiu.proofs.Seeing.{result-told}
 use Rattle.cerambiu.proofs.cerambiu_crontab.Goals as goal
 
 pub returns : goal.returns
-returns c = result-told trigger_values _ _ _ _ _ _ c.read.ensures c.put_answer.ensures.0 c.put_answer.ensures.1
+returns c = result-told one_value _ _ _ _ _ _ c.read.ensures c.put_answer.ensures.0 c.put_answer.ensures.1

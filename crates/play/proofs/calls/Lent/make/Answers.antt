@@ -34,3 +34,9 @@ returns-in-ShortList-clause-makes c = rw c.in-ShortList.is (c.short_list.ensures
 pub returns-in-RoomFor-clause-makes : goal.returns-in-RoomFor-clause-makes
 unfolding doing
 returns-in-RoomFor-clause-makes c = rw c.in-RoomFor.is (c.room.ensures _)
+
+pub returns-in-Rewrite-clause-makes : goal.returns-in-Rewrite-clause-makes
+unfolding doing
+returns-in-Rewrite-clause-makes c =
+    let e : length c.args.self.now.effects ≡ 327680 = search rules in
+    rw (c.in-Rewrite.is, ← e) (c.rewrite.ensures _)

@@ -1,0 +1,3 @@
+pub mod Mention
+pub mod Frames
+pub mod Walk
