@@ -1,5 +1,7 @@
 //! The commands. Each gives what it prints and its exit status: 0 fine, 1 the rules, words or expectations fail, 2 wrong usage.
 
+use std::path::Path;
+
 use crate::args::Args;
 use crate::explain;
 use crate::fault::render;
@@ -86,35 +88,49 @@ fn check(args: &[String]) -> Result<Said, Stop> {
     let warnings = lint::warnings(&rules.file);
     let steps = Tables::of(&words).map_or(0, |tables| flat::flatten(&tables).steps());
     let set = &rules.file.set;
+    let room = cerambiu::room(&words).map_err(|refused| Stop::fails(format!("barn check: room refuses this set with {}\n", refused.0)))?;
     let out = format!(
-        "{}: {}, {}, {}; {} of 4096 words, {steps} of 2048 flat steps, budget {}; {}\n",
+        "{}: {}, {}, {}; {} of 4096 words, {steps} of 2048 flat steps, budget {}; {}\n{}",
         rules.path,
         plural(set.rules.len(), "rule", "rules"),
         plural(set.blocks.len(), "block", "blocks"),
         plural(rules.file.expects.len(), "expectation", "expectations"),
         words.len(),
         set.limits.budget,
-        plural(warnings.len(), "warning", "warnings")
+        plural(warnings.len(), "warning", "warnings"),
+        room_text(room)
     );
     let status = u8::from(args.has("--strict") && !warnings.is_empty());
     Ok(Said { out, err: render(&rules.path, &rules.source, &warnings), status })
+}
+
+/// What a controller must lend, so that no call is refused for want of room.
+fn room_text(room: cerambiu::Handled) -> String {
+    let (outcomes, effects) = (room.outcomes as usize, room.effects as usize);
+    format!(
+        "a tick or a run gives at most {} and {}: a controller lends {} and {} words\n",
+        plural(outcomes, "outcome", "outcomes"),
+        plural(effects, "effect", "effects"),
+        outcomes * cerambiu::OUTCOME_WORDS,
+        effects * cerambiu::EFFECT_WORDS
+    )
 }
 
 fn words(args: &[String]) -> Result<Said, Stop> {
     let args = Args::read("words", args, &["-o"], &["--no-names"])?;
     let rules = files::read_rules(one_file("words", &args, 1)?)?;
     let words = accepted(&rules)?;
+    let names = files::names_path(&rules.path);
     let mut said = Said { err: render(&rules.path, &rules.source, &lint::warnings(&rules.file)), ..Said::default() };
     match args.value("-o") {
-        Some(path) => files::write(path, &files::image_bytes(path, &words))?,
+        Some(path) => files::write(path, &files::image_bytes(path, &words), &[Path::new(&rules.path), &names])?,
         None => said.out = files::image_text(&words),
     }
-    let path = files::names_path(&rules.path);
     let text = rules.file.book.write();
-    let is_new = std::fs::read_to_string(&path).map_or(true, |was| was != text);
+    let is_new = std::fs::read_to_string(&names).map_or(true, |was| was != text);
     if is_new && !args.has("--no-names") {
-        files::write(&path.to_string_lossy(), text.as_bytes())?;
-        said.err.push_str(&format!("names: {}\n", path.display()));
+        files::write_names(&names, &text)?;
+        said.err.push_str(&format!("names: {}\n", names.display()));
     }
     Ok(said)
 }

@@ -9,6 +9,8 @@ use crate::tree::Record;
 /// A line of a crontab has at most one trigger for each minute of a day, and a record has eight words.
 const MOST_TRIGGERS: usize = 1440;
 const RECORD_WORDS: usize = 8;
+/// An image of 4,096 words with its trailer and one rule.
+const MOST_IN_IMAGE: u32 = (4_096 - 13 - 16) / 8;
 /// Hour, minute and days.
 const FIELDS: std::ops::Range<usize> = 1..4;
 const WEEK_DAYS: u32 = 7;
@@ -30,6 +32,10 @@ pub fn triggers(line: &Line, monday: u32) -> Result<Vec<Record>, Box<Fault>> {
     let sunday = (monday + WEEK_DAYS - 1) % WEEK_DAYS;
     let mut words = vec![0; MOST_TRIGGERS * RECORD_WORDS];
     match cerambiu::crontab(text.text.as_bytes(), sunday, &mut words) {
+        Ok(count) if count > MOST_IN_IMAGE => {
+            let what = format!("this line has {count} starts a day, and an image has room for {MOST_IN_IMAGE}");
+            Err(Box::new(Fault::error(text.spot, what).help("`every 1 min` and the like start a rule more often")))
+        }
         Ok(count) => {
             let records = words.chunks(RECORD_WORDS).take(count as usize);
             Ok(records.map(|record| Record { spot, ..Record::new(record[0], &record[FIELDS]) }).collect())
@@ -68,6 +74,7 @@ mod tests {
     fn what_is_no_line() {
         assert_eq!(read("cron \"0 5 * *\"", 0), Err("`0 5 * *` is no crontab line".to_string()));
         assert_eq!(read("cron \"0 5 1 * *\"", 0), Err("a rule has no dates: day of month and month must be `*`".to_string()));
+        assert_eq!(read("cron \"* * * * *\"", 0), Err("this line has 1440 starts a day, and an image has room for 508".to_string()));
         assert_eq!(read("cron 0 5", 0), Err("the five fields of a crontab line expected, between quotation marks".to_string()));
         assert_eq!(read("cron \"0 5 * * *\" daily", 0), Err("the end of the line expected, found `daily`".to_string()));
     }

@@ -34,8 +34,8 @@ pub struct Expect {
     pub title: String,
     pub spot: Spot,
     pub plan: Plan,
-    /// Rule (a use) and time.
-    pub presses: Vec<(u32, i64)>,
+    /// Where it is said, rule (a use) and time.
+    pub presses: Vec<(Spot, u32, i64)>,
     pub wants: Vec<(Spot, Want)>,
 }
 
@@ -82,10 +82,11 @@ impl Expect {
             Want::Light { at, .. } => (*spot, *at),
             Want::Hours { day, .. } => (*spot, (day - 1) * DAY),
             Want::LongestDark { .. } => (*spot, 0),
-            Want::Nothing { from, .. } => (*spot, *from),
+            Want::Nothing { to, .. } => (*spot, *to),
         };
-        let presses = self.presses.iter().map(|(_, at)| (self.spot, *at));
-        self.wants.iter().map(of_want).chain(presses).collect()
+        let presses = self.presses.iter().map(|(spot, _, at)| (*spot, *at));
+        let cuts = self.plan.cuts.iter().map(|(from, _)| (self.spot, *from));
+        self.wants.iter().map(of_want).chain(presses).chain(cuts).collect()
     }
 
     fn line(&mut self, matcher: &mut Matcher<'_>) -> Result<(), Fault> {
@@ -95,7 +96,7 @@ impl Expect {
             "light" => light(matcher).map(|want| self.wants.push((spot, want))),
             "longest" => longest(matcher).map(|want| self.wants.push((spot, want))),
             "nothing" => nothing(matcher).map(|want| self.wants.push((spot, want))),
-            "press" => press(matcher).map(|press| self.presses.push(press)),
+            "press" => press(matcher).map(|(rule, at)| self.presses.push((spot, rule, at))),
             "sun" => sun(matcher).map(|sun| self.plan.sun = sun),
             "latitude" => latitude(matcher).map(|sun| self.plan.sun = sun),
             "date" => date(matcher).map(|date| self.plan.first = date),
@@ -189,8 +190,14 @@ fn press(matcher: &mut Matcher<'_>) -> Fit<(u32, i64)> {
 fn sun(matcher: &mut Matcher<'_>) -> Fit<Sun> {
     let [hour, minute] = matcher.clock()?;
     matcher.word("to")?;
+    let start = matcher.at;
     let [end_hour, end_minute] = matcher.clock()?;
-    Ok(Sun::Fixed(hour * 60 + minute, end_hour * 60 + end_minute))
+    let (rise, set) = (hour * 60 + minute, end_hour * 60 + end_minute);
+    if set <= rise {
+        matcher.at = start;
+        return matcher.wrong("the sun sets before it rises".to_string(), "`sun 07:00 to 17:00`");
+    }
+    Ok(Sun::Fixed(rise, set))
 }
 
 fn latitude(matcher: &mut Matcher<'_>) -> Fit<Sun> {

@@ -38,8 +38,21 @@ fn read_text(path: &str) -> Result<String, Stop> {
     })
 }
 
-pub fn write(path: &str, bytes: &[u8]) -> Result<(), Stop> {
+/// Writes a file, but not over one that was read.
+pub fn write(path: &str, bytes: &[u8], read: &[&Path]) -> Result<(), Stop> {
+    let whole = |path: &Path| fs::canonicalize(path).ok();
+    let own = whole(Path::new(path));
+    if own.is_some() && read.iter().any(|other| whole(other) == own) {
+        return Err(Stop::usage(format!("barn: {path} is a file that this command reads: it is not written over\n")));
+    }
     fs::write(path, bytes).map_err(|error| Stop::usage(format!("barn: {path}: {error}\n")))
+}
+
+/// The names, whole or not at all: a store remembers rules by their numbers.
+pub fn write_names(path: &Path, text: &str) -> Result<(), Stop> {
+    let fresh = path.with_extension("names.new");
+    let written = fs::write(&fresh, text).and_then(|()| fs::rename(&fresh, path));
+    written.map_err(|error| Stop::usage(format!("barn: {}: {error}\n", path.display())))
 }
 
 /// FILE.names beside FILE.rules.
@@ -129,13 +142,22 @@ fn binary(path: &str, bytes: &[u8]) -> Result<Vec<u32>, Stop> {
         let text = format!("barn: {path}: {} bytes are no whole number of words of 4 bytes\n", bytes.len());
         return Err(Stop::fails(text));
     }
-    Ok(bytes.chunks_exact(4).map(|four| u32::from_le_bytes([four[0], four[1], four[2], four[3]])).collect())
+    Ok(words_of(bytes))
+}
+
+/// Four bytes a word, the lowest first.
+pub fn bytes_of(words: &[u32]) -> Vec<u8> {
+    words.iter().flat_map(|word| word.to_le_bytes()).collect()
+}
+
+pub fn words_of(bytes: &[u8]) -> Vec<u32> {
+    bytes.chunks_exact(4).map(|four| u32::from_le_bytes([four[0], four[1], four[2], four[3]])).collect()
 }
 
 /// Words as bytes for `.img`, as decimal text otherwise: a record a line.
 pub fn image_bytes(path: &str, words: &[u32]) -> Vec<u8> {
     match path.ends_with(".img") {
-        true => words.iter().flat_map(|word| word.to_le_bytes()).collect(),
+        true => bytes_of(words),
         false => image_text(words).into_bytes(),
     }
 }

@@ -36,7 +36,8 @@ pub fn of(command: &str) -> Option<&'static str> {
 
 const CHECK: &str = "usage: barn check FILE.rules [--strict]
 
-Reads the rules, has the proved `load` judge them, and warns of what loads and then silently loses light.
+Reads the rules, has the proved `load` judge them, and warns of what loads and then silently loses light. Says how large the set is, and
+what memory a controller lends for its outcomes and effects.
 
   --strict   warnings fail too (exit status 1)
 ";
@@ -68,10 +69,10 @@ allowed range and the rule that reaches the record. Exit status 1 if there is on
 
 const DAY: &str = "usage: barn day FILE.rules|IMAGE [options]
 
-Plays the rules, or an image that ends with .img or .words, on the proved engine and prints a timeline, a bar for each light, the light hours of each light and day, and the longest dark
-stretch. The week before is played too, unseen, so that the day begins with the lights as they are.
+Plays the rules, or an image that ends with .img or .words, on the proved engine and prints a timeline, a bar for each light, the light hours
+of each light and day, and the longest dark stretch. The week before is played too, unseen, so that the day begins with the lights as they are.
 
-  --days N                 so many days (1); over 7 the timeline is left out unless --timeline is given
+  --days N                 so many days (1); over 7 the timeline is left out unless --timeline is given, over 31 the bars too
   --sun HH:MM-HH:MM        sunrise and sunset of every day (06:00-18:00)
   --latitude D             sunrise and sunset by date and latitude, -90 to 90, at the time zone's meridian, without summer time
   --date YYYY-MM-DD        the first day (2026-01-05, a Monday)
@@ -100,9 +101,11 @@ Reads the lines that `play` prints (tick and run with their outcomes and effects
 `-` is standard input. Without NAMES, FILE.names beside the log is taken if it is there.
 ";
 
-const WATCH: &str = "usage: barn watch STORE [NAMES] [--every SECONDS]
+const WATCH: &str = "usage: barn watch STORE [NAMES] [--sun HH:MM-HH:MM] [--every SECONDS]
 
-Tells what waits in a saved store: rule, next step, due time, budget left; timers, Every slots, the next start by the clock.
+Tells what waits in a saved store: rule, next step, due time, budget left; timers, Every slots, and the next start by the clock (the proved
+call's answer, from the minute of the last tick on).
 
-  --every SECONDS   read the store again and again
+  --sun HH:MM-HH:MM   sunrise and sunset, for the next start of rules by the sun; without it they are left out
+  --every SECONDS     read the store again and again
 ";

@@ -21,8 +21,6 @@ pub struct Token {
     pub kind: Kind,
     pub text: String,
     pub spot: Spot,
-    /// Whether a blank or the line's beginning stands before it.
-    pub apart: bool,
 }
 
 #[derive(Clone, Debug)]
@@ -79,8 +77,7 @@ fn line(text: &str, number: usize) -> Result<Vec<Token>, Fault> {
             Kind::Quoted => &chars[at + 1..at + length - 1],
             _ => &chars[at..at + length],
         };
-        let apart = at == 0 || chars[at - 1].is_whitespace();
-        tokens.push(Token { kind, text: inner.iter().collect(), spot, apart });
+        tokens.push(Token { kind, text: inner.iter().collect(), spot });
         at += length;
     }
     Ok(tokens)

@@ -24,15 +24,32 @@ pub fn of_level(level: u32) -> u32 {
     }
 }
 
+/// The level whose light lies nearest, the lower of two.
+pub fn level_of(ppm: u64) -> u32 {
+    if ppm == 0 {
+        return 0;
+    }
+    (1..=254).min_by_key(|level| u64::from(of_level(*level)).abs_diff(ppm)).unwrap_or(0)
+}
+
 #[cfg(test)]
 mod tests {
-    use super::{of_level, of_verb, FULL};
+    use super::{level_of, of_level, of_verb, FULL};
     use crate::names::{Book, Entry};
     use crate::schema::Sort;
 
     #[test]
     fn levels_are_those_of_the_curve() {
         assert_eq!([0, 1, 85, 229, 254].map(of_level), [0, 1_000, 9_909, 505_309, FULL]);
+    }
+
+    /// docs/FOR-FITTERS.md, "Light in percent".
+    #[test]
+    fn levels_of_percents() {
+        let table = [(0, 0), (1_000, 1), (10_000, 85), (100_000, 170), (400_000, 220), (500_000, 229), (750_000, 243), (1_000_000, 254)];
+        for (ppm, level) in table {
+            assert_eq!(level_of(ppm), level, "{ppm}");
+        }
     }
 
     #[test]

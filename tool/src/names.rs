@@ -226,6 +226,34 @@ mod tests {
         assert_eq!(book.disorder(Sort::Rule), None);
     }
 
+    /// A new name takes the middle of the gap between its neighbours, of byte order: capitals before small letters, and these before others.
+    #[test]
+    fn a_new_name_takes_the_middle_of_its_gap() {
+        for sort in [Sort::Rule, Sort::Timer] {
+            let mut book = Book::default();
+            book.add(sort, "b", Entry { number: 1_000, ..Entry::default() });
+            book.add(sort, "d", Entry { number: 2_001, ..Entry::default() });
+            book.number_all(sort, &names(&["c"])).unwrap();
+            assert_eq!(book.number(sort, "c"), Some(1_501));
+            book.number_all(sort, &names(&["B", "a\u{e9}", "\u{e9}"])).unwrap();
+            let numbers = ["B", "a\u{e9}", "b", "c", "d", "\u{e9}"].map(|name| book.number(sort, name).unwrap());
+            assert!(numbers.windows(2).all(|two| two[0] < two[1]), "{numbers:?}");
+            assert_eq!((numbers[0], numbers[1]), (250, 750));
+            assert_eq!(numbers[5], 2_002 + ((1_u64 << 32) - 2_002).div_euclid(2) as u32);
+        }
+    }
+
+    #[test]
+    fn a_last_number_is_given_and_then_none() {
+        let mut book = Book::default();
+        book.add(Sort::Rule, "a", Entry { number: 7, ..Entry::default() });
+        book.add(Sort::Rule, "d", Entry { number: 9, ..Entry::default() });
+        book.number_all(Sort::Rule, &names(&["b"])).unwrap();
+        assert_eq!(book.number(Sort::Rule, "b"), Some(8));
+        let text = book.number_all(Sort::Rule, &names(&["c"])).unwrap_err();
+        assert!(text.contains("no number is left for rule `c` between `b` (8) and `d` (9)"), "{text}");
+    }
+
     #[test]
     fn thirty_names_fit_one_after_another_and_no_gap_is_an_error() {
         let mut book = Book::default();

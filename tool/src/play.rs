@@ -1,10 +1,14 @@
 //! Plays a set on the proved engine: the store, the clock, the sun, presses, power cuts. Times are milliseconds from the midnight at which the
 //! first day begins; the week before it has negative ones.
 
+use std::collections::BTreeMap;
 use std::io::{IsTerminal as _, Write as _};
 use std::time::Instant;
 
+use cerambiu::{Handled, Refused};
+
 use crate::effect;
+use crate::files;
 use crate::names::Book;
 use crate::store::State;
 use crate::sun::{sunrise_and_sunset, Date};
@@ -15,6 +19,8 @@ pub const DAY: i64 = 1_440 * MINUTE;
 const EPOCH: i64 = 30 * DAY;
 /// Days that are played unseen.
 const BEFORE: i64 = 7;
+/// Effects and changes of light that are kept: some 200 MB.
+const MOST_KEPT: usize = 4_000_000;
 
 #[derive(Clone, Copy, Debug, PartialEq)]
 pub enum Sun {
@@ -109,6 +115,10 @@ struct House<'a> {
     store: Vec<u32>,
     outcomes: Vec<u32>,
     effects: Vec<u32>,
+    /// What a call can give at the most.
+    room: Handled,
+    /// Brightness, kind and verb or level that each light was told last.
+    lights: BTreeMap<u32, (u32, [u32; 2])>,
     /// The wall clock is the time plus this.
     ahead: i64,
     played: Played,
@@ -123,6 +133,8 @@ pub fn play(image: &[u32], book: &Book, plan: &Plan, progress: bool) -> Result<P
         store: vec![0; cerambiu::STORE_WORDS],
         outcomes: vec![0; 64 * cerambiu::OUTCOME_WORDS],
         effects: vec![0; 1_024 * cerambiu::EFFECT_WORDS],
+        room: cerambiu::room(image).map_err(|refused| format!("load refuses the set with {}", refused.0))?,
+        lights: BTreeMap::new(),
         ahead: 0,
         played: Played { cuts: plan.cuts.clone(), ..Played::default() },
     };
@@ -178,8 +190,10 @@ impl House<'_> {
                 time = self.cut(from, to.min(end))?;
                 continue;
             }
-            self.set_clock(time);
-            self.tick(time, time, false)?;
+            self.set_clocks(time, time);
+            if self.plan.seconds || time.rem_euclid(MINUTE) == 0 {
+                self.tick(time, time, false)?;
+            }
             self.press(time)?;
             time = self.next(time);
             progress.show(time);
@@ -206,12 +220,11 @@ impl House<'_> {
         presses.chain(clocks).chain(cuts).filter(|at| *at > time).fold(next, i64::min)
     }
 
-    fn set_clock(&mut self, time: i64) {
-        for (at, minute) in &self.plan.clocks {
-            if *at == time {
-                let wall = (time + self.ahead).rem_euclid(DAY);
-                self.ahead += minute * MINUTE - wall;
-            }
+    /// Clocks that are set in a span of time, both ends in.
+    fn set_clocks(&mut self, from: i64, to: i64) {
+        for (at, minute) in self.plan.clocks.iter().filter(|(at, _)| (from..=to).contains(at)) {
+            let wall = (at + self.ahead).rem_euclid(DAY);
+            self.ahead += minute * MINUTE - wall;
         }
     }
 
@@ -224,24 +237,24 @@ impl House<'_> {
         Ok(())
     }
 
-    /// The store is saved as it is when power fails, and restored when it is back.
+    /// When power fails the store is saved as bytes, as it is; when it is back they are read again.
     fn cut(&mut self, from: i64, to: i64) -> Result<i64, String> {
-        let saved = self.store.clone();
-        self.store.fill(u32::MAX);
-        self.store = saved;
+        let saved = files::bytes_of(&self.store);
+        self.store = files::words_of(&saved);
+        cerambiu::counters(&self.store).map_err(|refused| format!("the restored store is refused with {}", refused.0))?;
         if self.plan.presses.iter().any(|(_, at)| (from..to).contains(at)) {
             self.played.notes.push("a press inside a power cut does nothing".to_string());
         }
-        if self.plan.catch_up {
-            let mut minute = (from.div_euclid(MINUTE)) * MINUTE;
-            while minute < to {
-                if minute >= from {
-                    self.set_clock(minute);
-                    self.tick(minute, to, true)?;
-                }
-                minute += MINUTE;
+        let mut time = from;
+        while self.plan.catch_up && time < to {
+            let minute = (time + MINUTE - 1).div_euclid(MINUTE) * MINUTE;
+            self.set_clocks(time, minute.min(to - 1));
+            if minute < to {
+                self.tick(minute, to, true)?;
             }
+            time = minute + 1;
         }
+        self.set_clocks(time, to - 1);
         Ok(to)
     }
 
@@ -262,23 +275,7 @@ impl House<'_> {
 
     /// A tick, or a run of a rule; `told` is when the lights hear of it.
     fn call(&mut self, time: i64, told: i64, rule: Option<u32>, late: bool) -> Result<(), String> {
-        let snapshot = self.snapshot(time);
-        let handled = loop {
-            let (store, outcomes, effects) = (&mut self.store, &mut self.outcomes, &mut self.effects);
-            let answer = match rule {
-                None => cerambiu::tick(store, &snapshot, outcomes, effects),
-                Some(rule) => cerambiu::run(store, rule, false, &snapshot, outcomes, effects),
-            };
-            match answer {
-                Ok(handled) => break handled,
-                // More room than a tick can need is never asked for.
-                Err(cerambiu::Refused(30)) if self.effects.len() < 1_184 * 256 * cerambiu::EFFECT_WORDS => {
-                    self.outcomes.resize(1_184 * cerambiu::OUTCOME_WORDS, 0);
-                    self.effects.resize(self.effects.len() * 8, 0);
-                }
-                Err(refused) => return Err(format!("the engine refuses with {}", refused.0)),
-            }
-        };
+        let handled = self.answer(&self.snapshot(time), rule)?;
         for outcome in self.outcomes.chunks_exact(cerambiu::OUTCOME_WORDS).take(handled.outcomes as usize) {
             let [rule, _, trigger, reason, first, count] = [0, 1, 2, 3, 4, 5].map(|place| outcome[place]);
             let effects = self.effects.chunks_exact(cerambiu::EFFECT_WORDS).skip(first as usize).take(count as usize);
@@ -286,8 +283,13 @@ impl House<'_> {
             let mut has_any = false;
             for words in effects {
                 has_any = true;
-                if let Some((target, ppm)) = effect::light_of(words, self.book) {
-                    self.played.lights.push(Setting { time: told, light: target, ppm, told: [words[0], words[2]] });
+                if let Some((light, ppm)) = effect::light_of(words, self.book) {
+                    let setting = Setting { time: told, light, ppm, told: [words[0], words[2]] };
+                    // What a light was told already changes nothing.
+                    let was = self.lights.insert(light, (setting.ppm, setting.told));
+                    if was != Some((setting.ppm, setting.told)) {
+                        self.played.lights.push(setting);
+                    }
                 }
                 if told >= 0 {
                     self.played.events.push(event(Some([words[0], words[1], words[2], words[3], words[4]])));
@@ -297,6 +299,29 @@ impl House<'_> {
                 self.played.events.push(event(None));
             }
         }
-        Ok(())
+        match self.played.events.len().max(self.played.lights.len()) > MOST_KEPT {
+            true => Err(format!("over {MOST_KEPT} effects: play fewer days")),
+            false => Ok(()),
+        }
+    }
+
+    /// The proved answer. What is lent is little at first, since a call fills all of it; where it is not enough, all that the image can need.
+    fn answer(&mut self, snapshot: &[u32], rule: Option<u32>) -> Result<Handled, String> {
+        loop {
+            let (store, outcomes, effects) = (&mut self.store, &mut self.outcomes, &mut self.effects);
+            let answer = match rule {
+                None => cerambiu::tick(store, snapshot, outcomes, effects),
+                Some(rule) => cerambiu::run(store, rule, false, snapshot, outcomes, effects),
+            };
+            let room = [self.room.outcomes as usize * cerambiu::OUTCOME_WORDS, self.room.effects as usize * cerambiu::EFFECT_WORDS];
+            match answer {
+                Ok(handled) => return Ok(handled),
+                Err(Refused(30)) if self.outcomes.len() < room[0] || self.effects.len() < room[1] => {
+                    self.outcomes.resize(room[0].max(self.outcomes.len()), 0);
+                    self.effects.resize(room[1].max(self.effects.len()), 0);
+                }
+                Err(refused) => return Err(format!("the engine refuses with {}", refused.0)),
+            }
+        }
     }
 }

@@ -2,13 +2,16 @@
 
 use std::fmt::Write as _;
 
+use cerambiu::NextStart;
+
 use crate::flat::{self, Flat, BRANCH, PRIMITIVE, PUTS_OFF, WAITS};
 use crate::grammar::DAYS;
 use crate::image::{self, Tables};
 use crate::names::Book;
-use crate::schema::{Sort, Table, AT_TIME};
+use crate::schema::{Sort, Table, AT_SOLAR};
 use crate::spell::{span, Speller};
 use crate::store::{Pending, State, COUNTER_NAMES};
+use crate::tree::pair;
 
 /// Why a rule ran, as an outcome tells it.
 pub const TRIGGERS: [&str; 5] = ["by hand", "timer", "every", "at time", "at sun"];
@@ -139,32 +142,45 @@ impl<'a> Teller<'a> {
         }
     }
 
-    /// The next start by the clock, from the last minute on; the sun's are not known without a sun.
-    pub fn next_start(&self) -> String {
-        let (Some(now), Some(tables)) = (self.state.week_minute(), self.tables) else { return String::new() };
-        let mut best: Option<(u32, u32)> = None;
-        for (index, name) in self.rules().into_iter().enumerate().filter(|(index, _)| self.state.bit(*index)) {
-            let Some(rule) = tables.record(Table::Rules, index) else { continue };
-            for place in 0..rule[5] {
-                let trigger = tables.record(Table::Triggers, rule[4].saturating_add(place) as usize);
-                let Some(trigger) = trigger.filter(|trigger| trigger[0] == AT_TIME) else { continue };
-                for day in (0..7).filter(|day| trigger[3] >> day & 1 == 1) {
-                    let minute = day * 1_440 + trigger[1] * 60 + trigger[2];
-                    let ahead = (minute + 10_080 - now - 1) % 10_080 + 1;
-                    best = Some(best.map_or((ahead, name), |best| best.min((ahead, name))));
-                }
+    /// What starts next by the clock, from the last minute on: the proved function's answer. `sun`: the minutes of sunrise and sunset.
+    pub fn next_start(&self, sun: Option<(u32, u32)>) -> String {
+        let Some(now) = self.state.week_minute() else {
+            return "next start by the clock: the clock is not known\n".to_string();
+        };
+        let text = match cerambiu::next_start(self.state.words(), &self.snapshot(now, sun)) {
+            Ok(NextStart::Start { minutes, rule }) => {
+                let at = week_minute((now + minutes) % WEEK, self.book.monday);
+                let ahead = span(u64::from(minutes) * 60_000);
+                format!("next start by the clock: rule {}, {at}, in {ahead}\n", self.book.name(Sort::Rule, rule))
             }
-        }
-        match best {
-            Some((ahead, rule)) => {
-                let minute = (now + ahead) % 10_080;
-                let at = week_minute(minute, self.book.monday);
-                format!("next start by the clock: rule {}, {at}, in {}\n", self.book.name(Sort::Rule, rule), span(u64::from(ahead) * 60_000))
-            }
-            None => "no rule that is on has a trigger `at` a time of day\n".to_string(),
+            Ok(_) => "next start by the clock: none, no rule that is on has a trigger for it\n".to_string(),
+            Err(refused) => format!("next start by the clock: refused with {}\n", refused.0),
+        };
+        match sun.is_none() && self.asks_sun() {
+            true => text + "  (rules by the sun are left out: --sun HH:MM-HH:MM gives its times)\n",
+            false => text,
         }
     }
+
+    /// The world at the last tick: its time and its minute, and no rows.
+    fn snapshot(&self, now: u32, sun: Option<(u32, u32)>) -> [u32; 14] {
+        let [low, high] = pair(self.state.last());
+        let (mark, rise, set) = sun.map_or((0, 0, 0), |(rise, set)| (1, rise, set));
+        [low, high, 1, now / 1_440, now % 1_440, mark, rise, set, 1, 0, 0, 0, 0, 0]
+    }
+
+    /// Whether a rule that is on has a trigger by the sun.
+    fn asks_sun(&self) -> bool {
+        let Some(tables) = self.tables else { return false };
+        let mut on = (0..tables.count(Table::Rules)).filter(|rule| self.state.bit(*rule)).filter_map(|rule| tables.record(Table::Rules, rule));
+        on.any(|rule| {
+            let list = rule[4]..rule[4].saturating_add(rule[5]);
+            list.into_iter().any(|at| tables.record(Table::Triggers, at as usize).is_some_and(|trigger| trigger[0] == AT_SOLAR))
+        })
+    }
 }
+
+const WEEK: u32 = 10_080;
 
 /// `tuesday 05:00`.
 pub fn week_minute(minute: u32, monday: u32) -> String {

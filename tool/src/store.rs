@@ -100,6 +100,10 @@ impl<'a> State<'a> {
         COUNTED[table].rows(self.words).unwrap_or([].chunks_exact(1))
     }
 
+    pub fn words(&self) -> &'a [u32] {
+        self.words
+    }
+
     pub fn last(&self) -> u64 {
         wide(self.words[LAST], self.words[LAST + 1])
     }

@@ -9,7 +9,7 @@ impl Date {
     pub const FIRST: Date = Date(20_458);
 
     pub fn of(year: i64, month: i64, day: i64) -> Option<Date> {
-        if !(1..=9_999).contains(&year) || !(1..=12).contains(&month) || day < 1 {
+        if !(1..=9_999).contains(&year) || !(1..=12).contains(&month) || !(1..=31).contains(&day) {
             return None;
         }
         let shifted = if month <= 2 { year - 1 } else { year };
@@ -96,6 +96,7 @@ mod tests {
         assert_eq!(Date::read("2026-02-29"), None);
         assert_eq!(Date::read("2026-13-01"), None);
         assert_eq!(Date::read("x"), None);
+        assert_eq!(Date::read("2026-01-9223372036854775807"), None);
         assert!((-1_000..1_000).all(|day| Date::read(&Date(day * 97).text()) == Some(Date(day * 97))));
     }
 

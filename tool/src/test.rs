@@ -23,21 +23,38 @@ pub fn command(args: &[String]) -> Result<Said, Stop> {
     }
     let mut said = Said::default();
     for path in &args.given {
-        let rules = files::read_rules(path)?;
-        let words = accepted(&rules)?;
-        let (mut met, mut all) = (0, 0);
-        for expect in &rules.file.expects {
-            let failed = failures(&rules, &words, expect).map_err(|what| Stop::fails(format!("barn test: {what}\n")))?;
-            all += expect.wants.len();
-            met += expect.wants.len() - failed.len();
-            failed.iter().for_each(|text| said.out.push_str(text));
+        match file(path) {
+            Ok(of_file) => {
+                said.out.push_str(&of_file.out);
+                said.err.push_str(&of_file.err);
+                said.status = said.status.max(of_file.status);
+            }
+            // The files behind it are tested all the same.
+            Err(Stop { text, status }) => {
+                said.err.push_str(&text);
+                said.status = said.status.max(status);
+            }
         }
-        let _ = writeln!(said.out, "{path}: {met} of {all} expectations met");
-        if all == 0 {
-            said.err.push_str(&format!("warning: {path} has no expectation\n"));
-        }
-        said.status |= u8::from(met < all);
     }
+    Ok(said)
+}
+
+fn file(path: &str) -> Result<Said, Stop> {
+    let rules = files::read_rules(path)?;
+    let words = accepted(&rules)?;
+    let mut said = Said::default();
+    let (mut met, mut all) = (0, 0);
+    for expect in &rules.file.expects {
+        let failed = failures(&rules, &words, expect).map_err(|what| Stop::fails(format!("barn test: {what}\n")))?;
+        all += expect.wants.len();
+        met += expect.wants.len() - failed.len();
+        failed.iter().for_each(|text| said.out.push_str(text));
+    }
+    let _ = writeln!(said.out, "{path}: {met} of {all} expectations met");
+    if all == 0 {
+        said.err.push_str(&format!("warning: {path} has no expectation\n"));
+    }
+    said.status = u8::from(met < all);
     Ok(said)
 }
 
@@ -50,7 +67,7 @@ struct Case<'a> {
 fn failures(rules: &Rules, words: &[u32], expect: &Expect) -> Result<Vec<String>, String> {
     let book = &rules.file.book;
     let number = |place: u32| rules.file.uses.get(place as usize).and_then(|used| book.number(used.sort, &used.name)).unwrap_or(0);
-    let presses = expect.presses.iter().map(|(rule, at)| (number(*rule), *at)).collect();
+    let presses = expect.presses.iter().map(|(_, rule, at)| (number(*rule), *at)).collect();
     let plan = Plan { presses, ..expect.plan.clone() };
     let played: Played = play::play(words, book, &plan, true)?;
     let shown = Shown::new(&rules.path, &rules.file.set, book, &plan, &played);
@@ -114,7 +131,7 @@ impl Case<'_> {
             Look::Lit => is_lit,
             Look::Dark => !is_lit,
             Look::Verb(verb) => last.is_some_and(|setting| setting.told == [0, number(*verb)]),
-            Look::Percent(ppm) => last.is_some_and(|setting| setting.told[0] == 12 && setting.told[1] == level_of(*ppm)),
+            Look::Percent(ppm) => last.is_some_and(|setting| setting.told[0] == 12 && setting.told[1] == light::level_of(*ppm)),
         };
         if fits {
             return None;
@@ -161,27 +178,5 @@ fn exact(ms: i64) -> String {
     match ms % 60_000 {
         0 => hours_text(ms),
         _ => span(ms.unsigned_abs()),
-    }
-}
-
-/// The level whose light lies nearest, the lower of two.
-fn level_of(ppm: u64) -> u32 {
-    if ppm == 0 {
-        return 0;
-    }
-    (1..=254).min_by_key(|level| u64::from(light::of_level(*level)).abs_diff(ppm)).unwrap_or(0)
-}
-
-#[cfg(test)]
-mod tests {
-    use super::level_of;
-
-    /// docs/FOR-FITTERS.md, "Light in percent".
-    #[test]
-    fn levels_of_percents() {
-        let table = [(0, 0), (1_000, 1), (10_000, 85), (100_000, 170), (400_000, 220), (500_000, 229), (750_000, 243), (1_000_000, 254)];
-        for (ppm, level) in table {
-            assert_eq!(level_of(ppm), level, "{ppm}");
-        }
     }
 }

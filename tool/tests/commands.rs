@@ -1,34 +1,10 @@
-//! The commands as a user has them: exit status, messages, files, and no panic whatever the bytes.
+//! The commands as a user has them: exit status, messages, files.
 
 mod common;
 
 use std::fs;
-use std::path::PathBuf;
-use std::process::{Command, Output};
 
-use oracle::random::Random;
-
-fn folder(name: &str) -> PathBuf {
-    let folder = PathBuf::from(env!("CARGO_TARGET_TMPDIR")).join(name);
-    let _ = fs::remove_dir_all(&folder);
-    fs::create_dir_all(&folder).expect("a folder");
-    folder
-}
-
-fn barn(args: &[&str]) -> Output {
-    Command::new(env!("CARGO_BIN_EXE_barn")).args(args).output().expect("barn runs")
-}
-
-fn texts(output: &Output) -> (i32, String, String) {
-    let text = |bytes: &[u8]| String::from_utf8_lossy(bytes).into_owned();
-    (output.status.code().unwrap_or(-1), text(&output.stdout), text(&output.stderr))
-}
-
-fn example(name: &str) -> String {
-    common::repository().join("examples").join(name).to_string_lossy().into_owned()
-}
-
-const EXAMPLES: [&str; 3] = ["layer-house.rules", "broiler-house.rules", "inspection-light.rules"];
+use common::{barn, example, folder, texts, EXAMPLES};
 
 #[test]
 fn every_command_has_its_help_and_wrong_usage_is_2() {
@@ -179,91 +155,4 @@ fn is_well_formed(svg: &str) {
         rest = &rest[end + 1..];
     }
     assert!(open.is_empty(), "{open:?}");
-}
-
-// DAMAGED FILES ------------------------------------------------------------------------------------------------------------------------------
-
-fn damaged(random: &mut Random, bytes: &[u8]) -> Vec<u8> {
-    let mut bytes = bytes.to_vec();
-    for _ in 0..random.from_to(1, 8) {
-        let at = random.below(bytes.len().max(1) as u32) as usize;
-        match random.below(6) {
-            0 if !bytes.is_empty() => bytes[at] = random.word() as u8,
-            1 if !bytes.is_empty() => {
-                bytes.remove(at);
-            }
-            2 => bytes.insert(at.min(bytes.len()), random.pick([b' ', b'\n', b'"', b'0', b'#', b'=', 0, 255, b'%', b'-'])),
-            3 => bytes.truncate(at),
-            4 => {
-                let to = (at + random.below(40) as usize).min(bytes.len());
-                let piece = bytes[at.min(to)..to].to_vec();
-                bytes.splice(at..at, piece);
-            }
-            _ => {
-                let words = ["end\n", "rule ", "99999999999999999999 ", "do\n", "after 1 s\n", "= ", "light ", "24:00 ", "-", "\u{e9}"];
-                let word = random.pick(words);
-                bytes.splice(at..at, word.bytes());
-            }
-        }
-    }
-    bytes
-}
-
-/// Text in every state of damage is refused or read; nothing panics.
-#[test]
-fn damaged_rules_never_panic() {
-    let mut random = Random::new(3);
-    let (mut good, mut bad) = (0, 0);
-    let sources: Vec<Vec<u8>> = EXAMPLES.map(|name| fs::read(example(name)).expect("an example")).to_vec();
-    for turn in 0..6_000 {
-        let bytes = damaged(&mut random, &sources[turn % sources.len()]);
-        let text = String::from_utf8_lossy(&bytes);
-        match barn::parse::file(&text, &barn::names::Book::default()) {
-            Ok(file) => {
-                good += 1;
-                let words = barn::image::write(&file.set);
-                let _ = barn::fault::render("x", &text, &barn::lint::warnings(&file));
-                assert_eq!(common::load_number(&words) == 0, barn::explain::image::refusal(&words, &file.book).is_none());
-            }
-            Err(faults) => {
-                bad += 1;
-                assert!(!faults.is_empty());
-                assert!(barn::fault::render("x", &text, &faults).contains("error: "));
-            }
-        }
-        let _ = barn::names::Book::read(&text);
-    }
-    assert!(good > 300 && bad > 1_000, "{good} {bad}");
-}
-
-/// The program itself on files of noise, and on nesting without end.
-#[test]
-fn damaged_files_never_panic_the_program() {
-    let folder = folder("damaged");
-    let path = folder.join("noise").to_string_lossy().into_owned();
-    let rules = folder.join("noise.rules").to_string_lossy().into_owned();
-    let mut random = Random::new(5);
-    let mut files: Vec<Vec<u8>> = vec![Vec::new(), vec![0; 65_536], vec![255; 65_536], vec![b'9'; 100_000], b"after 1 s\n".repeat(50_000)];
-    files.push([b"rule a\ndo\n".to_vec(), b"repeat 2\n".repeat(30_000)].concat());
-    files.push([b"rule a\ndo\n".to_vec(), b"when sun is up\n".repeat(500), b"end\n".repeat(502)].concat());
-    for _ in 0..6 {
-        let size = random.below(3_000) as usize;
-        files.push((0..size).map(|_| random.word() as u8).collect());
-    }
-    for bytes in files {
-        fs::write(&path, &bytes).expect("written");
-        fs::write(&rules, &bytes).expect("written");
-        for command in ["show", "explain", "watch", "log"] {
-            seen(&barn(&[command, &path]));
-        }
-        for command in ["check", "words", "day", "test"] {
-            seen(&barn(&[command, &rules]));
-        }
-        let _ = fs::remove_file(folder.join("noise.names"));
-    }
-}
-
-fn seen(output: &Output) {
-    let (status, _, err) = texts(output);
-    assert!((0..=2).contains(&status) && !err.contains("panicked"), "{status} {err}");
 }

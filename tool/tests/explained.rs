@@ -4,8 +4,9 @@ mod common;
 
 use std::collections::BTreeMap;
 
-use barn::explain;
 use barn::names::Book;
+use barn::schema::Table;
+use barn::{explain, image};
 use oracle::house::Call;
 use oracle::random::Random;
 
@@ -66,46 +67,104 @@ fn other_word(random: &mut Random, was: u32) -> u32 {
     }
 }
 
+/// The words with one of them changed, and its place.
+fn changed(random: &mut Random, words: &[u32]) -> Option<(usize, Vec<u32>)> {
+    let mut changed = words.to_vec();
+    let place = random.below(words.len() as u32) as usize;
+    let word = changed.get_mut(place)?;
+    *word = other_word(random, *word);
+    Some((place, changed))
+}
+
+/// The words that the findings point to.
+fn pointed(refusal: &explain::Refusal) -> Vec<usize> {
+    let word = |what: &str| what.strip_prefix("word ")?.split(|c: char| !c.is_ascii_digit()).next()?.parse().ok();
+    refusal.findings.iter().filter_map(|finding| word(&finding.what)).collect()
+}
+
+/// Of an accepted image with one word of a record changed: refusal 13 points into this record, and into no other.
+fn points_into_the_record(image: &[u32], place: usize) {
+    let Some(refusal) = explain::image::refusal(image, &Book::default()).filter(|refusal| refusal.number == 13) else { return };
+    let tables = image::Tables::of(image).expect("tables");
+    let records = Table::ALL.into_iter().flat_map(|table| (0..tables.count(table)).map(move |index| (table, index)));
+    let span = |(table, index): (Table, usize)| tables.place(table, index)..tables.place(table, index) + table.width();
+    let own = records.map(span).find(|span| span.contains(&place)).expect("a record");
+    assert!(pointed(&refusal).iter().all(|word| own.contains(word)), "word {place}: {refusal:?}");
+}
+
+fn images(tally: &mut Tally, random: &mut Random, image: &[u32]) {
+    tally.image(image);
+    let is_accepted = common::load_number(image) == 0;
+    for (place, varied) in (0..4).filter_map(|_| changed(random, image)).collect::<Vec<_>>() {
+        tally.image(&varied);
+        if is_accepted && place + image::TRAILER < varied.len() {
+            points_into_the_record(&varied, place);
+        }
+    }
+}
+
+/// Of an accepted snapshot with one word changed: refusal 21 points to it, or to the value that its mark says is there.
+fn snapshots(tally: &mut Tally, random: &mut Random, snapshot: &[u32]) {
+    tally.snapshot(snapshot);
+    let Some((place, varied)) = changed(random, snapshot) else { return };
+    tally.snapshot(&varied);
+    let refusal = explain::snapshot::refusal(&varied).filter(|refusal| refusal.number == 21);
+    if let Some(refusal) = refusal.filter(|_| common::snapshot_number(snapshot) == 0) {
+        let near = |word: &usize| (place..=place + 2).contains(word);
+        assert!(!pointed(&refusal).is_empty() && pointed(&refusal).iter().all(near), "word {place}: {refusal:?}");
+    }
+}
+
 #[test]
 fn images_and_snapshots() {
-    let (mut images, mut snapshots) = (Tally::default(), Tally::default());
+    let (mut of_images, mut of_snapshots) = (Tally::default(), Tally::default());
     let mut random = Random::new(7);
     let mut calls: Vec<Call> = common::recorded();
     let mut seed = 0;
-    while images.total() < IMAGES || snapshots.total() < IMAGES {
+    while of_images.total() < IMAGES || of_snapshots.total() < IMAGES {
         for call in std::mem::take(&mut calls) {
             match call {
-                Call::Load { image, .. } => {
-                    images.image(&image);
-                    let mut varied = image.clone();
-                    for _ in 0..4 {
-                        if varied.is_empty() {
-                            break;
-                        }
-                        let place = random.below(varied.len() as u32) as usize;
-                        varied[place] = other_word(&mut random, varied[place]);
-                        images.image(&varied);
-                        varied.clone_from(&image);
-                    }
-                }
-                Call::Tick { snapshot } | Call::Run { snapshot, .. } => {
-                    snapshots.snapshot(&snapshot);
-                    let mut varied = snapshot.clone();
-                    if !varied.is_empty() {
-                        let place = random.below(varied.len() as u32) as usize;
-                        varied[place] = other_word(&mut random, varied[place]);
-                        snapshots.snapshot(&varied);
-                    }
-                }
+                Call::Load { image, .. } => images(&mut of_images, &mut random, &image),
+                Call::Tick { snapshot } | Call::Run { snapshot, .. } => snapshots(&mut of_snapshots, &mut random, &snapshot),
                 _ => {}
             }
         }
         calls = common::history(seed);
         seed += 1;
     }
-    images.met(&[0, 10, 11, 12, 13, 14, 15, 16, 17]);
-    snapshots.met(&[0, 20, 21, 22]);
-    println!("images {:?}\nsnapshots {:?}", images.numbers, snapshots.numbers);
+    of_images.met(&[0, 10, 11, 12, 13, 14, 15, 16, 17]);
+    of_snapshots.met(&[0, 20, 21, 22]);
+    println!("images {:?}\nsnapshots {:?}", of_images.numbers, of_snapshots.numbers);
+}
+
+/// What is said of an example with a word changed: the place, the range and the rule.
+#[test]
+fn a_refusal_in_words() {
+    let path = common::example("layer-house.rules");
+    let rules = barn::files::read_rules(&path).expect("rules");
+    let words = image::write(&rules.file.set);
+    let tables = image::Tables::of(&words).expect("tables");
+    let end = words.len() - image::TRAILER;
+    let (hour, wait) = (tables.place(Table::Triggers, 0) + 1, tables.place(Table::Actions, 1));
+    let table = [
+        (end, 0, format!("refused 11 by load: word {end}, trailer word 0 (budget limit): 0, allowed 1 to 256\n")),
+        (end + 6, 33, "refused 12 by load: table rules has the words 0 to 33: 33 words are no whole number of records of 16\n".to_string()),
+        (hour, 25, format!("refused 13 by load: word {hour}, table triggers, record 0, field 1 (hour): 25, allowed 0 to 23\n  at  AtTime hour=25 minute=0 days=127\n  of  rule morning (")),
+        (wait, 29, format!("refused 13 by load: word {wait}, table actions, record 1: unknown kind 29, allowed 0 to 28\n")),
+        (8, 7, "refused 14 by load: word 8, table rules, record 0, field 8 (first action): 7, with 3 records, ends at 10: table actions has 7\n".to_string()),
+        (16, words[0], "refused 15 by load: records 0 and 1 of table rules (words 0 and 16) have one name: rule morning (".to_string()),
+    ];
+    for (place, word, wanted) in table {
+        let mut changed = words.clone();
+        changed[place] = word;
+        let refusal = explain::image::refusal(&changed, &rules.file.book).expect("a refusal");
+        let said = explain::text(&refusal, "load", &explain::image::NUMBERS);
+        assert!(said.starts_with(&wanted), "{said}");
+    }
+    let snapshot = [0, 0, 1, 7, 1_440, 2, 0, 0, 1, 0, 0, 0, 0, 0];
+    let said = explain::text(&explain::snapshot::refusal(&snapshot).expect("a refusal"), "tick", &explain::snapshot::NUMBERS);
+    let wanted = "refused 21 by tick: word 3 (weekday): 7, allowed 0 to 6\nalso 21: word 4 (minute): 1440, allowed 0 to 1439\nalso 21: word 5 (sun present): 2, allowed 0 or 1\n22 was not reached\n";
+    assert_eq!(said, wanted);
 }
 
 /// The stores that the proved calls come to, each with words changed.

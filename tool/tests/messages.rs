@@ -38,7 +38,7 @@ fn an_error_names_place_text_and_help() {
 }
 
 #[test]
-fn errors_by_what_is_wrong() {
+fn errors_of_triggers_and_conditions() {
     let table = [
         ("at 25:00", "`25:00` is no time of day"),
         ("at noon", "a time of day, `sunrise` or `sunset` expected, found `noon`"),
@@ -61,6 +61,14 @@ fn errors_by_what_is_wrong() {
         ("if var x > lamp 0/1 brightness", "`level`, `cct`, `on` or `last` expected, found `brightness`"),
         ("if var x > 99999999999999999999", "is no integer of 64 bits"),
         ("if sun is up and x", "the end of the line expected, found `and`"),
+        ("cron \"* * * * *\"", "1440 starts a day, and an image has room for 508"),
+    ];
+    holds(table.map(|(lines, wanted)| (lines.to_string(), error_of(lines), wanted)));
+}
+
+#[test]
+fn errors_of_steps() {
+    let table = [
         ("do\nlight house full softly\nend", "expected, found `softly`"),
         ("do\nlight house 0.05 %\nend", "this light has no level on the bus"),
         ("do\nlight house 40\nend", "`%` expected, found the end of the line"),
@@ -96,8 +104,12 @@ fn errors_of_a_whole_file() {
         ("verb x = 1 200 %\n", "the light of a verb is 0 % to 100 %"),
         ("ligth a = 1\n", "is `light` meant?"),
         ("expect\nlight a lit at 05:00 on day 2\nend\nlight a = 1\n", "day 2 is not played"),
+        ("expect\nnothing from 22:00 to 04:00 on day 2\nend\n", "day 2 is not played"),
+        ("rule a\nend\nexpect\npress a at 04:00 on day 3\nend\n", "--> x.rules:4:1\n"),
+        ("expect\ncut 04:00 on day 2 to 05:00 on day 2\nend\n", "day 2 is not played"),
         ("expect\nlihgt a lit at 05:00\nend\n", "is `light` meant?"),
         ("expect\nnothing from 05:00 to 04:00\nend\n", "it ends before it begins"),
+        ("expect\nsun 17:00 to 07:00\nend\n", "the sun sets before it rises"),
         ("expect\ndate 2026-02-30\nend\n", "there is no such day"),
     ];
     holds(table.map(|(text, wanted)| (text.to_string(), errors(text), wanted)));
@@ -119,6 +131,15 @@ fn a_number_of_the_file_of_names_does_not_change() {
     assert!(said("rule a = 8\nend\n").contains("has number 7 in the file of names, not 8"));
     assert_eq!(said("rule a\nend\nrule b\nend\n"), "Some(7)");
     assert!(said("rule a\nend\nrule b\nend\nrule c\nend\n").contains("no number is left for rule `b`, `c` between `a` (7) and `z` (9)"));
+}
+
+/// The file of names knows which number Monday has; a file of rules without `weekday` is read by it.
+#[test]
+fn monday_of_the_file_of_names() {
+    let known = Book::read("monday 3\n").expect("names");
+    let bits = |text: &str| parse::file(text, &known).unwrap_or_else(|faults| panic!("{faults:?}")).set.rules[0].triggers[0].word(2);
+    assert_eq!(bits("rule a\nat 05:00 on monday\nend\n"), 1 << 3);
+    assert_eq!(bits("rule a\nat 05:00 on monday\nend\nweekday monday = 1\n"), 1 << 1);
 }
 
 #[test]
@@ -148,6 +169,8 @@ fn warnings_of_what_loses_light() {
             "rule a\nat 05:00\ndo\nlight house full\nend\nend\nrule b\nat 04:45 on monday\ndo\nwait 15 min\nlight house off\nend\nend\n".to_string(),
             "at 05:00 rule `a` says `light house full` and rule `b` says `light house off`",
         ),
+        ("rule a\ndo\ncall b\nafter 10 min\nlight house off\nend\nend\nend\nblock b\nlight house full\nend\n".to_string(), "`timer restart NAME 10 min` here"),
+        ("rule a\ndo\nlight house full\nwait 10 min\nlight house off\nend\nend\n".to_string(), "`timer restart NAME 10 min` here"),
         ("rule a\nat 05:00\ndo\nlight lamp full\nend\nend\n".to_string(), "light `lamp` is switched on, and no rule switches it off"),
         ("rule a\nif var x > 5\ndo\nlog hello\nend\nend\n".to_string(), "nobody sets variable `x`"),
         ("limits text 3\nrule a\ndo\nset x = text hello\nend\nend\n".to_string(), "a text of 5 bytes, and the text limit is 3"),
@@ -155,6 +178,52 @@ fn warnings_of_what_loses_light() {
         ("rule b = 1\nend\nrule a = 2\nend\n".to_string(), "their numbers are not in the order of their names"),
     ];
     holds(table.map(|(text, wanted)| (text.clone(), warnings(&text), wanted)));
+}
+
+/// Two rules, each with its lines before `do` and its steps: whether their lights clash.
+fn clash(first: [&str; 2], second: [&str; 2]) -> bool {
+    let rule = |name: &str, [head, steps]: [&str; 2]| format!("rule {name}\n{head}\ndo\n{steps}\nend\nend\n");
+    let text = rule("a", first) + &rule("b", second) + "block full_later\nwait 10 min\nlight house full\nend\n\
+        rule t\ndo\ntimer start t 5 s\ntimer start u 5 s\nend\nend\nrule u\nwhen timer u fires\nwhen timer t fires\ndo\nlight lamp off\nend\nend\n";
+    let said = warnings(&text);
+    assert!(said.matches("warning: ").count() == said.matches("has the last word").count(), "{said}");
+    said.contains("rule `a` says `light house full` and rule `b` says `light house off`")
+}
+
+#[test]
+fn lights_that_clash_and_lights_that_do_not() {
+    let (full, off) = ("light house full", "light house off");
+    let clashes = [
+        (["at 05:10", full], ["at 05:10", off]),
+        (["at 05:00", "call full_later"], ["at 05:10", off]),
+        (["at 05:00", "repeat 2\nwait 5 min\nend\nlight house full"], ["at 05:10", off]),
+        (["at 23:55 on sunday", "call full_later"], ["at 00:05 on monday", off]),
+        (["at sunset + 90 s", full], ["at sunset + 1 min", off]),
+        (["when timer t fires", full], ["when timer t fires", off]),
+        (["every 10 min", full], ["every 20 min", off]),
+        (["at 05:10", full], ["at 05:10\nif sun is up", off]),
+        (["at 05:10\nif sun is up", full], ["at 05:10\nif sun is up", off]),
+        (["at 05:10\nif day in monday", full], ["at 05:10 on monday to friday", off]),
+    ];
+    let apart = [
+        (["at 05:10", full], ["at 05:11", off]),
+        (["at 05:00", "call full_later"], ["at 05:00", off]),
+        (["at 23:55 on sunday", "call full_later"], ["at 00:05 on sunday", off]),
+        (["at sunset", full], ["at sunrise", off]),
+        (["when timer t fires", full], ["when timer u fires", off]),
+        (["every 10 min", full], ["every 15 min", off]),
+        (["at 05:10\nif sun is up", full], ["at 05:10\nif sun is down", off]),
+        (["at 05:10\nif day in monday", full], ["at 05:10 on tuesday", off]),
+        (["at 05:10", "light house full\nlight house off"], ["at 05:10", off]),
+        (["at 05:10", "when sun is up\nlight house full\nend"], ["at 05:10", off]),
+        (["at 05:10\noff", full], ["at 05:10", off]),
+    ];
+    for (first, second) in clashes {
+        assert!(clash(first, second), "{first:?} {second:?}");
+    }
+    for (first, second) in apart {
+        assert!(!clash(first, second), "{first:?} {second:?}");
+    }
 }
 
 #[test]

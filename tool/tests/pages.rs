@@ -82,6 +82,40 @@ fn declarations_expectations_and_the_whole_file_are_read() {
     assert_eq!((file.set.rules.len(), file.expects.len()), (2, 1));
 }
 
+/// The gate runs the expectations of all of them.
+#[test]
+fn each_example_has_expectations_and_a_picture() {
+    let (page, mut seen) = (page(), 0);
+    for entry in fs::read_dir(common::repository().join("examples")).expect("the examples") {
+        let path = entry.expect("an entry").path();
+        if path.extension().is_none_or(|end| end != "rules") {
+            continue;
+        }
+        let name = path.file_name().expect("a name").to_string_lossy().into_owned();
+        assert!(common::EXAMPLES.contains(&name.as_str()), "{name}");
+        let file = read(&fs::read_to_string(&path).expect("an example"));
+        assert!(file.expects.iter().any(|expect| !expect.wants.is_empty()), "{name}");
+        let draws = |line: &str| line.contains(&format!("barn day examples/{name} ")) && line.contains("--svg docs/pictures/");
+        assert!(page.lines().any(draws), "{name}");
+        seen += 1;
+    }
+    assert_eq!(seen, common::EXAMPLES.len());
+}
+
+/// Every picture of the page is one that a command of it draws, and README shows the first.
+#[test]
+fn the_pictures_are_shown() {
+    let readme = fs::read_to_string(common::repository().join("README.md")).expect("README");
+    let first: String = readme.lines().take(14).collect::<Vec<_>>().join("\n");
+    assert!(first.contains("](docs/pictures/layer-house-day.svg)") && first.contains("    barn day examples/layer-house.rules --sun 07:00-17:00 --svg"));
+    let page = page();
+    let shown: Vec<&str> = page.split("](pictures/").skip(1).filter_map(|rest| rest.split(')').next()).collect();
+    assert!(shown.len() >= 4, "{shown:?}");
+    for picture in shown {
+        assert!(page.contains(&format!("--svg docs/pictures/{picture}\n")), "{picture}");
+    }
+}
+
 #[test]
 fn the_pictures_are_what_their_commands_draw() {
     let folder = std::path::PathBuf::from(env!("CARGO_TARGET_TMPDIR"));

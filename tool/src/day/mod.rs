@@ -1,7 +1,9 @@
 //! `barn day`: what a set does to a day, as text and as pictures.
 
-mod options;
+pub mod options;
 pub mod report;
+
+use std::path::Path;
 
 use crate::account;
 use crate::args::Args;
@@ -57,8 +59,10 @@ const VALUES: [&str; 12] = [
     "--html",
     "--csv",
 ];
-/// Longer runs print light hours only.
+/// Longer runs print no timeline unless it is asked for.
 const MOST_DAYS_TOLD: i64 = 7;
+/// Longer runs print the light hours of the months' first days, the least and the most.
+const MOST_DAYS_BARRED: i64 = 31;
 
 pub fn command(args: &[String]) -> Result<Said, Stop> {
     let args = Args::read("day", args, &VALUES, &["--new", "--timeline"])?;
@@ -66,22 +70,22 @@ pub fn command(args: &[String]) -> Result<Said, Stop> {
     let (set, book, words) = rules_or_image(path)?;
     let plan = options::plan(&args, &book)?;
     let played = play::play(&words, &book, &plan, true).map_err(|what| Stop::fails(format!("barn day: {what}\n")))?;
-    let title = std::path::Path::new(path).file_name().map_or(path.clone(), |name| name.to_string_lossy().into_owned());
+    let title = Path::new(path).file_name().map_or(path.clone(), |name| name.to_string_lossy().into_owned());
     let shown = Shown::new(&title, &set, &book, &plan, &played);
     let mut out = report::head(&shown);
     if plan.days <= MOST_DAYS_TOLD || args.has("--timeline") {
         out.push_str(&report::timeline(&shown));
         out.push('\n');
     }
-    out.push_str(&match plan.days <= MOST_DAYS_TOLD {
+    out.push_str(&match plan.days <= MOST_DAYS_BARRED {
         true => report::bars(&shown),
         false => report::hours(&shown),
     });
     let mut err = report::notes(&shown, &set);
     for (option, text) in [("--svg", draw::svg as fn(&Shown<'_>) -> String), ("--html", draw::html), ("--csv", report::csv)] {
-        if let Some(path) = args.value(option) {
-            files::write(path, text(&shown).as_bytes())?;
-            err.push_str(&format!("written: {path}\n"));
+        if let Some(target) = args.value(option) {
+            files::write(target, text(&shown).as_bytes(), &[Path::new(path), &files::names_path(path)])?;
+            err.push_str(&format!("written: {target}\n"));
         }
     }
     Ok(Said { out, err, status: 0 })

@@ -24,7 +24,17 @@ pub fn clock(text: &str) -> Option<i64> {
         _ => return None,
     };
     let fits = (0..24).contains(&hour) && (0..60).contains(&minute) && (0..60).contains(&second);
-    fits.then_some((hour * 60 + minute) * MINUTE + second * 1_000)
+    fits.then(|| (hour * 60 + minute) * MINUTE + second * 1_000)
+}
+
+/// `HH:MM-HH:MM`: the minutes of sunrise and sunset.
+pub fn sun(command: &str, text: &str) -> Result<(u32, u32), Stop> {
+    let minutes = |text: &str| clock(text).and_then(|ms| u32::try_from(ms / MINUTE).ok());
+    let both = text.split_once('-').and_then(|(rise, set)| Some((minutes(rise)?, minutes(set)?)));
+    both.filter(|(rise, set)| rise < set).ok_or_else(|| {
+        let wanted = "HH:MM-HH:MM, sunrise before sunset,";
+        Stop::usage(format!("barn {command}: --sun `{text}`: {wanted} expected; see `barn {command} --help`\n"))
+    })
 }
 
 /// `[DAY/]HH:MM[:SS]` in milliseconds from the first midnight.
@@ -46,9 +56,8 @@ pub fn plan(args: &Args, book: &Book) -> Result<Plan, Stop> {
         plan.first = Date::read(text).ok_or_else(|| wrong("--date", text, "a date YYYY-MM-DD"))?;
     }
     if let Some(text) = args.value("--sun") {
-        let both = text.split_once('-').and_then(|(rise, set)| Some((clock(rise)? / MINUTE, clock(set)? / MINUTE)));
-        let (rise, set) = both.ok_or_else(|| wrong("--sun", text, "HH:MM-HH:MM"))?;
-        plan.sun = Sun::Fixed(rise as u32, set as u32);
+        let (rise, set) = sun("day", text)?;
+        plan.sun = Sun::Fixed(rise, set);
     }
     if let Some(text) = args.value("--latitude") {
         if args.has("--sun") {
@@ -74,7 +83,7 @@ pub fn plan(args: &Args, book: &Book) -> Result<Plan, Stop> {
 fn events(args: &Args, book: &Book, plan: &mut Plan) -> Result<(), Stop> {
     for text in args.all("--press") {
         let parts = text.split_once('@').and_then(|(rule, at)| Some((rule, moment(at, plan.days)?)));
-        let (rule, at) = parts.ok_or_else(|| wrong("--press", text, "RULE@[DAY/]HH:MM"))?;
+        let (rule, at) = parts.ok_or_else(|| wrong("--press", text, "RULE@[DAY/]HH:MM on a day that is played"))?;
         let number = book.number(Sort::Rule, rule).ok_or_else(|| {
             let near = nearest(rule, book.of_sort(Sort::Rule).map(|(name, _)| name));
             let near = near.map_or(String::new(), |near| format!(" Is `{near}` meant?"));
@@ -93,7 +102,7 @@ fn events(args: &Args, book: &Book, plan: &mut Plan) -> Result<(), Stop> {
             // A cut may pass midnight.
             Some((from, if to <= from { to + DAY } else { to }))
         });
-        plan.cuts.push(both.ok_or_else(|| wrong("--cut", text, "[DAY/]HH:MM-HH:MM"))?);
+        plan.cuts.push(both.ok_or_else(|| wrong("--cut", text, "[DAY/]HH:MM-HH:MM on a day that is played"))?);
     }
     plan.cuts.sort_unstable();
     if plan.cuts.windows(2).any(|two| two[1].0 < two[0].1) {
@@ -101,8 +110,9 @@ fn events(args: &Args, book: &Book, plan: &mut Plan) -> Result<(), Stop> {
     }
     for text in args.all("--set-clock") {
         let both = text.split_once('=').and_then(|(at, to)| Some((moment(at, plan.days)?, clock(to)? / MINUTE)));
-        plan.clocks.push(both.ok_or_else(|| wrong("--set-clock", text, "[DAY/]HH:MM=HH:MM"))?);
+        plan.clocks.push(both.ok_or_else(|| wrong("--set-clock", text, "[DAY/]HH:MM=HH:MM on a day that is played"))?);
     }
+    plan.clocks.sort_unstable();
     Ok(())
 }
 

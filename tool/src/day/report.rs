@@ -84,6 +84,8 @@ pub fn timeline(shown: &Shown<'_>) -> String {
 
 /// Half an hour a letter.
 const CELL: i64 = 30 * MINUTE;
+/// Half of the light, in parts per million.
+const HALF: u32 = 500_000;
 
 fn bar(spells: &[Spell], day: i64) -> String {
     let cell = |number: i64| {
@@ -91,7 +93,7 @@ fn bar(spells: &[Spell], day: i64) -> String {
         let here: Vec<&Spell> = spells.iter().filter(|spell| spell.from < to && spell.to > from).collect();
         let most = here.iter().filter(|spell| spell.is_lit()).filter_map(|spell| spell.ppm).max();
         match most {
-            Some(ppm) if ppm > 600_000 => '#',
+            Some(ppm) if ppm >= HALF => '#',
             Some(_) => '-',
             None if here.iter().any(|spell| spell.cut) => 'x',
             None if here.iter().all(|spell| spell.ppm.is_none()) => '.',
@@ -126,7 +128,7 @@ pub fn bars(shown: &Shown<'_>) -> String {
         }
     }
     let _ = writeln!(text, "{:wide$}  0     3     6     9     12    15    18    21", "");
-    let _ = writeln!(text, "{:wide$}  a letter is half an hour: # light, - under 60 %, x power cut, . not told yet", "");
+    let _ = writeln!(text, "{:wide$}  a letter is half an hour: # light, - under half, x power cut, . not told yet", "");
     text
 }
 
@@ -185,13 +187,20 @@ pub fn csv(shown: &Shown<'_>) -> String {
 pub fn notes(shown: &Shown<'_>, set: &Set) -> String {
     let mut notes: Vec<String> = shown.played.notes.clone();
     notes.dedup();
-    let mut asks_rows = false;
+    let (mut asks_rows, mut sets_otherwise) = (false, false);
     set.each(|table, record| {
         asks_rows |= table == Table::Conditions && matches!(record.kind, 3..=10);
         asks_rows |= table == Table::Values && record.kind != 0 && record.word(0) <= 10;
+        sets_otherwise |= table == Table::Actions && matches!(record.kind, 1..=7);
     });
     if asks_rows {
         notes.push("the set asks lamps, groups, inputs, devices or HCL rows; the day is played without any".to_string());
+    }
+    if sets_otherwise {
+        notes.push("scenes and HCL change lights too; the bars and the light hours know only what a light is told by a verb or in percent".to_string());
+    }
+    if !shown.plan.clocks.is_empty() {
+        notes.push("the timeline has the times of the clock that was set, bars and light hours the time that went by".to_string());
     }
     let dark_days = (0..shown.plan.days).filter(|day| shown.plan.sun_of(*day).is_none()).count();
     if dark_days > 0 {

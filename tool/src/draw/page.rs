@@ -22,8 +22,8 @@ svg { max-width: 100%; height: auto; border-radius: 6px; }
 table { border-collapse: collapse; margin: 0 0 1.5rem; }
 th, td { text-align: left; padding: 0.15rem 0.9rem 0.15rem 0; border-bottom: 1px solid #8886; vertical-align: top; }
 td.n { font-variant-numeric: tabular-nums; white-space: nowrap; }
-.bad { color: #c0392b; font-weight: 600; }
-footer { color: #888; font-size: 13px; }
+.bad { color: #c0392b; color: light-dark(#b3261e, #ff8a80); font-weight: 600; }
+footer { color: #767676; font-size: 13px; }
 ";
 
 pub fn html(shown: &Shown<'_>) -> String {

@@ -12,7 +12,9 @@ const LEFT: f64 = 70.0;
 const PLOT: f64 = 880.0;
 const TALL: f64 = 216.0;
 const CURVE: f64 = 120.0;
-const PANEL: f64 = 30.0 + TALL + 26.0 + CURVE + 40.0;
+const PANEL: f64 = 30.0 + TALL + 34.0 + CURVE + 40.0;
+/// A spell is never less tall.
+const LEAST: f64 = 2.0;
 const HOUR: i64 = 3_600_000;
 const MONTHS: [&str; 12] = ["Jan", "Feb", "Mar", "Apr", "May", "Jun", "Jul", "Aug", "Sep", "Oct", "Nov", "Dec"];
 
@@ -30,35 +32,49 @@ pub fn svg(shown: &Shown<'_>) -> String {
 }
 
 fn panel(shown: &Shown<'_>, name: &str, spells: &[Spell], top: f64) -> String {
-    let days = shown.plan.days;
-    let step = PLOT / days as f64;
+    let step = PLOT / shown.plan.days as f64;
     let mut text = words(LEFT, top + 18.0, "start", INK, 14, &format!("{name}: when it is lit, and the sun"));
     let plot = top + 28.0;
     text.push_str(&rect(LEFT, plot, PLOT, TALL, NIGHT, ""));
     text.push_str("<g shape-rendering=\"crispEdges\">\n");
-    let y_of = |ms: i64| plot + TALL * ms as f64 / DAY as f64;
-    for day in 0..days {
-        let (from, to) = (day * DAY, (day + 1) * DAY);
-        let x = LEFT + step * day as f64;
-        for spell in spells.iter().filter(|spell| spell.from < to && spell.to > from) {
-            let fill = match (spell.cut, spell.is_lit(), spell.ppm) {
-                (true, _, _) => CUT.to_string(),
-                (_, true, Some(ppm)) => colour(ppm),
-                _ => continue,
-            };
-            let (begin, end) = (spell.from.max(from) - from, spell.to.min(to) - from);
-            let tall = (y_of(end) - y_of(begin)).max(1.0);
-            // Neighbours overlap, so that no seam shows.
-            text.push_str(&rect(x, y_of(begin), (step + 1.0).min(LEFT + PLOT - x), tall, &fill, ""));
-        }
-    }
+    (0..shown.plan.days).for_each(|day| text.push_str(&column(spells, day, plot, step)));
     text.push_str("</g>\n");
     text.push_str(&sun(shown, plot, step));
     for hour in (0..=24).step_by(6) {
         text.push_str(&hour_mark(plot + TALL * f64::from(hour) / 24.0, &format!("{hour:02}:00")));
     }
     text.push_str(&months(shown, plot + TALL, step));
-    text.push_str(&curve(shown, spells, plot + TALL + 36.0, step));
+    text.push_str(&curve(shown, spells, plot + TALL + 44.0, step));
+    text
+}
+
+/// The spells of a day, one above the other; those that the night's colour behind them shows anyway are left out.
+fn column(spells: &[Spell], day: i64, plot: f64, step: f64) -> String {
+    let (from, to) = (day * DAY, (day + 1) * DAY);
+    // Edges that two rectangles share are one number, so that no seam shows.
+    let shared = |place: f64| (place * 10.0).round() / 10.0;
+    let (x, end_x) = (shared(LEFT + step * day as f64), shared(LEFT + step * (day + 1) as f64));
+    let y_of = |ms: i64| shared(plot + TALL * (ms - from) as f64 / DAY as f64);
+    let clip = |spell: &Spell| (spell.from.max(from), spell.to.min(to));
+    let mut here: Vec<&Spell> = spells.iter().filter(|spell| spell.from < to && spell.to > from).collect();
+    // Short spells are drawn last, so that nothing covers them.
+    here.sort_by_key(|spell| {
+        let (begin, end) = clip(spell);
+        begin - end
+    });
+    let mut text = String::new();
+    for spell in here {
+        let (begin, end) = clip(spell);
+        let tall = y_of(end) - y_of(begin);
+        let fill = match (spell.cut, spell.is_lit(), spell.ppm) {
+            (true, _, _) => CUT.to_string(),
+            (_, true, Some(ppm)) => colour(ppm),
+            _ if tall < LEAST => NIGHT.to_string(),
+            _ => continue,
+        };
+        let y = y_of(begin).min(plot + TALL - LEAST);
+        text.push_str(&rect(x, y, end_x - x, tall.max(LEAST), &fill, ""));
+    }
     text
 }
 
@@ -121,6 +137,6 @@ fn curve(shown: &Shown<'_>, spells: &[Spell], top: f64, step: f64) -> String {
     text.push_str(&polyline(&points, "#a8641a", 2.2));
     text.push_str(&months(shown, top + CURVE, step));
     let caption = format!("light hours a day: {} to {}", hours_text(least), hours_text(most));
-    text.push_str(&words(LEFT + 6.0, top + 15.0, "start", INK, 12, &caption));
+    text.push_str(&words(LEFT, top - 8.0, "start", INK, 13, &caption));
     text
 }

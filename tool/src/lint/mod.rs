@@ -1,6 +1,7 @@
 //! Warnings: what loads, and then silently loses light.
 
 mod clash;
+mod told;
 mod unfold;
 
 use std::collections::BTreeSet;
@@ -9,7 +10,7 @@ use crate::fault::{nearest, Fault};
 use crate::light;
 use crate::names::Book;
 use crate::parse::File;
-use crate::schema::{self, Sort, Table, AFTER, AT_TIME, EVERY, LIGHT, PERCENT, READING_VAR, TIMER_FIRES};
+use crate::schema::{self, Sort, Table, AT_TIME, EVERY, LIGHT, PERCENT, READING_VAR, TIMER_FIRES};
 use crate::spell::{span, Speller};
 use crate::tree::{Record, Rule, Set, Spot};
 
@@ -88,26 +89,21 @@ impl<'a> Lint<'a> {
         }
     }
 
-    /// A rule that is run by hand and switches a light back in an after.
+    /// A rule that is run by hand and tells a light something later: in an after, or behind a wait where it goes dark.
     fn second_press(&mut self, rule: &Rule) {
         if !rule.triggers.is_empty() {
             return;
         }
-        for after in rule.steps.iter().filter(|step| step.kind == AFTER) {
-            let lights = |steps: &[Record]| -> BTreeSet<u32> {
-                steps.iter().filter(|step| matches!(step.kind, LIGHT | PERCENT)).map(|step| step.word(0)).collect()
-            };
-            let both: Vec<u32> = lights(&rule.steps).intersection(&lights(after.list(1))).copied().collect();
-            if let Some(light) = both.first() {
-                let what = format!(
-                    "a second press does not prolong this: light `{}` is still told {} after the first",
-                    self.name(Sort::Light, *light),
-                    span(u64::from(after.word(0)))
-                );
-                let span = span(u64::from(after.word(0)));
-                let help = format!("`timer restart NAME {span}` here, and a rule `when timer NAME fires`, count from the last press");
-                self.warn(after.spot, what, &help);
-            }
+        let told = told::of(self.set, rule);
+        let at_once: BTreeSet<u32> = told.iter().filter(|told| told.after.is_none() && told.wait.is_none()).map(|told| told.step.word(0)).collect();
+        for later in told.iter().filter(|told| at_once.contains(&told.step.word(0))) {
+            let dark = bright(later.step, self.book) == Some(0);
+            let Some(holder) = later.after.or(later.wait.filter(|_| dark)) else { continue };
+            let ahead = span(later.ms.unwrap_or(holder.word(0).into()));
+            let light = self.name(Sort::Light, later.step.word(0));
+            let what = format!("a second press does not prolong this: light `{light}` is still told {ahead} after the first");
+            let help = format!("`timer restart NAME {ahead}` here, and a rule `when timer NAME fires`, count from the last press");
+            self.warn(holder.spot, what, &help);
         }
     }
 
@@ -208,6 +204,10 @@ impl<'a> Lint<'a> {
                     dark.insert(step.word(0));
                 }
                 Some(_) => lit.push(step),
+                // A value may be 0.
+                None if step.kind == PERCENT => {
+                    dark.insert(step.word(0));
+                }
                 None => {}
             }
             let ppm = step.one(2).and_then(Record::literal).filter(|_| step.kind == PERCENT);

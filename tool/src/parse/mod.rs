@@ -37,6 +37,7 @@ pub struct File {
 pub fn file(source: &str, known: &Book) -> Result<File, Vec<Fault>> {
     let (lines, faults) = lex::lines(source);
     let mut parser = Parser { lines: &lines, faults, ..Parser::default() };
+    parser.declared.places.monday = known.monday;
     parser.declarations();
     parser.file();
     let mut faults = std::mem::take(&mut parser.faults);
@@ -247,18 +248,7 @@ impl<'a> Parser<'a> {
                 }
                 Err(fault) => return self.fault(*fault),
             },
-            other => {
-                let known = ["at", "every", "when", "cron", "if", "cooldown", "off", "hold", "do", "end"];
-                let help = match nearest(other, known) {
-                    Some(near) => format!("is `{near}` meant?"),
-                    None if crate::grammar::forms(Table::Actions).iter().any(|form| form.text.split(' ').next() == Some(other)) => {
-                        "steps stand between `do` and its `end`".to_string()
-                    }
-                    None => format!("a rule has: {}", known.join(", ")),
-                };
-                let fault = Fault::error(spot, format!("`{other}` is nothing that a rule has"));
-                return self.fault(fault.help(help));
-            }
+            _ => return self.fault(no_line_of_rule(line)),
         };
         if let Err(miss) = fit {
             let fault = fault_of(miss, line);
@@ -317,4 +307,17 @@ impl<'a> Parser<'a> {
     pub(crate) fn limits(&self) -> Limits {
         self.declared.limits.unwrap_or(Limits::LARGEST)
     }
+}
+
+/// The message of a line that no rule has.
+fn no_line_of_rule(line: &Line) -> Fault {
+    let head = line.tokens[0].text.as_str();
+    let known = ["at", "every", "when", "cron", "if", "cooldown", "off", "hold", "do", "end"];
+    let is_step = crate::grammar::forms(Table::Actions).iter().any(|form| form.text.split(' ').next() == Some(head));
+    let help = match nearest(head, known) {
+        Some(near) => format!("is `{near}` meant?"),
+        None if is_step => "steps stand between `do` and its `end`".to_string(),
+        None => format!("a rule has: {}", known.join(", ")),
+    };
+    Fault::error(line.tokens[0].spot, format!("`{head}` is nothing that a rule has")).help(help)
 }

@@ -4,6 +4,7 @@
 #![allow(dead_code)]
 
 use std::path::PathBuf;
+use std::process::{Command, Output};
 
 use oracle::generate;
 use oracle::house::Call;
@@ -55,4 +56,30 @@ pub fn snapshot_number(snapshot: &[u32]) -> u32 {
 /// The number of the proved counters call: that of the store.
 pub fn store_number(store: &[u32]) -> u32 {
     cerambiu::counters(store).map_or_else(|refused| refused.0, |_| 0)
+}
+
+// THE PROGRAM --------------------------------------------------------------------------------------------------------------------------------
+
+pub const EXAMPLES: [&str; 3] = ["layer-house.rules", "broiler-house.rules", "inspection-light.rules"];
+
+pub fn example(name: &str) -> String {
+    repository().join("examples").join(name).to_string_lossy().into_owned()
+}
+
+/// An empty folder of a test.
+pub fn folder(name: &str) -> PathBuf {
+    let folder = PathBuf::from(env!("CARGO_TARGET_TMPDIR")).join(name);
+    let _ = std::fs::remove_dir_all(&folder);
+    std::fs::create_dir_all(&folder).expect("a folder");
+    folder
+}
+
+pub fn barn(args: &[&str]) -> Output {
+    Command::new(env!("CARGO_BIN_EXE_barn")).args(args).output().expect("barn runs")
+}
+
+/// Exit status, standard output and standard error.
+pub fn texts(output: &Output) -> (i32, String, String) {
+    let text = |bytes: &[u8]| String::from_utf8_lossy(bytes).into_owned();
+    (output.status.code().unwrap_or(-1), text(&output.stdout), text(&output.stderr))
 }
