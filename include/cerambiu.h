@@ -1,10 +1,10 @@
 /*
  * Cerambiu: a rules engine for the lighting of poultry houses, proved. This is its C interface: eight calls over words that the caller lends, one
- * that says what starts next by the wall clock, one that makes of a tick's effects the list to be sent on the bus, one that reads a line of a
- * crontab into triggers, one that tells how much room an image needs, one that numbers all short lists of a set of actions, for the bench, and one
+ * that says what starts next by the wall clock, one that reads back a rule's starts by the sun, one that makes of a tick's effects the list to be
+ * sent on the bus, one that reads a line of a crontab into triggers, one that tells how much room an image needs, one that numbers all short lists of a set of actions, for the bench, and one
  * that writes an image anew, equal sets as equal words.
  *
- * Link target/staticlib/libcerambiu.a (`.ci/build` writes it; 79 KiB of code and constants). The library keeps nothing between calls, allocates
+ * Link target/staticlib/libcerambiu.a (`.ci/build` writes it; 80 KiB of code and constants). The library keeps nothing between calls, allocates
  * nothing, reads no clock, calls nothing but memcpy, memmove and memset, and every call returns. All that it remembers of a house is in one store
  * of 16,384 words, which the caller keeps.
  *
@@ -16,7 +16,7 @@
  *             bytes.
  *   threads   Two calls may run at once if they share no store that either of them writes.
  *   stack     In bytes, at most, for every input, on x86-64: tick 25,064, load 21,144, run 20,792, enable 20,488, next_deadline 20,648,
- *             unload 20,456, counters 15,176, next_start 15,480, room 14,264, rewrite 13,832, crontab 400, short_list 328,
+ *             unload 20,456, counters 15,176, next_start 15,480, readback 15,416, room 14,264, rewrite 13,832, crontab 400, short_list 328,
  *             telegrams 104, new 56. The gate computes them from the machine code. The return address is in;
  *             not in: what memcpy, memmove and memset use, the arguments that the caller pushes, the dynamic linker, interrupts
  *             (docs/PERFORMANCE.md, "Stack").
@@ -58,6 +58,8 @@ extern "C" {
 #define CERAMBIU_EFFECT_WORDS 5          /* one effect; a lent store of n words holds n / 5 */
 #define CERAMBIU_TRIGGER_WORDS 8         /* one trigger of an image; a lent store of n words holds n / 8 */
 #define CERAMBIU_CRONTAB_MAX_TRIGGERS 1440 /* a line of a crontab has at most one for each minute of a day */
+#define CERAMBIU_SOLAR_START_WORDS 3     /* one start of a readback; a lent store of n words holds n / 3 */
+#define CERAMBIU_RULE_MAX_TRIGGERS 508   /* more do not fit into an image beside a rule; so many starts are always enough */
 
 /* A run has at most 1 outcome. A tick has at most 1,184: 32 continuations, 16 timers for 64 rules each, 64 Every slots, 64 rules by the wall
  * clock. An outcome has at most as many effects as the image's budget (1 to 256), and a tick at most 59,360 for any image. What the set of an image can need,
@@ -74,6 +76,7 @@ extern "C" {
 #define CERAMBIU_DEADLINE_VALUES 3  /* mark, low word, high word; all 0 where there is no deadline */
 #define CERAMBIU_COUNTERS_VALUES 16 /* see enum cerambiu_counter */
 #define CERAMBIU_NEXT_START_VALUES 3 /* see enum cerambiu_next_start_mark; minutes, rule */
+#define CERAMBIU_READBACK_VALUES 1  /* number of starts */
 #define CERAMBIU_TELEGRAMS_VALUES 2 /* number of effects kept, low word and high word */
 #define CERAMBIU_CRONTAB_VALUES 1   /* number of triggers */
 #define CERAMBIU_ROOM_VALUES 2      /* outcomes, effects */
@@ -99,13 +102,13 @@ enum cerambiu_refusal {
     CERAMBIU_IMAGE_STEPS = 16,   /* over 2,048 flat steps, after bodies shared by the copies of a Repeat once, or over 65,536 actions taken */
     CERAMBIU_IMAGE_COUNT = 17,   /* over 64 rules, blocks or Every slots */
 
-    /* the bus driver: tick, run and next_start */
+    /* the bus driver: tick, run, next_start and readback */
     CERAMBIU_SNAPSHOT_SIZE = 20,  /* under 14 words, or not as counted */
     CERAMBIU_SNAPSHOT_FIELD = 21, /* field or count out of range, or a missing field's value not 0 */
     CERAMBIU_SNAPSHOT_ROWS = 22,  /* two rows of one table with equal address */
 
-    /* the host: tick and run */
-    CERAMBIU_NO_ROOM = 30,       /* more outcomes or effects than the lent stores hold; never where what cerambiu_room tells is lent */
+    /* the host: tick and run; 30 readback too */
+    CERAMBIU_NO_ROOM = 30,       /* more outcomes or effects than the lent stores hold, never where what cerambiu_room tells is lent; or more starts */
     CERAMBIU_NO_NUMBER = 31,     /* the call's continuations would take the next sequence number past 2^64 - 1 */
     CERAMBIU_NO_ACTIVATION_NUMBER = 32, /* the call's activations would take the last activation number past 2^64 - 1 */
 
@@ -372,6 +375,12 @@ enum cerambiu_next_start_mark {
     CERAMBIU_START_CLOCK_UNKNOWN = 2  /* the snapshot has no wall clock */
 };
 
+/* The first word of a start of a readback. */
+enum cerambiu_solar_start_mark {
+    CERAMBIU_SOLAR_START = 0, /* minute of the day, 0 to 1,439, and the signed remainder follow; else they are 0 */
+    CERAMBIU_SOLAR_NO_SUN = 1 /* the snapshot has no sun */
+};
+
 /* CALLS ------------------------------------------------------------------------------------------------------------------------------ */
 
 /* Makes a store new at this time, whatever its words were: no set, no memory. Refusal: 1. */
@@ -415,6 +424,16 @@ uint32_t cerambiu_counters(const uint32_t *store, size_t store_words, uint32_t *
  * cerambiu_next_start_mark), minutes, rule; the last two are 0 where there is no start. Refusals: 1, 2, 20 to 22. */
 uint32_t cerambiu_next_start(const uint32_t *store, size_t store_words, const uint32_t *snapshot, size_t snapshot_words, uint32_t *answer,
                              size_t answer_words);
+
+/* Reads back when the AtSolar triggers of a rule start, in the world of a snapshot: for each of them, in the order of the rule's triggers, CERAMBIU_SOLAR_START_WORDS
+ * words in `readback`: the mark (enum cerambiu_solar_start_mark), the minute of the day in which the rule starts, and the milliseconds of the trigger's
+ * offset that make no whole minute, a signed word with the offset's sign. Minutes of the offset times 60,000 and these milliseconds are the offset. With sunrise in
+ * minute 10 an offset of -90,000 ms is minute 9 and -30,000 ms: 00:08:30. The rule starts by the minute alone. Other triggers are passed over; a rule that
+ * is off has its triggers, and one that is not loaded has none. No wall clock is needed. Words behind the starts are 0, and all of them on a refusal. Nothing changes. 3
+ * words for each trigger of the rule are always enough. Answer: the number of starts. Refusals: 1, 2, 20 to 22, for a rule that is not loaded too; then 30,
+ * where the words lent, by 3 and rounded down, are fewer than the starts. */
+uint32_t cerambiu_readback(const uint32_t *store, size_t store_words, uint32_t rule, const uint32_t *snapshot, size_t snapshot_words, uint32_t *readback,
+                           size_t readback_words, uint32_t *answer, size_t answer_words);
 
 /* The list to be sent on the bus for a tick's effects, into `list`: the shortest that leaves every lamp the same. A level (kind 12) is left out
  * where a later level has the same target and only levels and Logs (11) stand between; everything else is copied in its order. Each kind 0 to

@@ -1,4 +1,4 @@
-//! The eight proved calls, the next start, the list of telegrams, the reader of crontab lines, the room that an image needs, the numbers of short lists and images written anew over word slices: `include/cerambiu.h`, which says what the words mean, in safe Rust.
+//! The eight proved calls, the next start, the readback of solar starts, the list of telegrams, the reader of crontab lines, the room that an image needs, the numbers of short lists and images written anew over word slices: `include/cerambiu.h`, which says what the words mean, in safe Rust.
 //!
 //! The functions of this module give Rust values. Those of [`words`] are the C functions as they are, with the lent words of the answer.
 
@@ -9,6 +9,7 @@ pub const OUTCOME_WORDS: usize = 8;
 pub const EFFECT_WORDS: usize = 5;
 pub const TRIGGER_WORDS: usize = 8;
 pub const IMAGE_MAX_WORDS: usize = 4_096;
+pub const SOLAR_START_WORDS: usize = 3;
 pub const COUNTERS: usize = 16;
 
 /// Document 01's number of a refusal. A refused call has changed nothing.
@@ -29,6 +30,15 @@ pub enum NextStart {
     ClockUnknown,
     /// In so many minutes, 1 to 10,080, this rule, the lowest name of those that start then.
     Start { minutes: u32, rule: u32 },
+}
+
+/// When an AtSolar trigger starts its rule.
+#[derive(Clone, Copy, Debug, PartialEq, Eq)]
+pub struct SolarStart {
+    /// The minute of the day.
+    pub minute: u32,
+    /// What is left of the trigger's offset behind whole minutes, with its sign, in milliseconds. It starts nothing earlier or later.
+    pub remainder_ms: i32,
 }
 
 fn accepted<T>(number: u32, value: T) -> Result<T, Refused> {
@@ -106,6 +116,20 @@ pub fn next_start(store: &[u32], snapshot: &[u32]) -> Result<NextStart, Refused>
         _ => NextStart::ClockUnknown,
     };
     accepted(number, start)
+}
+
+/// When the AtSolar triggers of a rule start it, in their order, in the world of a snapshot; None without a sun. A rule that is not loaded has none. The words
+/// that are lent hold [`SOLAR_START_WORDS`] for each, and zeros behind. Nothing changes.
+pub fn readback<'a>(
+    store: &[u32],
+    rule: u32,
+    snapshot: &[u32],
+    starts: &'a mut [u32],
+) -> Result<impl Iterator<Item = Option<SolarStart>> + 'a, Refused> {
+    let mut answer = [0];
+    let number = words::readback(store, rule, snapshot, starts, &mut answer);
+    let rows = starts.chunks_exact(SOLAR_START_WORDS).take(answer[0] as usize);
+    accepted(number, rows.map(|row| (row[0] == 0).then_some(SolarStart { minute: row[1], remainder_ms: row[2] as i32 })))
 }
 
 /// The shortest list of these effects that leaves every lamp the same. How many effects it has; the words of `list` behind them are 0.
@@ -213,6 +237,34 @@ mod tests {
         assert_eq!(store, before);
         assert_eq!(enable(&mut store, 5, false), Ok(true));
         assert_eq!(next_start(&store, &clock(359)), Ok(NextStart::None));
+    }
+
+    #[test]
+    fn the_solar_starts_of_a_rule() {
+        // Rule 5, disabled: every second, and 90 seconds before sunrise.
+        let image = [
+            5, 0, 0, 0, 0, 2, 0, 0, 0, 0, 0, 0, 0, 0, 0, 0, 1, 1_000, 0, 0, 0, 0, 0, 0, 3, 0, 4_294_877_296, 0, 0, 0, 0, 0, 8, 0, 1, 0, 0, 0, 16, 16, 32, 32,
+            32, 32, 32,
+        ];
+        let sunny = [0, 0, 0, 0, 0, 1, 10, 1_000, 1, 0, 0, 0, 0, 0];
+        let mut store = [0; STORE_WORDS];
+        assert_eq!(new(&mut store, 0), Ok(()));
+        let all = |store: &[u32], rule, snapshot: &[u32], words: &mut [u32]| {
+            readback(store, rule, snapshot, words).map(|starts| starts.collect::<Vec<_>>())
+        };
+        assert_eq!(all(&store, 5, &sunny, &mut []), Ok(vec![]));
+        assert_eq!(load(&mut store, 0, &image), Ok(()));
+        let (before, mut words) = (store, [7; 8]);
+        assert_eq!(all(&store, 5, &sunny, &mut words), Ok(vec![Some(SolarStart { minute: 9, remainder_ms: -30_000 })]));
+        assert_eq!(words, [0, 9, 4_294_937_296, 0, 0, 0, 0, 0]);
+        assert_eq!(all(&store, 5, &snapshot(0), &mut words), Ok(vec![None]));
+        assert_eq!(words, [1, 0, 0, 0, 0, 0, 0, 0]);
+        assert_eq!(all(&store, 5, &sunny, &mut words[6..]), Err(Refused(30)));
+        assert_eq!(all(&store, 6, &sunny, &mut words[..2]), Ok(vec![]));
+        assert_eq!(words, [0; 8]);
+        assert_eq!(all(&store, 6, &[], &mut words), Err(Refused(20)));
+        assert_eq!(all(&store[1..], 6, &[], &mut words), Err(Refused(1)));
+        assert_eq!(store, before);
     }
 
     #[test]

@@ -64,6 +64,17 @@ mod c {
             answer: *mut u32,
             answer_words: usize,
         ) -> u32;
+        pub fn cerambiu_readback(
+            store: *const u32,
+            store_words: usize,
+            rule: u32,
+            snapshot: *const u32,
+            snapshot_words: usize,
+            readback: *mut u32,
+            readback_words: usize,
+            answer: *mut u32,
+            answer_words: usize,
+        ) -> u32;
         pub fn cerambiu_crontab(
             line: *const u8,
             line_bytes: usize,
@@ -194,6 +205,24 @@ pub fn next_start(store: &[u32], snapshot: &[u32], answer: &mut [u32]) -> u32 {
             store.len(),
             snapshot.as_ptr(),
             snapshot.len(),
+            answer.as_mut_ptr(),
+            answer.len(),
+        )
+    }
+}
+
+/// Value: the number of starts. Each is a mark, a minute and a signed word.
+pub fn readback(store: &[u32], rule: u32, snapshot: &[u32], readback: &mut [u32], answer: &mut [u32]) -> u32 {
+    // SAFETY: as above.
+    unsafe {
+        c::cerambiu_readback(
+            store.as_ptr(),
+            store.len(),
+            rule,
+            snapshot.as_ptr(),
+            snapshot.len(),
+            readback.as_mut_ptr(),
+            readback.len(),
             answer.as_mut_ptr(),
             answer.len(),
         )

@@ -8,6 +8,7 @@ use oracle::decode::{name, number};
 use oracle::house::{self, Answer, Call, House};
 use oracle::model::{Text, VarValue};
 use oracle::next_start;
+use oracle::readback::{self, Start};
 
 use crate::store::{Pending, Slot, Store, Timer, Value, Variable};
 use crate::tables::{Tables, ACTIONS};
@@ -44,6 +45,16 @@ impl Player {
     /// What starts next by the wall clock, by the published due test.
     pub fn next_start(&self, snapshot: &[u32]) -> Result<NextStart, u32> {
         next_start::next_start(&self.house, snapshot)
+    }
+
+    /// The solar starts of a rule, by the published `solar_minute`, for which so many words are lent.
+    pub fn readback(&self, rule: u32, snapshot: &[u32], room: usize) -> Result<Vec<Start>, u32> {
+        readback::of_house(&self.house, rule, snapshot, room)
+    }
+
+    /// The names of the loaded rules.
+    pub fn rule_names(&self) -> Vec<u32> {
+        self.image.as_deref().map_or_else(Vec::new, |image| Tables::of(image).rule_names())
     }
 
     /// Whether a tick's clock was set back: from then on the house has the wheel's variant for request 5 of document 02.
@@ -88,7 +99,7 @@ impl Player {
             return None;
         };
         let (kept, next) = self.house.kept();
-        let names = self.image.as_deref().map_or_else(Vec::new, |image| Tables::of(image).rule_names());
+        let names = self.rule_names();
         let of_rules = || names.iter().map(|rule| name(*rule));
         let places = kept.pending.iter().map(|held| held.places.iter().map(place_of).collect()).collect();
         let store = Store {

@@ -189,6 +189,48 @@ static void compare(void)
     printf("rewrite %" PRIu32 ", %s\n", count[0], same ? "the same rules" : "other rules");
 }
 
+/* A signed word, from its two's complement. */
+static int32_t signed_word(uint32_t word)
+{
+    return word <= INT32_MAX ? (int32_t)word : -(int32_t)(UINT32_MAX - word) - 1;
+}
+
+/* When a rule starts by the sun, with room for so many starts. */
+static void print_readback(uint32_t rule, const uint32_t snapshot[CERAMBIU_SNAPSHOT_HEAD_WORDS], size_t room)
+{
+    uint32_t starts[2 * CERAMBIU_SOLAR_START_WORDS], count[CERAMBIU_READBACK_VALUES];
+    uint32_t refusal = cerambiu_readback(store, COUNT(store), rule, snapshot, CERAMBIU_SNAPSHOT_HEAD_WORDS, starts, room * CERAMBIU_SOLAR_START_WORDS,
+                                         count, COUNT(count));
+    if (refusal != CERAMBIU_OK) {
+        printf("readback refused %" PRIu32 "\n", refusal);
+        return;
+    }
+    printf("readback %" PRIu32 "\n", count[0]);
+    for (uint32_t i = 0; i < count[0]; i++) {
+        const uint32_t *start = starts + i * CERAMBIU_SOLAR_START_WORDS;
+        printf("start %" PRIu32 " %" PRIu32 " %" PRId32 "\n", start[0], start[1], signed_word(start[2]));
+    }
+}
+
+/* The fitter: rule 20 starts 90 seconds before sunrise, and 30.5 seconds behind sunset. The sun rises at 00:10 and sets at 16:40; then it is not known. */
+static void fitter(void)
+{
+    static const uint32_t by_the_sun[] = {
+        20, 1, 0, 0, 0, 2, 0, 0, 0, 0, 0, 0, 0, 0, 0, 0, CERAMBIU_AT_SOLAR, 0, (uint32_t)-90000, 0, 0, 0, 0, 0, CERAMBIU_AT_SOLAR, 1, 30500, 0, 0, 0, 0, 0,
+        8, 0, 1, 0, 0, 0, 16, 16, 32, 32, 32, 32, 32,
+    };
+    uint32_t snapshot[CERAMBIU_SNAPSHOT_HEAD_WORDS];
+    look(snapshot, 3000);
+    snapshot[5] = 1;
+    snapshot[6] = 10;
+    snapshot[7] = 16 * 60 + 40;
+    printf("load %" PRIu32 "\n", cerambiu_load(store, COUNT(store), 3000, by_the_sun, COUNT(by_the_sun)));
+    print_readback(20, snapshot, 2);
+    print_readback(20, snapshot, 1);
+    snapshot[5] = snapshot[6] = snapshot[7] = 0;
+    print_readback(20, snapshot, 2);
+}
+
 int main(void)
 {
     uint32_t refusal = cerambiu_new(store, COUNT(store), 0);
@@ -221,6 +263,9 @@ int main(void)
     programme("0,30 5 * * 1-5 lights up");
     programme("0 5 1 * * lights up");
     panel();
+
+    /* The fitter reads back what was set: minute 9 and -30,000 ms are 00:08:30. */
+    fitter();
 
     /* The bench: three actions have 40 lists; number 18 is (0, 1, 2), the rule above. */
     short_list(18);

@@ -22,10 +22,10 @@
 #define PATTERN 0xa5
 #define OWN_BYTES 256 /* for the frame that measures */
 
-enum call { NEW, LOAD, UNLOAD, ENABLE, RUN, DRY_RUN, TICK, NEXT_DEADLINE, COUNTERS, NEXT_START, TELEGRAMS, CRONTAB, ROOM, SHORT_LIST, REWRITE };
+enum call { NEW, LOAD, UNLOAD, ENABLE, RUN, DRY_RUN, TICK, NEXT_DEADLINE, COUNTERS, NEXT_START, TELEGRAMS, CRONTAB, ROOM, SHORT_LIST, REWRITE, READBACK };
 
 static const char *const names[] = { "new", "load", "unload", "enable", "run", "dry run", "tick", "next_deadline", "counters", "next_start",
-                                     "telegrams", "crontab", "room", "short_list", "rewrite" };
+                                     "telegrams", "crontab", "room", "short_list", "rewrite", "readback" };
 
 static uint32_t store[CERAMBIU_STORE_WORDS], image[CERAMBIU_IMAGE_MAX_WORDS];
 static size_t image_words;
@@ -55,6 +55,7 @@ static void make(enum call which)
     case TELEGRAMS: refusal = cerambiu_telegrams(effects, es, list, COUNT(list), answer, a); break;
     case CRONTAB: refusal = cerambiu_crontab(line, sizeof(line), 6, list, COUNT(list), answer, a); break;
     case ROOM: refusal = cerambiu_room(image, image_words, answer, a); break;
+    case READBACK: refusal = cerambiu_readback(store, n, 5, snapshot, s, list, COUNT(list), answer, a); break;
     case SHORT_LIST: refusal = cerambiu_short_list(17, set, COUNT(set), number, COUNT(number), scenes, COUNT(scenes), answer, a); break;
     case REWRITE: refusal = cerambiu_rewrite(image, image_words, list, COUNT(list), answer, a); break;
     }
@@ -210,7 +211,7 @@ static void measure_all(size_t bytes[])
     needs(LOAD);
     look(0, 719);
     needs(TICK);
-    for (enum call which = ENABLE; which <= REWRITE; which++) {
+    for (enum call which = ENABLE; which <= READBACK; which++) {
         look(which == TICK ? 2000 : 100, which == TICK ? 720 : 719);
         bytes[which] = needs(which);
     }
@@ -238,6 +239,7 @@ static void all_fit(void)
     fits(ROOM);
     fits(SHORT_LIST);
     fits(REWRITE);
+    fits(READBACK);
     fits(UNLOAD);
 }
 
@@ -258,7 +260,7 @@ int main(void)
     for (size_t which = 0; which < COUNT(names); which++) {
         printf("%-14s %12zu %12zu %12zu\n", names[which], bytes[0][which], bytes[1][which], bytes[2][which]);
     }
-    printf("on 64 KB of stack, with each image: new, load, load again, tick, enable, run, dry run, tick, next_deadline, counters, next_start, telegrams, crontab, room, short_list, rewrite, unload .. ");
+    printf("on 64 KB of stack, with each image: new, load, load again, tick, enable, run, dry run, tick, next_deadline, counters, next_start, telegrams, crontab, room, short_list, rewrite, readback, unload .. ");
     fflush(stdout);
     for (size_t i = 0; i < COUNT(images); i++) {
         images[i]();

@@ -212,6 +212,12 @@ impl House {
         self.engine.next_start(world)
     }
 
+    /// The solar starts of a rule, minute and remainder, None without a sun: `crate::readback`.
+    #[must_use]
+    pub fn solar_starts(&self, rule: u32, world: &WorldSnapshot) -> Vec<Option<(u16, i32)>> {
+        self.engine.solar_starts(&decode::name(rule), world)
+    }
+
     fn own(&self, name: &str, given: &Given) -> Answer {
         match script::own(name).map(|answer| answer(self, given)) {
             Some(Ok(lines)) => Answer::Own(lines),

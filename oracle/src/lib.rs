@@ -10,6 +10,7 @@ pub mod generate;
 pub mod house;
 pub mod next_start;
 pub mod random;
+pub mod readback;
 pub mod rewrite;
 pub mod script;
 pub mod short_lists;

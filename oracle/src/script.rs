@@ -5,7 +5,7 @@
 //! run RULE DRY WORD.. | deadline | counters
 //! lend OUTCOME_WORDS EFFECT_WORDS | size WORDS | poke PLACE WORD | peek PLACE
 //! telegrams ROOM WORD.. | crontab SUNDAY ROOM TEXT | start WORD.. | room WORD.. | shortlist K A V P WORD..
-//! rewrite ROOM WORD..
+//! rewrite ROOM WORD.. | readback RULE ROOM WORD..
 //! ```
 //!
 //! A `#` starts a comment, but in a TEXT, which is the rest of the line behind one blank. Bad text gets one line that names the line number and what is wrong, and

@@ -163,7 +163,7 @@ pub fn refusal(number: u32) -> &'static str {
         20 => "the snapshot's length is not what its counts say",
         21 => "a field or a count of the snapshot is out of range",
         22 => "two rows of the snapshot have one address",
-        30 => "more outcomes or effects than there is room for",
+        30 => "more outcomes, effects or starts by the sun than there is room for",
         31 => "the numbers of continuations are used up",
         32 => "the numbers of activations are used up",
         40 => "written anew the image would have over 4096 words; the rules are not wrong",

@@ -1,10 +1,11 @@
 //! One history through the Rust and through the proved calls, call by call.
 
+use oracle::generate::solar;
 use oracle::house::{Answer, Call, Outcome};
 use oracle::random::Random;
 
 use super::house::{expected, House, Lent, Seen};
-use super::starts;
+use super::{readback, starts};
 use super::tally::Tally;
 use crate::kept::{Place, Player};
 use crate::room::{self, Room};
@@ -34,6 +35,8 @@ pub struct Both<'a> {
     /// Whether a script has written the last activation number.
     renumbered: bool,
     random: Random,
+    /// For the readbacks behind a call, which change no other choice.
+    asking: Random,
     tally: &'a mut Tally,
     /// Whether a set was loaded that fits only by sharing.
     pub shares: bool,
@@ -44,10 +47,10 @@ pub struct Both<'a> {
 impl<'a> Both<'a> {
     pub fn new(seed: u64, tally: &'a mut Tally) -> Both<'a> {
         let (player, house) = (Player::default(), House::default());
-        let mut random = Random::new(seed);
+        let (mut random, asking) = (Random::new(seed), Random::new(seed.rotate_left(40)));
         let counted = if random.once_in(8) { u32::MAX - random.below(8) } else { 0 };
         let ahead = vec![(0, 0)];
-        let mut both = Both { player, house, lent: LARGE, ahead, counted, renumbered: false, random, tally, shares: false, told: Room::default() };
+        let mut both = Both { player, house, lent: LARGE, ahead, counted, renumbered: false, random, asking, tally, shares: false, told: Room::default() };
         both.fill_counters();
         both
     }
@@ -70,7 +73,7 @@ impl<'a> Both<'a> {
         }
     }
 
-    /// A line of a script; behind each of the eight calls also the deadline and the counters.
+    /// A line of a script; behind each of the eight calls also the deadline, the counters and the solar starts of every rule.
     pub fn line(&mut self, call: &Call) -> Result<(), Difference> {
         match call {
             Call::Lend { outcomes, effects } => {
@@ -83,14 +86,15 @@ impl<'a> Both<'a> {
                 let wanted = self.player.call(call);
                 return ask(found == wanted, || format!("{call:?}: proved {found:?}, Rust {wanted:?}"));
             }
-            // No calls of the Rust: the next start is compared with the oracle's own code, the others elsewhere.
-            Call::Own { .. } => {
-                return starts::snapshot(call).map_or(Ok(()), |snapshot| self.start(call, snapshot));
-            }
+            // No calls of the Rust: these two are compared with the oracle's own code, the others elsewhere.
+            Call::Own { name: "start", given } => return self.start(call, &given.list),
+            Call::Own { name: "readback", given } => return self.readback(given.word(0), given.word(1) as usize, &given.list),
+            Call::Own { .. } => return Ok(()),
             _ => {
                 self.call(call)?;
                 self.call(&Call::Deadline)?;
-                return self.call(&Call::Counters);
+                self.call(&Call::Counters)?;
+                return self.readbacks(matches!(call, Call::New { .. } | Call::Load { .. } | Call::Unload { .. }));
             }
         }
         self.player.call(call);
@@ -153,6 +157,36 @@ impl<'a> Both<'a> {
         self.compare(call, &starts::answer(&start), lent)
     }
 
+    /// The solar starts of every rule that is loaded, and of one that is not, in one world: with room for them, now and then with a word less. Rules that have no
+    /// start are asked for all where the set may be another one, and else now and then.
+    fn readbacks(&mut self, all: bool) -> Result<(), Difference> {
+        let snapshot = solar::snapshot(&mut self.asking);
+        let names = self.player.rule_names();
+        let other = names.iter().max().map_or(5, |most| most.wrapping_add(1));
+        for rule in names.into_iter().chain([other]) {
+            let needed = self.player.readback(rule, &snapshot, usize::MAX).map_or(0, |starts| readback::needed(&starts));
+            if needed == 0 && !all && !self.asking.once_in(16) {
+                continue;
+            }
+            if needed > 0 && self.asking.once_in(4) {
+                self.readback(rule, needed - 1, &snapshot)?;
+            }
+            let more = self.asking.pick([0, 0, 1, 2, 9]);
+            self.readback(rule, needed + more, &snapshot)?;
+        }
+        Ok(())
+    }
+
+    /// The solar starts of a rule, into so many words.
+    fn readback(&mut self, rule: u32, room: usize, snapshot: &[u32]) -> Result<(), Difference> {
+        let starts = self.player.readback(rule, snapshot, room);
+        if let Ok(starts) = &starts {
+            self.tally.readbacks.see(self.player.rule_names().contains(&rule), starts);
+        }
+        let lent = Lent { answer: self.asking.below(4) as usize, outcomes: 0, effects: room };
+        self.compare(&solar::readback(rule, room as u32, snapshot.to_vec()), &readback::answer(&starts), lent)
+    }
+
     /// The proved call, and what it must give.
     fn compare(&mut self, call: &Call, answer: &Answer, lent: Lent) -> Result<(), Difference> {
         let before = self.house.store.clone();
@@ -161,7 +195,7 @@ impl<'a> Both<'a> {
         self.tally.add(call, answer);
         if matches!(answer, Answer::Outcomes { .. }) && self.player.has_percent() {
             self.tally.percents += 1;
-        } else if starts::snapshot(call).is_none() {
+        } else if !matches!(call, Call::Own { .. }) {
             self.tally.wheel(self.player.is_set_back());
         }
         let shown = seen.without_numbers();

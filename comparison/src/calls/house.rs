@@ -3,7 +3,7 @@
 use cerambiu::words;
 use oracle::house::{Answer, Call};
 
-use super::starts;
+use super::{readback, starts};
 use crate::store::{pair, WORDS};
 
 /// What stands in lent words before a call.
@@ -20,7 +20,7 @@ pub fn zeros_behind(mut answer: Vec<u32>, words: usize) -> Vec<u32> {
     answer
 }
 
-/// Words lent for a call's values, outcomes and effects.
+/// Words lent for a call's values, outcomes and effects; those for effects also serve the solar starts of a rule.
 #[derive(Clone, Copy, Debug, Default)]
 pub struct Lent {
     pub answer: usize,
@@ -64,7 +64,7 @@ impl Default for House {
 }
 
 impl House {
-    /// One of the eight calls, or the next start. A store of another size has the same words in front, and others behind.
+    /// One of the eight calls, the next start or a readback. A store of another size has the same words in front, and others behind.
     pub fn call(&mut self, call: &Call, lent: Lent) -> Seen {
         if self.size == WORDS {
             return made(&mut self.store, call, lent);
@@ -80,15 +80,19 @@ impl House {
     }
 }
 
-/// One of the eight calls, or the next start, on these words, with lent words that are filled before.
+/// One of the eight calls, the next start or a readback on these words, with lent words that are filled before.
 pub fn made(store: &mut [u32], call: &Call, lent: Lent) -> Seen {
     let handles = usize::from(matches!(call, Call::Tick { .. } | Call::Run { .. }));
     let has_answer = usize::from(!matches!(call, Call::New { .. } | Call::Load { .. } | Call::Unload { .. }));
     let mut answer = filled(lent.answer * has_answer);
     let mut outcomes = filled(lent.outcomes * handles);
-    let mut effects = filled(lent.effects * handles);
+    let mut effects = filled(if handles == 1 || reads_back(call) { lent.effects } else { 0 });
     let number = number(store, call, &mut answer, &mut outcomes, &mut effects);
     Seen { number, answer, outcomes, effects }
+}
+
+fn reads_back(call: &Call) -> bool {
+    matches!(call, Call::Own { name: "readback", .. })
 }
 
 /// The number that a call returns.
@@ -103,6 +107,7 @@ pub fn number(store: &mut [u32], call: &Call, answer: &mut [u32], outcomes: &mut
         Call::Deadline => words::next_deadline(store, answer),
         Call::Counters => words::counters(store, answer),
         Call::Own { name: "start", given } => words::next_start(store, &given.list, answer),
+        Call::Own { name: "readback", given } => words::readback(store, given.word(0), &given.list, effects, answer),
         Call::Lend { .. } | Call::Size { .. } | Call::Poke { .. } | Call::Peek { .. } | Call::Own { .. } => 0,
     }
 }
@@ -124,11 +129,17 @@ pub fn expected(call: &Call, answer: &Answer, lent: Lent) -> Seen {
         }
     }
     let mut values = values(answer, effects.len() / cerambiu::EFFECT_WORDS);
+    if let (true, Answer::Own(lines)) = (reads_back(call), answer) {
+        (values, effects) = readback::words(lines);
+    }
     if !matches!(call, Call::New { .. } | Call::Load { .. } | Call::Unload { .. }) {
         values = zeros_behind(values, lent.answer);
     }
-    if matches!(call, Call::Tick { .. } | Call::Run { .. }) {
+    let handles = matches!(call, Call::Tick { .. } | Call::Run { .. });
+    if handles {
         outcomes = zeros_behind(outcomes, lent.outcomes);
+    }
+    if handles || reads_back(call) {
         effects = zeros_behind(effects, lent.effects);
     }
     Seen { number, answer: values, outcomes, effects }

@@ -1,4 +1,4 @@
-//! `comparison calls HISTORIES LENGTH VALUES SEED EDGES`: the eight proved calls and the next start beside the Rust.
+//! `comparison calls HISTORIES LENGTH VALUES SEED EDGES`: the eight proved calls, the next start and the readback of solar starts beside the Rust.
 //!
 //! - Edges: every script of the folder EDGES.
 //! - Histories: so many generated ones from SEED on, valid and hostile; behind each, its store with random words.
@@ -6,6 +6,8 @@
 //! - Sharing: a sixteenth as many histories, and 2,200 at least, of sets that fit only by sharing (document 02's request 8): they are nearly as large
 //!   as a set can be, and their calls take longest.
 //! - Next starts: as many histories of sets with wall triggers that ask for the next start (document 02's request 7), and two questions behind each history above.
+//! - Solar starts: as many histories of sets with AtSolar triggers (document 02's request 4); behind each of the eight calls of every history the solar starts of
+//!   every rule that is loaded, and of one that is not.
 //! - What is due: as many histories, and 600 at least, with 20 to 32 continuations due in one tick (document 02's request 3).
 //! - Lists: every list of up to LENGTH of the small actions, as a rule.
 //! - Levels: action kind 28 on every entry and every middle of the dimming curve and their neighbours, and on values without a level.
@@ -23,6 +25,7 @@ mod due;
 pub mod house;
 mod levels;
 mod lists;
+mod readback;
 mod sharing;
 mod starts;
 mod stores;
@@ -68,6 +71,7 @@ pub fn command() -> Option<ExitCode> {
     calls.set_backs(histories, seed);
     calls.sharing((histories / SHARED_PART).max(LEAST_SHARED), seed);
     calls.starts(histories, seed);
+    calls.solar(histories, seed);
     calls.due(histories.max(LEAST_DUE), seed);
     calls.lists(length as u32);
     calls.levels();
@@ -169,6 +173,14 @@ impl Calls {
         self.part("next starts", count as usize, before);
     }
 
+    fn solar(&mut self, count: u64, seed: u64) {
+        let before = self.tally.calls;
+        for seed in seed..seed + count {
+            self.play(&format!("solar starts, history {seed}"), seed, &generate::solar::history(seed));
+        }
+        self.part("solar starts", count as usize, before);
+    }
+
     fn due(&mut self, count: u64, seed: u64) {
         let before = self.tally.calls;
         for seed in seed..seed + count {
@@ -209,7 +221,7 @@ impl Calls {
         let whole = self.tally.report() && !self.empty;
         let calls = format!("calls: {} calls, {} differences", self.tally.calls, self.differences);
         let tally = &self.tally;
-        let parts = [tally.wheels(), tally.percents(), tally.sharing(), tally.due(), tally.chains(), tally.numbered(), tally.rooms()];
+        let parts = [tally.wheels(), tally.percents(), tally.sharing(), tally.due(), tally.chains(), tally.numbered(), tally.rooms(), tally.readbacks()];
         println!("{calls}; {}", parts.join("; "));
         whole && self.differences == 0
     }

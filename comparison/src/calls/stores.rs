@@ -8,19 +8,24 @@ use oracle::generate;
 use oracle::house::{Answer, Call};
 use oracle::next_start;
 use oracle::random::Random;
+use oracle::readback as oracle_readback;
+use oracle::script::Given;
 
 use super::both::Difference;
 use super::house::{expected, made, Lent, Seen};
-use super::starts;
+use super::{readback, starts};
 use super::tally::{self, Tally};
 use crate::good_stores;
 use crate::store::{Store, WORDS};
 use crate::store_reader::{self, Broken};
+use crate::tables::Tables;
 
 const LENT: Lent = Lent { answer: 16, outcomes: 80, effects: 55 };
 
 /// The calls that look at the store's rules.
-fn eight(random: &mut Random) -> [Call; 8] {
+const CALLS: usize = 9;
+
+fn all_calls(random: &mut Random) -> [Call; CALLS] {
     let image = Image::of(vec![Rule::new(7, vec![Action::Wait(5)])]).words();
     let snapshot = World { wall: Some((3, 701)), ..World::at(80_000) }.words();
     let nth = random.below(8);
@@ -34,6 +39,7 @@ fn eight(random: &mut Random) -> [Call; 8] {
         Call::Deadline,
         Call::Counters,
         generate::starts::start(snapshot),
+        generate::solar::readback(rule, LENT.effects as u32, World { sun: Some((10, 1_000)), ..World::at(80_000) }.words()),
     ]
 }
 
@@ -84,15 +90,15 @@ impl<'a> Stores<'a> {
             let any = self.random.word();
             words[place] = self.random.pick([0, 1, was.wrapping_add(1), was.wrapping_sub(1), u32::MAX, any]);
         }
-        let turn = self.random.below(8) as usize;
+        let turn = self.random.below(CALLS as u32) as usize;
         self.one(&words, turn)
     }
 
-    /// For each rule, a store that breaks it: all eight calls refuse it, and new takes it.
+    /// For each rule, a store that breaks it: all those calls refuse it, and new takes it.
     pub fn every_rule(&mut self, mut differs: impl FnMut(Difference)) {
         for (rule, (words, _)) in self.broken.clone() {
             let told = |text| format!("{}: {text}", rule.text());
-            for turn in 0..8 {
+            for turn in 0..CALLS {
                 self.one(&words, turn).map_err(told).unwrap_or_else(&mut differs);
             }
             let mut store = words;
@@ -106,7 +112,7 @@ impl<'a> Stores<'a> {
     }
 
     fn one(&mut self, words: &[u32], turn: usize) -> Result<(), Difference> {
-        let call = &eight(&mut self.random)[turn % 8];
+        let call = &all_calls(&mut self.random)[turn % CALLS];
         let mut store = words.to_vec();
         let seen = made(&mut store, call, LENT);
         self.tally.count(tally::place(call), seen.number);
@@ -123,6 +129,9 @@ impl<'a> Stores<'a> {
                 if let Some(snapshot) = starts::snapshot(call) {
                     return self.start(&held, call, snapshot, &seen, store == words);
                 }
+                if let Call::Own { name: "readback", given } = call {
+                    return self.readback(&held, call, given, &seen, store == words);
+                }
                 let fine = seen.number != 2 && store_reader::read(&store).is_ok();
                 fine.then_some(())
                     .ok_or_else(|| format!("{call:?}: a good store, but answer {} or no store after it", seen.number))
@@ -136,6 +145,18 @@ impl<'a> Stores<'a> {
         self.tally.starts.see(&start);
         let fine = *seen == expected(call, &starts::answer(&Ok(start.clone())), LENT) && stays;
         fine.then_some(()).ok_or_else(|| format!("{call:?}: proved {:?}, Rust {start:?}, or a word changed", seen.answer))
+    }
+
+    /// The solar starts of a rule in a store that no history may have made.
+    fn readback(&mut self, held: &Store, call: &Call, given: &Given, seen: &Seen, stays: bool) -> Result<(), Difference> {
+        let rule = given.word(0);
+        let starts = oracle_readback::of_set(held.image.as_deref(), rule, &given.list, LENT.effects);
+        if let Ok(starts) = &starts {
+            let loaded = held.image.as_deref().is_some_and(|image| Tables::of(image).rule_names().contains(&rule));
+            self.tally.readbacks.see(loaded, starts);
+        }
+        let fine = *seen == expected(call, &readback::answer(&starts), LENT) && stays;
+        fine.then_some(()).ok_or_else(|| format!("{call:?}: proved {:?}, Rust {starts:?}, or a word changed", seen.effects))
     }
 
     /// By the published due test. The snapshot is always the same.

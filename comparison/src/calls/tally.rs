@@ -5,13 +5,14 @@ use std::collections::BTreeMap;
 use oracle::house::{Answer, Call};
 
 use super::due::{self, Due};
+use super::readback::{self, Readbacks};
 use super::sharing::{self, Sharing};
 use super::starts::{self, Starts};
 use crate::room;
 use crate::store::{Store, MOST_PENDING, MOST_SLOTS, MOST_TIMERS, MOST_VARIABLES, RULES};
 
-/// The eight calls, and the next start.
-const CALLS: [&str; 9] = ["new", "load", "unload", "enable", "tick", "run", "deadline", "counters", "start"];
+/// The eight calls, the next start and the readback.
+const CALLS: [&str; 10] = ["new", "load", "unload", "enable", "tick", "run", "deadline", "counters", "start", "readback"];
 const EFFECTS: [&str; 13] = [
     "Light",
     "SceneRecall",
@@ -43,6 +44,7 @@ fn refusals(call: usize) -> Vec<u32> {
         "load" => &[10, 11, 12, 13, 14, 15, 16, 17],
         "tick" | "run" => &[20, 21, 22, 30, 31, 32],
         "start" => &[20, 21, 22],
+        "readback" => &[20, 21, 22, 30],
         _ => &[],
     };
     [&[0, 1, 2], more].concat()
@@ -58,6 +60,7 @@ pub fn place(call: &Call) -> usize {
         Call::Tick { .. } => 4,
         Call::Run { .. } => 5,
         Call::Deadline => 6,
+        Call::Own { name: "readback", .. } => 9,
         Call::Own { .. } => 8,
         _ => 7,
     }
@@ -77,6 +80,7 @@ pub struct Tally {
     /// Sets that fit only by sharing.
     pub sharing: Sharing,
     pub starts: Starts,
+    pub readbacks: Readbacks,
     /// Ticks with many continuations due.
     pub due: Due,
     /// What sets were told to need, and what their ticks and runs gave.
@@ -148,6 +152,11 @@ impl Tally {
         format!("{many} ticks with 20 to 31 continuations due, {all} with 32")
     }
 
+    pub fn readbacks(&self) -> String {
+        let [rules, starts] = self.readbacks.sums();
+        format!("{rules} rules read back with {starts} solar starts")
+    }
+
     pub fn rooms(&self) -> String {
         format!("{} ticks and runs within the room that their set is told, {} of them lent it exactly", self.rooms[room::WITHIN], self.rooms[room::LENT])
     }
@@ -188,6 +197,7 @@ impl Tally {
         empty += usize::from(self.percents == 0) + usize::from(self.chains == 0) + usize::from(self.numbered == 0);
         empty += named_row("sharing", &sharing::CELLS, &self.sharing.counts);
         empty += named_row("starts", &starts::CELLS, &self.starts.counts);
+        empty += named_row("readbacks", &readback::CELLS, &self.readbacks.counts);
         empty += usize::from(self.sharing.histories <= sharing::LEAST);
         empty += named_row("due", &due::CELLS, &self.due.counts);
         empty += named_row("room", &room::CELLS, &self.rooms);

@@ -9,6 +9,7 @@ use oracle::access::NextStart;
 use oracle::decode;
 use oracle::house::Call;
 use oracle::model::{limits, RuleSet};
+use oracle::readback::Start;
 
 use super::clock::Clock;
 
@@ -34,6 +35,7 @@ enum Given {
     Deadline,
     Counters,
     NextStart(WorldSnapshot),
+    Readback(String, WorldSnapshot),
 }
 
 /// What a call gives, so that it is not dropped while the time runs.
@@ -45,6 +47,7 @@ enum Gave {
     Deadline(Option<u64>),
     Counters(EngineCountersSnapshot),
     NextStart(NextStart),
+    Readback(Vec<Start>),
 }
 
 fn given(call: &Call) -> Given {
@@ -60,6 +63,7 @@ fn given(call: &Call) -> Given {
         Call::Tick { snapshot } => Given::Tick(decode::world(snapshot)),
         Call::Run { rule, dry, snapshot } => Given::Run(decode::name(*rule), *dry, decode::world(snapshot)),
         Call::Deadline => Given::Deadline,
+        Call::Own { name: "readback", given } => Given::Readback(decode::name(given.word(0)), decode::world(&given.list)),
         Call::Own { given, .. } => Given::NextStart(decode::world(&given.list)),
         _ => Given::Counters,
     }
@@ -79,6 +83,7 @@ fn make(engine: &mut Engine, given: &mut Given) -> Gave {
         Given::Counters => return Gave::Counters(engine.counters()),
         // Its due test, asked minute by minute.
         Given::NextStart(world) => return Gave::NextStart(engine.next_start(world)),
+        Given::Readback(name, world) => return Gave::Readback(engine.solar_starts(name, world)),
     }
     Gave::Nothing
 }

@@ -3,7 +3,7 @@
 use oracle::build::{
     Action, Block, Bound, Condition, Device, Group, Hcl, Image, Input, Lamp, Rule, Trigger, Value, World,
 };
-use oracle::generate::starts;
+use oracle::generate::{solar, starts};
 use oracle::house::Call;
 
 pub struct House {
@@ -96,7 +96,7 @@ fn quarter(world: &World, rule: u32) -> Vec<Call> {
     (0..900).flat_map(second).collect()
 }
 
-/// The calls that every house has, with a rule that runs.
+/// The calls that every house has, with a rule that runs; the starts of the next one are read back.
 fn usual(world: &World, image: &[u32], rule: u32) -> Vec<(&'static str, Call)> {
     vec![
         ("tick, nothing due", tick(world, 1_001, 719)),
@@ -107,6 +107,7 @@ fn usual(world: &World, image: &[u32], rule: u32) -> Vec<(&'static str, Call)> {
         ("enable", Call::Enable { rule, on: true }),
         ("next deadline", Call::Deadline),
         ("next start", starts::start(snapshot(world, 1_001, 719))),
+        ("readback", solar::readback(rule + 1, 3, snapshot(world, 1_001, 719))),
         ("counters", Call::Counters),
         ("load", load(image)),
         ("unload", Call::Unload { time: START + 1_001 }),
@@ -207,6 +208,17 @@ pub fn triggers() -> House {
     let calls = vec![("next deadline", Call::Deadline), ("next start", starts::start(snapshot(&world, 0, 1_300)))];
     let name = "worst case of the next start: 64 rules share 380 triggers";
     House { name, before: vec![load(&image), tick(&world, 0, 719)], calls, history: Vec::new(), room: [64, 64] }
+}
+
+/// A rule with the most AtSolar triggers that fit into an image, and no action.
+pub fn solar_starts() -> House {
+    const TRIGGERS: u32 = 508;
+    let mut rule = Rule::new(1, Vec::new());
+    rule.triggers = (0..TRIGGERS).map(|at| Trigger::AtSolar(at % 2, 1_000 - at as i32 * 12_345)).collect();
+    let world = world(60, 8, 16, 12, 4);
+    let calls = vec![("next deadline", Call::Deadline), ("readback", solar::readback(1, 3 * TRIGGERS, snapshot(&world, 0, 719)))];
+    let name = "worst case of a readback: a rule with 508 AtSolar triggers";
+    House { name, before: vec![load(&Image::of(vec![rule]).words())], calls, history: Vec::new(), room: [1, 320] }
 }
 
 /// A rule whose 32 afters wait, the first the longest: all of them are due in one tick, in the order from the last to the first.

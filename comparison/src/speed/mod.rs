@@ -49,6 +49,7 @@ pub fn command() -> Option<ExitCode> {
         houses::large(),
         houses::timers(),
         houses::triggers(),
+        houses::solar_starts(),
         houses::due(),
         houses::flattening("worst case of flattening: 40,430 actions taken, no step", worst::accepted_actions()),
     ];

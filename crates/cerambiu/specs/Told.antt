@@ -19,7 +19,7 @@ tells r a l = record { number = r; answer = a; lent = l }
 unfoldable pub told : ℕ → Asked → Told
 told n a = tells a.number (lent_answer n a.values) a.lent
 
--- how many triggers or words
+-- how many triggers, words or solar starts
 abbrev pub one_value : ℕ → List ℕ
 one_value n = n ∷ []
 

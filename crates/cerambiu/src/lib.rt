@@ -1,4 +1,4 @@
-// The calls of the C interface: the eight calls and the next start of crate `engine`, `telegrams`, `crontab`, `room`, `short_lists` and `rewrite`, as include/cerambiu.h describes them; crate `cerambiu_c` has
+// The calls of the C interface: the eight calls, the next start and the readback of crate `engine`, `telegrams`, `crontab`, `room`, `short_lists` and `rewrite`, as include/cerambiu.h describes them; crate `cerambiu_c` has
 // them under C names. A call returns document 01's number of its refusal, 0 for none, and writes its values into the lent words of the answer. A contract is one
 // equation with the specification's call on words (model's `call_on`), for all arguments.
 #![tactic(auto)]
@@ -7,6 +7,7 @@ ghost use Rattle.std.specs.Prelude.{◌≡◌, List, [], ℕ, length};
 ghost use Rattle.model.specs.Calls.{new, load, unload, enable, tick, run, deadline, counters};
 ghost use Rattle.model.specs.OnWords.{call_on};
 ghost use Rattle.model.specs.Crontab.{crontab};
+ghost use Rattle.model.specs.Readback.{readback_on};
 ghost use Rattle.next.specs.NextStart.{start_values};
 ghost use Rattle.engine.specs.Answers.{values_of, no_values, enabled_values, handled_values, due_values, counter_values};
 ghost use Rattle.room.specs.Needed.{numbers, room_for};
@@ -91,7 +92,7 @@ impl Answer for NextStart {
     }
 }
 
-// How many triggers a line of a crontab has, or words an image that is written anew.
+// How many triggers a line of a crontab has, words an image that is written anew, or solar starts a rule.
 impl Answer for u32 {
     ghost words = { one_value };
 
@@ -224,6 +225,18 @@ pub fn cerambiu_next_start(store: &[u32], snapshot: &[u32], answer: &mut [u32]) 
     ensures { tells result answer.new [] ≡ told (length answer.old) (next_start_on snapshot.now store.now) }
 {
     put_answer(answer, engine::next_start(store, snapshot))
+}
+
+pub fn cerambiu_readback(
+    store: &[u32],
+    rule: u32,
+    snapshot: &[u32],
+    readback: &mut [u32],
+    answer: &mut [u32],
+) -> u32
+    ensures { tells result answer.new readback.new ≡ told (length answer.old) (readback_on rule snapshot.now (length readback.old) store.now) }
+{
+    put_answer(answer, engine::readback(store, rule, snapshot, readback))
 }
 
 pub fn cerambiu_telegrams(effects: &[u32], list: &mut [u32], answer: &mut [u32]) -> u32

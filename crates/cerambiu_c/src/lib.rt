@@ -7,6 +7,7 @@ ghost use Rattle.std.specs.Prelude.{◌≡◌, [], length};
 ghost use Rattle.model.specs.Calls.{new, load, unload, enable, tick, run, deadline, counters};
 ghost use Rattle.model.specs.OnWords.{call_on};
 ghost use Rattle.model.specs.Crontab.{crontab};
+ghost use Rattle.model.specs.Readback.{readback_on};
 ghost use Rattle.room.specs.Needed.{room_for};
 ghost use Rattle.model.specs.ShortLists.{short_list};
 ghost use Rattle.model.specs.Rewrite.{rewritten};
@@ -89,6 +90,19 @@ pub extern "C" fn cerambiu_next_start(store: &[u32], snapshot: &[u32], answer: &
     ensures { tells result answer.new [] ≡ told (length answer.old) (next_start_on snapshot.now store.now) }
 {
     cerambiu::cerambiu_next_start(store, snapshot, answer)
+}
+
+#[unsafe(no_mangle)]
+pub extern "C" fn cerambiu_readback(
+    store: &[u32],
+    rule: u32,
+    snapshot: &[u32],
+    readback: &mut [u32],
+    answer: &mut [u32],
+) -> u32
+    ensures { tells result answer.new readback.new ≡ told (length answer.old) (readback_on rule snapshot.now (length readback.old) store.now) }
+{
+    cerambiu::cerambiu_readback(store, rule, snapshot, readback, answer)
 }
 
 #[unsafe(no_mangle)]

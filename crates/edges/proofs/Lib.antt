@@ -7,3 +7,4 @@ pub mod Sharing
 pub mod DueOrder
 pub mod Crontab
 pub mod Numbers
+pub mod Readback

@@ -1,6 +1,6 @@
 -- Document 01's starred edges, as one table.
 use Rattle.std.specs.Prelude.{ℕ, ◌+◌, ◌-◌, ◌^◌, false, List, [], ◌∷◌, map, length}
-use Rattle.words.specs.Signed.{solar_minute}
+use Rattle.words.specs.Solar.{solar_time, solar_words}
 use Rattle.model.specs.declared.Step.{Step}
 use Rattle.model.specs.declared.Step.TheVariants.{Primitive, Wait, Branch, After, Fail}
 use Rattle.model.specs.Steps.{steps_of}
@@ -29,12 +29,16 @@ unfoldable pub steps : List ℕ → List (List (List ℕ))
 steps image =
     force image (λ img. let fs = map is_fail (steps_of (flatten_rule img 0).steps) in ((length fs ∷ sum fs ∷ last fs ∷ []) ∷ []) ∷ [])
 
-unfoldable pub number : ℕ → List (List (List ℕ))
-number n = ((n ∷ []) ∷ []) ∷ []
-
 -- a negative number as a 32-bit word
 unfoldable pub minus : ℕ → ℕ
 minus n = 2 ^ 32 - n
+
+-- minute and remainder at an offset from minute 10
+unfoldable pub from_ten : ℕ → List (List (List ℕ))
+from_ten offset = (solar_words (solar_time 10 offset) ∷ []) ∷ []
+
+unfoldable pub time : ℕ → ℕ → List (List (List ℕ))
+time minute remainder = ((minute ∷ remainder ∷ []) ∷ []) ∷ []
 
 unfoldable pub repeat128 : ℕ → List ℕ
 repeat128 times = doing 8 1 ((26 ∷ times ∷ 1 ∷ 128 ∷ []) ∷ logs 128)
@@ -113,9 +117,17 @@ table =
     -- "the same rule covers a clock set back", by more than the 120 minutes of request 5: 400 then 279 is the last hour before 279, 220 to 279
     edge (history back (tick_at_minute 1 0 400 ∷ tick_at_minute 2 0 279 ∷ []))
     ([] ∷ [] ∷ ((2 ∷ 0 ∷ 7 ∷ []) ∷ (3 ∷ 0 ∷ 7 ∷ []) ∷ []) ∷ []) ∷
-    -- sunrise 10, offset -90,000: minute 9; -900,000: 1,435
-    edge (number (solar_minute 10 (minus 90000))) (number 9) ∷
-    edge (number (solar_minute 10 (minus 900000))) (number 1435) ∷
+    -- sunrise 10, offset -90,000: minute 9, and -30,000 is left; -900,000: 1,435, and nothing is
+    edge (from_ten (minus 90000)) (time 9 (minus 30000)) ∷
+    edge (from_ten (minus 900000)) (time 1435 0) ∷
+    -- document 02, request 4: less than a minute either way, a minute, and both ends of the range
+    edge (from_ten (minus 30000)) (time 10 (minus 30000)) ∷
+    edge (from_ten (minus 59999)) (time 10 (minus 59999)) ∷
+    edge (from_ten 59999) (time 10 59999) ∷
+    edge (from_ten (minus 60000)) (time 9 0) ∷
+    edge (from_ten 60000) (time 11 0) ∷
+    edge (from_ten (2 ^ 31)) (time 219 (minus 23648)) ∷
+    edge (from_ten (2 ^ 31 - 1)) (time 1241 23647) ∷
     edge (history sunrise (run_in_sun 8 ∷ run_in_sun 9 ∷ run_in_sun 1435 ∷ [])) ([] ∷ [] ∷ ((5 ∷ 0 ∷ 7 ∷ []) ∷ []) ∷ [] ∷ []) ∷
     edge (history sunrise_earlier (run_in_sun 9 ∷ run_in_sun 1435 ∷ [])) ([] ∷ [] ∷ ((5 ∷ 0 ∷ 7 ∷ []) ∷ []) ∷ []) ∷
     -- range 1320 to 360: 360 in, 361 out
@@ -124,5 +136,5 @@ table =
 
 -- one name that opens them all
 unfoldable pub rows : ℕ
-unfolding samples is_fail sum last steps number minus repeat128 afters cooled older clock back night run_at_minute at_sunrise sunrise sunrise_earlier run_in_sun table
+unfolding samples is_fail sum last steps minus from_ten time repeat128 afters cooled older clock back night run_at_minute at_sunrise sunrise sunrise_earlier run_in_sun table
 rows = 0

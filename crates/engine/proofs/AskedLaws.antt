@@ -17,8 +17,8 @@ use Rattle.std.specs.Prelude.{Err, replicate}
 use Rattle.model.specs.Refusals.{refusal_code}
 use Rattle.model.specs.declared.Refusal.{Refusal}
 use Rattle.model.proofs.RefusalLaws.{refusal-some}
-use Rattle.model.specs.Asked.{Asked, declined, shown_result}
-use Rattle.engine.specs.Asked.{lowest_of, asked_of, asked}
+use Rattle.model.specs.Asked.{Asked, declined, shown_result, asked_of, asked}
+use Rattle.engine.specs.Asked.{lowest_of}
 use Rattle.engine.proofs.Seeing.{OnStore}
 
 -- THE CHECKS ----------------------------------------------------------------------------------------------------------------------------

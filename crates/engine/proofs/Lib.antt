@@ -10,3 +10,4 @@ pub mod TickLaws
 pub mod InputLaws
 pub mod AskedLaws
 pub mod StartLaws
+pub mod ReadbackLaws

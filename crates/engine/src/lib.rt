@@ -7,6 +7,7 @@ ghost use Rattle.std.specs.Prelude.{◌≡◌, [], length};
 ghost use Rattle.model.specs.Calls.{new, load, unload, enable, tick, run, deadline, counters};
 ghost use Rattle.model.specs.OnWords.{call_on};
 ghost use Rattle.model.specs.Asked.{shown_result};
+ghost use Rattle.model.specs.Readback.{count_values, readback_on};
 ghost use Rattle.next.specs.NextStart.{start_values};
 ghost use Rattle.engine.specs.Seen.{seen};
 ghost use Rattle.engine.specs.Answers.{shown, no_values, enabled_values, handled_values, due_values, counter_values};
@@ -22,6 +23,7 @@ use state::State;
 
 pub mod asked;
 mod handle;
+mod readbacks;
 mod sets;
 mod starts;
 mod stored;
@@ -134,4 +136,18 @@ pub fn next_start(store: &[u32], snapshot: &[u32]) -> Result<NextStart, Refusal>
 {
     let (checked, accepted) = opened_with(store, snapshot)?;
     Ok(starts::next_start(&checked, &accepted))
+}
+
+// The starts of a rule's AtSolar triggers in the world of a snapshot, in the words that are lent for them. How many they are.
+pub fn readback(
+    store: &[u32],
+    rule: u32,
+    snapshot: &[u32],
+    starts: &mut [u32],
+) -> Result<u32, Refusal>
+    ensures { shown_result count_values result starts.new ≡ readback_on rule snapshot.now (length starts.old) store.now }
+{
+    lent_words::clear(starts);
+    let (checked, accepted) = opened_with(store, snapshot)?;
+    readbacks::readback(&checked, rule, &accepted, starts)
 }

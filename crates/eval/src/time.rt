@@ -2,12 +2,13 @@
 ghost use Rattle.std.specs.Prelude.{◌≡◌, ◌+◌, ◌*◌, ◌≤◌};
 ghost use Rattle.words.specs.Saturating.{max32};
 ghost use Rattle.model.specs.Arith.{has_day};
-ghost use Rattle.model.specs.Eval.{solar_of, minute_in_range};
+ghost use Rattle.model.specs.Eval.{solar_time_of, minute_in_range};
 ghost use Rattle.eval.specs.Equals.{SunIsUp, Resolves, BoundAt};
 
 use image::layout::{Image, Table};
 use image::record::bound_of;
 use model::{SolarEvent, SunTimes, TimeBound};
+use words::SolarTime;
 
 // The minutes of a day and of a week.
 pub const DAY_MINUTES: u64 = 1440;
@@ -55,19 +56,19 @@ pub fn minute_of_day(hour: u32, minute: u32) -> u64
     u64::from(hour) * 60 + u64::from(minute)
 }
 
-// The minute of sunrise or sunset, with an offset in milliseconds.
-#[tactic(auto, unfolding(model::specs::Eval::solar_of))]
-pub fn solar_minute(sun: SunTimes, event: SolarEvent, offset_ms: u32) -> u32
-    ensures { result ≡ solar_of sun event offset_ms }
+// An offset in milliseconds from sunrise or sunset.
+#[tactic(auto, unfolding(model::specs::Eval::solar_time_of))]
+pub fn solar_time(sun: SunTimes, event: SolarEvent, offset_ms: u32) -> SolarTime
+    ensures { result ≡ solar_time_of sun event offset_ms }
 {
     let base = match event {
         SolarEvent::Sunrise => sun.sunrise_min,
         SolarEvent::Sunset => sun.sunset_min,
     };
-    words::solar_minute(base, offset_ms)
+    words::solar_time(base, offset_ms)
 }
 
-#[tactic(auto, unfolding(model::specs::Eval::resolve_time_bound))]
+#[tactic(auto, unfolding(model::specs::Eval::resolve_time_bound, model::specs::Eval::solar_of))]
 pub fn resolve_time_bound(snapshot: &[u32], bound: TimeBound) -> Option<u64>
     ensures { Resolves snapshot.now bound result }
 {
@@ -75,7 +76,7 @@ pub fn resolve_time_bound(snapshot: &[u32], bound: TimeBound) -> Option<u64>
         TimeBound::Clock { hour, minute } => Some(minute_of_day(hour, minute)),
         TimeBound::Solar { event, offset_ms } => {
             let sun = world::sun(snapshot)?;
-            Some(u64::from(solar_minute(sun, event, offset_ms)))
+            Some(u64::from(solar_time(sun, event, offset_ms).minute))
         }
     }
 }

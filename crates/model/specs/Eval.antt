@@ -3,7 +3,9 @@ use Rattle.std.specs.Prelude.{ℕ, ◌+◌, ◌-◌, ◌*◌, ◌/◌, ◌%◌, 
 use Rattle.std.specs.Prelude.{Option, None, Some}
 use Rattle.std.specs.Int.Signed.{lt_z}
 use Rattle.words.specs.Pairs.{joined}
-use Rattle.words.specs.Signed.{signed64, signed32, saturating_add_i64, solar_minute}
+use Rattle.words.specs.Signed.{signed64, signed32, saturating_add_i64}
+use Rattle.words.specs.Solar.{solar_time}
+use Rattle.words.specs.declared.SolarTime.{SolarTime}
 use Rattle.model.specs.Arith.{compare_i64, has_day}
 use Rattle.model.specs.Lists.{◌>>=◌, present}
 use Rattle.model.specs.Rows.{conditions, values, bounds}
@@ -36,10 +38,14 @@ as_int None = None
 as_int (Some (Int n)) = Some (signed64 n)
 as_int (Some (Text t)) = None
 
--- `solar_minute`, with the sun's minute of the event
+-- an offset from sunrise or sunset
+unfoldable pub solar_time_of : SunTimes → SolarEvent → ℕ → SolarTime
+solar_time_of sun Sunrise offset = solar_time sun.sunrise_min offset
+solar_time_of sun Sunset offset = solar_time sun.sunset_min offset
+
+-- `solar_minute`: its minute
 unfoldable pub solar_of : SunTimes → SolarEvent → ℕ → ℕ
-solar_of sun Sunrise offset = solar_minute sun.sunrise_min offset
-solar_of sun Sunset offset = solar_minute sun.sunset_min offset
+solar_of sun event offset = (solar_time_of sun event offset).minute
 
 unfoldable pub minute_in_range : ℕ → ℕ → ℕ → Bool
 minute_in_range t start end = cond (leb start end) (leb start t && leb t end) (leb start t || leb t end)

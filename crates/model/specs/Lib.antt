@@ -37,3 +37,4 @@ pub mod CrontabMeaning
 pub mod ShortLists
 pub mod Tree
 pub mod Rewrite
+pub mod Readback

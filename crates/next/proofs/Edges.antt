@@ -4,9 +4,9 @@ use mathlib.Core.Bool.{Bool, true, false}
 use mathlib.Core.List.{List, [], ◌∷◌, ◌++◌}
 use Rattle.std.specs.Prelude.{Option, None, Some}
 use Prim.Native.Nat.{ℕ}
-use Rattle.words.specs.Signed.{solar_minute}
+use Rattle.words.specs.Solar.{solar_time}
 use Rattle.model.specs.Arith.{has_day}
-use Rattle.model.specs.Eval.{solar_of}
+use Rattle.model.specs.Eval.{solar_of, solar_time_of}
 use Rattle.model.specs.Image.{trailer, first_of, width_of, size_of, word_at}
 use Rattle.model.specs.Rules.{trigger_of, triggers_of}
 use Rattle.model.specs.declared.SunTimes.{SunTimes}
@@ -30,7 +30,7 @@ no-minute = (refl, refl, refl, refl, refl)
 
 -- the sun's own minute, on every day
 of-sun : minutes (Some (record { sunrise_min = 300; sunset_min = 1200 })) 301 (AtSolar Sunrise 0) ≡ 1439
-unfolding first_from due_in stands_at on_days has_day solar_of solar_minute
+unfolding first_from due_in stands_at on_days has_day solar_of solar_time_of solar_time
 of-sun = refl
 
 -- two rules of one trigger each: their names, their enabled words, and the minutes of the two triggers, at 06 on every day

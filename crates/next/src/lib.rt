@@ -10,7 +10,7 @@ ghost use Rattle.model.specs.declared.Trigger.TheVariants as trigger;
 ghost use Rattle.next.specs.NextStart.{on_days, due_in, starts_in, first_from, next_from};
 ghost use Rattle.next.specs.Distance.{within, day_ahead, start_of, best_of};
 
-use eval::time::{DAY_MINUTES, EVERY_DAY, WEEK_MINUTES, has_day, minute_of_day, solar_minute};
+use eval::time::{DAY_MINUTES, EVERY_DAY, WEEK_MINUTES, has_day, minute_of_day, solar_time};
 use image::layout::{Image, Table};
 use model::{SolarEvent, Trigger};
 
@@ -82,7 +82,7 @@ impl Asked<'_> {
         ensures { result ≡ within (first_from (λ m. due_in self.now.sun self.now.t (trigger.AtSolar event offset_ms) m) 1 10080) }
     {
         let sun = self.sun?;
-        self.days_minutes(EVERY_DAY, solar_minute(sun, event, offset_ms) as u64)
+        self.days_minutes(EVERY_DAY, solar_time(sun, event, offset_ms).minute as u64)
     }
 
     fn trigger_minutes(&self, trigger: Trigger) -> Option<u32>

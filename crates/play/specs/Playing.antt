@@ -5,6 +5,7 @@ use Rattle.model.specs.Calls as Calls
 use Rattle.model.specs.OnWords.{call_on}
 use Rattle.model.specs.Asked.{Asked}
 use Rattle.model.specs.Crontab.{crontab}
+use Rattle.model.specs.Readback.{readback_on}
 use Rattle.model.specs.ShortLists.{short_list}
 use Rattle.model.specs.Rewrite.{rewritten}
 use Rattle.engine.specs.Asked.{next_start_on}
@@ -13,12 +14,12 @@ use Rattle.cerambiu.specs.Called.{Called, answered}
 use Rattle.cerambiu.specs.Told.{told, sending}
 use Rattle.script.specs.Table.{rows}
 use Rattle.script.specs.declared.calls.Call.{Call}
-use Rattle.script.specs.declared.calls.Call.TheVariants.{New, Load, Unload, Enable, Tick, Run, Deadline, Counters, Lend, Size, Poke, Peek, Telegrams, Crontab, Start, RoomFor, ShortList, Rewrite}
+use Rattle.script.specs.declared.calls.Call.TheVariants.{New, Load, Unload, Enable, Tick, Run, Deadline, Counters, Lend, Size, Poke, Peek, Telegrams, Crontab, Start, RoomFor, ShortList, Rewrite, Readback}
 use Rattle.script.specs.Script.{Line, Parsed, plain, parse}
 use Rattle.script.specs.declared.complain.Wrong.TheVariants.{LineTooLong}
 use Rattle.script.specs.Print.{peek_line, wrong_line}
 use Rattle.play.specs.declared.calls.Settings.{Settings}
-use Rattle.play.specs.Printed.{call_lines, told_lines, telegram_lines, trigger_lines, start_lines, room_lines, place_lines, rewrite_lines}
+use Rattle.play.specs.Printed.{call_lines, told_lines, telegram_lines, trigger_lines, start_lines, room_lines, place_lines, rewrite_lines, readback_lines}
 
 -- ONE LINE ---------------------------------------------------------------------------------------------------------------------------
 -- the store's words after a line, and what is printed for it
@@ -68,6 +69,7 @@ doing os es t list text a b c Start = asking_store t.size Start start_lines (nex
 doing os es t list text a b c RoomFor = asking RoomFor room_lines (room_for list)
 doing os es t list text a b c ShortList = asking ShortList place_lines (short_list a (take b list) (take c (drop b list)) (drop c (drop b list)))
 doing os es t list text a b c Rewrite = asking Rewrite rewrite_lines (rewritten list (min a es))
+doing os es t list text a b c Readback = asking_store t.size Readback readback_lines (readback_on a list (min b es))
 
 -- line number k
 abbrev pub obeyed : ℕ → ℕ → ℕ → Line → List ℕ → List ℕ → Settings → List ℕ → Obeyed

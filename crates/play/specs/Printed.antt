@@ -8,7 +8,7 @@ use Rattle.cerambiu.specs.Told.{Told}
 use Rattle.model.specs.Text.{bytes_of}
 use Rattle.script.specs.declared.calls.Call.{Call}
 use Rattle.script.specs.declared.calls.Call.TheVariants.{New, Load, Unload, Enable, Tick, Run, Deadline, Counters}
-use Rattle.script.specs.Print.{numbers, line, handled_line, enabled_line, deadline_line, refused_line}
+use Rattle.script.specs.Print.{numbers, signed, line, handled_line, enabled_line, deadline_line, refused_line}
 use Rattle.play.specs.declared.answers.Columns.{Columns}
 
 -- RECORDS OF LENT STORES ---------------------------------------------------------------------------------------------------------------
@@ -114,3 +114,15 @@ place_lines answer lent = line (bytes_of "shortlist") (numbers (words_at answer 
 -- an image written anew: how many words it has, and these
 abbrev pub rewrite_lines : List ℕ → List ℕ → List ℕ
 rewrite_lines answer image = line (bytes_of "rewrite") (numbers (words_at answer 0 1) ++ numbers (words_at image 0 (get_or answer 0 0)))
+
+-- mark, minute and signed remainder of start i
+abbrev pub solar_line : List ℕ → ℕ → List ℕ
+solar_line ws i = line (bytes_of "start") (numbers (words_at ws (3 * i) 2) ++ signed (get_or ws (3 * i + 2) 0))
+
+abbrev pub solar_lines : List ℕ → ℕ → List ℕ
+solar_lines ws zero = []
+solar_lines ws (suc n) = solar_lines ws n ++ solar_line ws n
+
+-- how many solar starts a rule has, and each of them
+abbrev pub readback_lines : List ℕ → List ℕ → List ℕ
+readback_lines answer ws = line (bytes_of "readback") (numbers (words_at answer 0 1)) ++ solar_lines ws (get_or answer 0 0)

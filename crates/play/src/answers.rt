@@ -3,13 +3,13 @@
 
 ghost use Rattle.std.specs.Prelude.{◌≤◌, ◌==◌, [], get_or};
 ghost use Rattle.model.specs.Text.{bytes_of};
-ghost use Rattle.script.specs.Print.{numbers, line, refused_line, enabled_line, peek_line, handled_line};
-ghost use Rattle.play.specs.Printed.{words_at, row_line, row_lines, effect_lines, outcome_at, outcome_with, outcome_lines, handled_lines, deadline_of, telegram_lines, trigger_lines, start_lines, room_lines, place_lines, rewrite_lines};
+ghost use Rattle.script.specs.Print.{numbers, signed, line, refused_line, enabled_line, peek_line, handled_line};
+ghost use Rattle.play.specs.Printed.{words_at, row_line, row_lines, effect_lines, outcome_at, outcome_with, outcome_lines, handled_lines, deadline_of, telegram_lines, trigger_lines, start_lines, room_lines, place_lines, rewrite_lines, solar_line, solar_lines, readback_lines};
 ghost use Rattle.play.specs.Gathered.{Gathers};
 
 use crate::output::Output;
 use crate::shown::{self, Words};
-use script::Call;
+use script::{Call, Signed};
 
 // A refusal of any call.
 pub fn refused(out: &mut Output, call: Call, number: u32)
@@ -213,4 +213,37 @@ pub fn start(out: &mut Output, answer: &[u32; 16])
         1 => writeln!(out, "start {} {}", answer[1], answer[2]),
         _ => writeln!(out, "start unknown"),
     }
+}
+
+// Solar start i: mark, minute, signed remainder.
+fn solar_start(out: &mut Output, i: u32, starts: &[u32])
+    ensures { Gathers out.old (solar_line starts.now i) out.new }
+{
+    let at = solar::START_WORDS * i as usize;
+    let time = Words {
+        words: starts,
+        at,
+        count: 2,
+    };
+    let remainder = Signed(fields::word(starts, at + 2));
+    writeln!(out, "start{time}{remainder}")
+}
+
+#[tactic(auto, using(crate::proofs::Gathering::gathers_none, crate::proofs::Gathering::gathers_then))]
+fn solar_starts(out: &mut Output, count: u32, starts: &[u32])
+    ensures { Gathers out.old (solar_lines starts.now count) out.new }
+{
+    // kept: places, for the reason at `rows`.
+    for i in 0..count {
+        solar_start(out, i, starts);
+    }
+}
+
+// The solar starts of a rule: how many, and each of them.
+pub fn readback(out: &mut Output, answer: &[u32; 16], starts: &[u32])
+    ensures { Gathers out.old (readback_lines answer.now starts.now) out.new }
+{
+    let count = answer[0];
+    writeln!(out, "readback {count}");
+    solar_starts(out, count, starts)
 }

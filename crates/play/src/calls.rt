@@ -2,6 +2,7 @@
 ghost use Rattle.std.specs.Prelude.{ℕ, ◌≡◌, ◌≢◌, List, MatchResult, length, min, get_or, set, take, drop, replicate};
 ghost use Rattle.model.specs.Calls as Calls;
 ghost use Rattle.model.specs.Crontab as Crontab;
+ghost use Rattle.model.specs.Readback.{readback_on};
 ghost use Rattle.model.specs.ShortLists.{short_list};
 ghost use Rattle.model.specs.Rewrite.{rewritten};
 ghost use Rattle.engine.specs.Asked.{next_start_on};
@@ -9,7 +10,7 @@ ghost use Rattle.room.specs.Needed.{room_for};
 ghost use Rattle.cerambiu.specs.Told.{sending};
 ghost use Rattle.script.specs.declared.calls.Call.TheVariants as Call;
 ghost use Rattle.script.specs.Scan.{Ranged};
-ghost use Rattle.play.specs.Printed.{telegram_lines, trigger_lines, start_lines, room_lines, place_lines, rewrite_lines};
+ghost use Rattle.play.specs.Printed.{telegram_lines, trigger_lines, start_lines, room_lines, place_lines, rewrite_lines, readback_lines};
 ghost use Rattle.play.specs.Playing.{calling, asking, asking_store, beginning};
 ghost use Rattle.play.specs.declared.output.Output.{Output};
 ghost use Rattle.play.specs.Gathered.{Makes, Does, done, lent_after};
@@ -64,7 +65,7 @@ fn accepted(number: u32) -> Result<(), Refused>
 }
 
 // kept: this and the thirteen below are a call of the C interface each, with arguments and a printer of its own, as it would be no plainer: one function over
-// closures would need the contracts of both as `requires`. A function that cuts a store would save a line in seven of them and three in a tick and a run, and be two, for `&` and
+// closures would need the contracts of both as `requires`. A function that cuts a store would save a line in eight of them and three in a tick and a run, and be two, for `&` and
 // for `&mut`, each with the clauses of what comes back; a struct of the three stores would be made by `make` for a tick and a run alone, and say besides that the stores that come
 // back are those that were lent.
 // Tried: `new`, `load` and `unload` as arms of `make`, where the store is lent as a field: the clause `makes` did not close, which is of `self.new.store`.
@@ -261,6 +262,26 @@ fn rewrite(room: usize, image: &[u32], effects: &mut [u32], out: &mut Output) ->
     Ok(())
 }
 
+fn readback(
+    size: usize,
+    rule: u32,
+    room: usize,
+    snapshot: &[u32],
+    store: &[u32],
+    effects: &mut [u32],
+    out: &mut Output,
+) -> Result<(), Refused>
+    ensures { Makes (asking_store size Call.Readback readback_lines (readback_on rule snapshot.now (min room (length effects.old))) store.now) Call.Readback store.now out.old out.new result }
+{
+    let n = size.min(store.len());
+    let es = room.min(effects.len());
+    let starts = &mut effects[..es];
+    let mut answer = [0u32; 16];
+    accepted(cerambiu::cerambiu_readback(&store[..n], rule, snapshot, starts, &mut answer))?;
+    answers::readback(out, &answer, starts);
+    Ok(())
+}
+
 fn poke(store: &mut [u32], place: usize, word: u32)
     ensures { store.new ≡ set store.old place word }
 {
@@ -315,6 +336,7 @@ impl Lent {
             Call::RoomFor => room(line.list, out),
             Call::ShortList => short_list(a as u32, b as usize, c as usize, line.list, out),
             Call::Rewrite => rewrite(a as usize, line.list, es, out),
+            Call::Readback => readback(size, a as u32, b as usize, line.list, store, es, out),
             Call::Lend => {
                 (self.settings.outcomes, self.settings.effects) = (a as usize, b as usize);
                 Ok(())

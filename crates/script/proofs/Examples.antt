@@ -6,8 +6,8 @@ use Rattle.model.specs.Text.{bytes_of}
 use Rattle.model.specs.Digits.{is_digit, value_from}
 use Rattle.decimal.specs.Numbers.{argument_of}
 use Rattle.script.specs.Words.{words_of, past_space, past_word, past_words}
-use Rattle.script.specs.Table.{Call, New, Load, Enable, Tick, Run, Lend, Peek, Crontab, ShortList, Row, row, rows, calls as all_calls, Words}
-use Rattle.script.specs.declared.calls.Param.TheVariants.{Time, Rule, Mark, OutcomeWords, Place, Word, Sunday, TriggerWords, ActionWords}
+use Rattle.script.specs.Table.{Call, New, Load, Enable, Tick, Run, Lend, Peek, Crontab, ShortList, Readback, Row, row, rows, calls as all_calls, Words}
+use Rattle.script.specs.declared.calls.Param.TheVariants.{Time, Rule, Mark, OutcomeWords, Place, Word, Sunday, TriggerWords, ActionWords, StartWords}
 use Rattle.script.specs.Script.{Parsed, Line, Wrong, plain, command, call_named, parse, parse_call, numbers_from, ending, behind_name, list_from, counted}
 use Rattle.script.specs.Script.{NoSuchCall, Missing, NotDecimal, OutOfRange, WordNotDecimal, WordOutOfRange, TooFewWords, TooManyWords, ListTooLong, LineTooLong}
 use Rattle.script.specs.Print.{numbers, signed, line, handled_line, enabled_line, deadline_line, peek_line, refused_line, wrong_line}
@@ -27,17 +27,18 @@ made call a b n = Ok (Some (record { call = call; numbers = a ∷ b ∷ 0 ∷ 0 
 
 calls :
     map says
-    (" # new 5" ∷ "\tnew 18446744073709551615#5" ∷ "new 000000000000000000000000001\r\n" ∷ "enable 4294967295 1" ∷ "run 5 0" ∷ "load 7 1 2 3 4" ∷ [])
+    (" # new 5" ∷ "\tnew 18446744073709551615#5" ∷ "new 000000000000000000000000001\r\n" ∷ "enable 4294967295 1" ∷ "run 5 0" ∷ "load 7 1 2 3 4" ∷ "readback 5 16384 9" ∷ [])
     ≡ plain (Ok None) ∷ plain (made New 18446744073709551615 0 0) ∷ plain (made New 1 0 0) ∷ plain (made Enable 4294967295 1 0) ∷ plain (made Run 5 0 0)
-    ∷ record { line = made Load 7 0 4; list = 1 ∷ 2 ∷ 3 ∷ 4 ∷ []; text = [] } ∷ []
+    ∷ record { line = made Load 7 0 4; list = 1 ∷ 2 ∷ 3 ∷ 4 ∷ []; text = [] }
+    ∷ record { line = made Readback 5 16384 1; list = 9 ∷ []; text = [] } ∷ []
 unfolding says made
 calls = refl
 
 wrong :
     map says
-    ("fly" ∷ "new" ∷ "new x" ∷ "new 18446744073709551616" ∷ "enable 5 2" ∷ "enable 4294967296 1" ∷ "new 1 2" ∷ "peek 16384" ∷ [])
+    ("fly" ∷ "new" ∷ "new x" ∷ "new 18446744073709551616" ∷ "enable 5 2" ∷ "enable 4294967296 1" ∷ "new 1 2" ∷ "peek 16384" ∷ "readback 5 16385" ∷ [])
     ≡ map (λ (w : Wrong). plain (Err w))
-    (NoSuchCall ∷ Missing New Time ∷ NotDecimal New Time ∷ OutOfRange New Time ∷ OutOfRange Enable Mark ∷ OutOfRange Enable Rule ∷ TooManyWords New ∷ OutOfRange Peek Place ∷ [])
+    (NoSuchCall ∷ Missing New Time ∷ NotDecimal New Time ∷ OutOfRange New Time ∷ OutOfRange Enable Mark ∷ OutOfRange Enable Rule ∷ TooManyWords New ∷ OutOfRange Peek Place ∷ OutOfRange Readback StartWords ∷ [])
 unfolding says
 wrong = refl
 

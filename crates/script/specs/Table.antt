@@ -4,9 +4,9 @@ use Prim.Native.String.{String}
 use Rattle.words.specs.Saturating.{max32, max64}
 use Rattle.model.specs.Text.{bytes_of}
 pub use Rattle.script.specs.declared.calls.Call.{Call}
-pub use Rattle.script.specs.declared.calls.Call.TheVariants.{New, Load, Unload, Enable, Tick, Run, Deadline, Counters, Lend, Size, Poke, Peek, Telegrams, Crontab, Start, RoomFor, ShortList, Rewrite}
+pub use Rattle.script.specs.declared.calls.Call.TheVariants.{New, Load, Unload, Enable, Tick, Run, Deadline, Counters, Lend, Size, Poke, Peek, Telegrams, Crontab, Start, RoomFor, ShortList, Rewrite, Readback}
 pub use Rattle.script.specs.declared.calls.Param.{Param}
-use Rattle.script.specs.declared.calls.Param.TheVariants.{Time, Rule, Mark, DryMark, OutcomeWords, EffectWords, WordCount, Place, Word, Room, Sunday, TriggerWords, ListNumber, ActionWords, ValueWords, PoolWords}
+use Rattle.script.specs.declared.calls.Param.TheVariants.{Time, Rule, Mark, DryMark, OutcomeWords, EffectWords, WordCount, Place, Word, Room, Sunday, TriggerWords, ListNumber, ActionWords, ValueWords, PoolWords, StartWords}
 pub use Rattle.script.specs.declared.calls.Tail.{Tail}
 pub use Rattle.script.specs.declared.calls.Tail.TheVariants.{Nothing, Words, Parts, Text}
 
@@ -28,6 +28,7 @@ param_name ListNumber = bytes_of "list number"
 param_name ActionWords = bytes_of "number of action words"
 param_name ValueWords = bytes_of "number of value words"
 param_name PoolWords = bytes_of "number of pool words"
+param_name StartWords = bytes_of "number of start words"
 
 -- the largest number: a time has 64 bits, a word 32, a mark is 0 or 1; lent stores and the store's places are limited
 abbrev pub most_of : Param → ℕ
@@ -47,6 +48,7 @@ most_of ListNumber = max32
 most_of ActionWords = 8192
 most_of ValueWords = 8192
 most_of PoolWords = 8192
+most_of StartWords = 16384
 
 -- CALLS ------------------------------------------------------------------------------------------------------------------------------
 -- a name, up to four parameters, and what stands behind them: nothing, a list of words, a list of as many words as its numbers behind the first say, or a text
@@ -77,10 +79,11 @@ rows Start = row "start" [] Words
 rows RoomFor = row "room" [] Words
 rows ShortList = row "shortlist" (ListNumber ∷ ActionWords ∷ ValueWords ∷ PoolWords ∷ []) Parts
 rows Rewrite = row "rewrite" (Room ∷ []) Words
+rows Readback = row "readback" (Rule ∷ StartWords ∷ []) Words
 
 -- all of them
 unfoldable pub calls : List Call
-calls = New ∷ Load ∷ Unload ∷ Enable ∷ Tick ∷ Run ∷ Deadline ∷ Counters ∷ Lend ∷ Size ∷ Poke ∷ Peek ∷ Telegrams ∷ Crontab ∷ Start ∷ RoomFor ∷ ShortList ∷ Rewrite ∷ []
+calls = New ∷ Load ∷ Unload ∷ Enable ∷ Tick ∷ Run ∷ Deadline ∷ Counters ∷ Lend ∷ Size ∷ Poke ∷ Peek ∷ Telegrams ∷ Crontab ∷ Start ∷ RoomFor ∷ ShortList ∷ Rewrite ∷ Readback ∷ []
 
 -- the largest number of a call's parameter i, and 0 where it has none
 abbrev pub largest_of : Call → ℕ → ℕ

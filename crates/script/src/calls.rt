@@ -14,11 +14,13 @@ pub const EFFECT_WORDS: usize = 327680;
 
 pub const LIST_WORDS: usize = 8192;
 
-// The words of a store, and of the triggers of a line of a crontab at most.
+// The words of a store, and at most those of the triggers of a line of a crontab and of the solar starts of a rule.
 // kept: the words of a store, as `store::table::WORDS` has them too: neither crate stands on the other.
 const STORE_WORDS: usize = 16384;
 
 const TRIGGER_WORDS: usize = 16384;
+
+const START_WORDS: usize = 16384;
 
 #[derive(Clone, Copy, PartialEq, Eq)]
 pub enum Call {
@@ -40,6 +42,7 @@ pub enum Call {
     RoomFor,
     ShortList,
     Rewrite,
+    Readback,
 }
 
 #[derive(Clone, Copy, PartialEq, Eq)]
@@ -60,6 +63,7 @@ pub enum Param {
     ActionWords,
     ValueWords,
     PoolWords,
+    StartWords,
 }
 
 // What stands behind the numbers of a call.
@@ -91,7 +95,7 @@ impl Shape {
     }
 }
 
-const CALLS: [Call; 18] = [
+const CALLS: [Call; 19] = [
     Call::New,
     Call::Load,
     Call::Unload,
@@ -110,6 +114,7 @@ const CALLS: [Call; 18] = [
     Call::RoomFor,
     Call::ShortList,
     Call::Rewrite,
+    Call::Readback,
 ];
 
 // Which list, and how many words each part of the list that follows has.
@@ -156,6 +161,9 @@ impl Call {
             Call::RoomFor => Shape::new("room", &[], Tail::Words),
             Call::ShortList => Shape::new("shortlist", &SHORT_LIST, Tail::Parts),
             Call::Rewrite => Shape::new("rewrite", &[Param::Room], Tail::Words),
+            Call::Readback => {
+                Shape::new("readback", &[Param::Rule, Param::StartWords], Tail::Words)
+            }
         }
     }
 
@@ -216,6 +224,7 @@ impl Param {
             Param::ActionWords => "number of action words",
             Param::ValueWords => "number of value words",
             Param::PoolWords => "number of pool words",
+            Param::StartWords => "number of start words",
         }
     }
 
@@ -236,6 +245,7 @@ impl Param {
                 LIST_WORDS as u64
             }
             Param::TriggerWords => TRIGGER_WORDS as u64,
+            Param::StartWords => START_WORDS as u64,
         }
     }
 }

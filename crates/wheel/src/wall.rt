@@ -8,7 +8,7 @@ ghost use Rattle.wheel.specs.Wall.{kind_of_one, kind_and_sun, missed_too, enable
 
 use crate::minutes::Window;
 use crate::{Env, Rule};
-use eval::time::{EVERY_DAY, minute_of_day, solar_minute};
+use eval::time::{EVERY_DAY, minute_of_day, solar_time};
 use image::layout::{Image, Table};
 use model::{Trigger, TriggerKind};
 use state::State;
@@ -29,7 +29,7 @@ impl Env<'_> {
             }
             Trigger::AtSolar { event, offset_ms } => {
                 let times = world::sun(self.snapshot).ok_or(NoSun)?;
-                let at = u64::from(solar_minute(times, event, offset_ms));
+                let at = u64::from(solar_time(times, event, offset_ms).minute);
                 Ok(
                     window
                         .minute_due(EVERY_DAY, at)

@@ -1,19 +1,23 @@
--- The minute of the day, as the code computes it: every number on the way fits 64 bits. Assumes nothing.
-use mathlib.Core.Path.{◌≡◌, refl, ap, ◌∙◌}
-use Prim.Native.Nat.{ℕ, zero, suc, ◌-◌, ◌/◌, ◌^◌, ◌≤◌, ◌<◌}
+-- The minute of the day and the remainder, as the code computes them: every number on the way fits its type. Assumes nothing.
+use mathlib.Core.Path.{◌≡◌, ap, ◌∙◌}
+use Prim.Native.Nat.{ℕ, zero, suc, ◌/◌, ◌%◌, ◌^◌, ◌≤◌, ◌<◌}
 use native.Mathlib.Omega.{arith}
 use Rattle.std.specs.Int.{int_rem_euclid}
 use lib.IntN.{ℤ, pos, negsuc, nat_abs, neg_ℤ, ◌+ℤ◌}
-use lib.Signed.{mag, quot_z}
+use lib.Signed.{mag, quot_z, rem_z}
 use mir.Syntax.{w32, w64}
 use mir.Val.{Fits, SFits, to_z, of_z}
-use mir.Facts.{sfits_to_z, sfits_widen, to_z-of_z}
+use mir.Facts.{sfits_to_z, to_z-of_z}
 use Rattle.std.proofs.lemmas.Int.{ints}
-use Rattle.words.specs.Signed.{rem_euclid, solar_minute}
+use Rattle.words.specs.Signed.{rem_euclid}
+use Rattle.words.specs.Solar.{solar_time}
 
 -- a number that is read from where it was stored
 abbrev stored : ℤ → ℤ
 stored z = to_z w64 (of_z w64 z)
+
+abbrev stored32 : ℤ → ℤ
+stored32 z = to_z w32 (of_z w32 z)
 
 negative : (q n : ℕ) → q ≤ suc n → mag (neg_ℤ (pos q)) ≤ n
 negative zero n h = omega arith
@@ -31,25 +35,35 @@ remainder : (z : ℤ) → nat_abs (stored (int_rem_euclid z (pos 1440))) ≡ rem
 remainder (pos n) = omega (arith, ints)
 remainder (negsuc n) = omega (arith, ints)
 
-pub solar-is :
-    (base offset : ℕ) → base < 2 ^ 32 → Fits w32 offset → (s m b r : ℤ)
-    → s ≡ to_z w32 offset → m ≡ to_z w32 (of_z w32 s) → b ≡ pos base
-    → r ≡ int_rem_euclid (stored (stored b +ℤ stored (quot_z (stored m) (pos 60000)))) (pos 1440)
-    → nat_abs (stored r) ≡ solar_minute base offset
-unfolding solar_minute
-solar-is base offset h f s m b r es em eb er =
-    let fs : SFits w32 s = rw es (sfits_to_z f) in
-    let ms : m ≡ s = em ∙ to_z-of_z fs in
-    let fq : mag (quot_z s (pos 60000)) < 2 ^ 31 = omega (arith, quotient-within s, fs.sfits) in
-    let rs : stored m ≡ s = ap stored ms ∙ to_z-of_z (sfits_widen {w = w32} {w' = w64} tt fs) in
-    let sum : SFits w64 (pos base +ℤ quot_z s (pos 60000)) = sum-fits base (quot_z s (pos 60000)) h fq in
-    let fb : SFits w64 (pos base) = record { sfits = omega arith } in
-    let fd : SFits w64 (quot_z s (pos 60000)) = record { sfits = omega arith } in
-    let inner : stored (stored b +ℤ stored (quot_z (stored m) (pos 60000))) ≡ pos base +ℤ quot_z s (pos 60000) =
-    rw (eb, rs, to_z-of_z fb, to_z-of_z fd) (to_z-of_z sum) in
-    ap (λ z. nat_abs (stored z)) (er ∙ ap (λ z. int_rem_euclid z (pos 1440)) inner) ∙ remainder (pos base +ℤ quot_z s (pos 60000)) ∙ ap (λ z. rem_euclid (pos base +ℤ quot_z z (pos 60000)) 1440) es
+rest-within : (z : ℤ) → mag (rem_z z (pos 60000)) < 60000
+rest-within (pos n) = omega arith
+rest-within (negsuc n) = small (suc n % 60000) (omega arith)
+  where
+    small : (r : ℕ) → r < 60000 → mag (neg_ℤ (pos r)) < 60000
+    small zero h = omega arith
+    small (suc r) h = omega arith
 
--- 90,000 and 900,000 milliseconds before minute 10: a minute and a half count as one, and 15 minutes go round the day
-examples : (solar_minute 10 (2 ^ 32 - 90000) ≡ 9) × (solar_minute 10 (2 ^ 32 - 900000) ≡ 1435)
-unfolding solar_minute
-examples = (refl, refl)
+pub solar-is :
+    (base offset : ℕ) → base < 2 ^ 32 → Fits w32 offset → (s b d r : ℤ)
+    → s ≡ to_z w32 offset → b ≡ pos base → d ≡ stored32 (quot_z (stored32 s) (pos 60000))
+    → r ≡ int_rem_euclid (stored (stored b +ℤ stored d)) (pos 1440)
+    → record { minute = nat_abs (stored r); remainder = stored32 (rem_z (stored32 s) (pos 60000)) } ≡ solar_time base offset
+unfolding solar_time
+solar-is base offset h f s b d r es eb ed er =
+    let fs : SFits w32 s = rw es (sfits_to_z f) in
+    let rs : stored32 s ≡ s = to_z-of_z fs in
+    let fq : mag (quot_z s (pos 60000)) < 2 ^ 31 = omega (arith, quotient-within s, fs.sfits) in
+    let fw : SFits w32 (quot_z s (pos 60000)) = record { sfits = omega arith } in
+    let fd : SFits w64 (quot_z s (pos 60000)) = record { sfits = omega arith } in
+    let fb : SFits w64 (pos base) = record { sfits = omega arith } in
+    let fr : SFits w32 (rem_z s (pos 60000)) = record { sfits = omega (arith, rest-within s) } in
+    let sum : SFits w64 (pos base +ℤ quot_z s (pos 60000)) = sum-fits base (quot_z s (pos 60000)) h fq in
+    let q : d ≡ quot_z s (pos 60000) = ed ∙ ap (λ z. stored32 (quot_z z (pos 60000))) rs ∙ to_z-of_z fw in
+    let inner : stored (stored b +ℤ stored d) ≡ pos base +ℤ quot_z s (pos 60000) =
+    rw (eb, q, to_z-of_z fb, to_z-of_z fd) (to_z-of_z sum) in
+    let minute : nat_abs (stored r) ≡ rem_euclid (pos base +ℤ quot_z s (pos 60000)) 1440 =
+    ap (λ z. nat_abs (stored z)) (er ∙ ap (λ z. int_rem_euclid z (pos 1440)) inner) ∙ remainder (pos base +ℤ quot_z s (pos 60000)) in
+    let rest : stored32 (rem_z (stored32 s) (pos 60000)) ≡ rem_z s (pos 60000) =
+    ap (λ z. stored32 (rem_z z (pos 60000))) rs ∙ to_z-of_z fr in
+    (λ i. record { minute = minute i; remainder = rest i })
+    ∙ ap (λ z. record { minute = rem_euclid (pos base +ℤ quot_z z (pos 60000)) 1440; remainder = rem_z z (pos 60000) }) es

@@ -1,3 +1,4 @@
 pub mod Saturating
 pub mod Pairs
 pub mod Signed
+pub mod Solar

@@ -1,15 +1,17 @@
 -- Signed integers. `to_z w n` of `mir.Val` is the number that the bits n stand for in two's complement, `of_z w z` the bits of z.
 use Rattle.std.specs.Prelude.{Bool, false, ℕ, suc, ◌-◌, ◌%◌, ◌^◌, min, eqb, ℤ, pos, negsuc, ◌+ℤ◌}
-use Rattle.std.specs.Int.Signed.{quot_z}
 use Rattle.std.specs.Int.{w32, w64}
 use Rattle.std.proofs.Common.{to_z, of_z}
 
--- a signed word and a signed 64-bit number, by their bits; and the 64 bits of a number
+-- a signed word and a signed 64-bit number, by their bits; and the bits of a number
 abbrev pub signed32 : ℕ → ℤ
 signed32 n = to_z w32 n
 
 abbrev pub signed64 : ℕ → ℤ
 signed64 n = to_z w64 n
+
+abbrev pub bits32 : ℤ → ℕ
+bits32 z = of_z w32 z
 
 abbrev pub bits64 : ℤ → ℕ
 bits64 z = of_z w64 z
@@ -32,7 +34,3 @@ eq_z (pos a) (pos b) = eqb a b
 eq_z (pos a) (negsuc b) = false
 eq_z (negsuc a) (pos b) = false
 eq_z (negsuc a) (negsuc b) = eqb a b
-
--- `(base + offset_ms / 60_000).rem_euclid(1_440)`; the division of integers rounds toward zero
-unfoldable pub solar_minute : ℕ → ℕ → ℕ
-solar_minute base offset = rem_euclid (pos base +ℤ quot_z (signed32 offset) (pos 60000)) 1440

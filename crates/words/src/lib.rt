@@ -4,7 +4,7 @@
 
 ghost use Rattle.std.specs.Prelude.{◌≡◌};
 ghost use Rattle.words.specs.Pairs.{joined, low_of, high_of};
-ghost use Rattle.words.specs.Signed.{solar_minute};
+ghost use Rattle.words.specs.Solar.{solar_time};
 
 // How many numbers a word has.
 const BASE: u64 = 1 << 32;
@@ -30,10 +30,21 @@ pub fn high_word(x: u64) -> u32
     (x / BASE) as u32
 }
 
-// The minute of the day at `offset` milliseconds, a signed word, from the minute `base`.
-pub fn solar_minute(base: u32, offset: u32) -> u32
-    ensures { result ≡ solar_minute base offset }
+// A minute of the day, and the milliseconds of an offset that make no whole minute.
+#[derive(Clone, Copy)]
+pub struct SolarTime {
+    pub minute: u32,
+    pub remainder: i32,
+}
+
+// The minute of the day at `offset` milliseconds, a signed word, from the minute `base`, and what is left of the offset.
+pub fn solar_time(base: u32, offset: u32) -> SolarTime
+    ensures { result ≡ solar_time base offset }
 {
-    let offset_ms = i64::from(offset.cast_signed());
-    (i64::from(base) + offset_ms / 60_000).rem_euclid(1_440) as u32
+    let offset_ms = offset.cast_signed();
+    let minutes = i64::from(base) + i64::from(offset_ms / 60_000);
+    SolarTime {
+        minute: minutes.rem_euclid(1_440) as u32,
+        remainder: offset_ms % 60_000,
+    }
 }

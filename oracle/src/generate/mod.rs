@@ -8,6 +8,7 @@ mod parts;
 pub mod probe;
 pub mod set_back;
 pub mod sharing;
+pub mod solar;
 pub mod starts;
 mod world;
 

@@ -6,6 +6,7 @@ use crate::check;
 use crate::crontab;
 use crate::house::{Call, House};
 use crate::next_start;
+use crate::readback;
 use crate::rewrite;
 use crate::short_lists;
 use crate::telegrams;
@@ -133,6 +134,12 @@ pub const ROWS: &[Row] = &[
         params: &[ROOM],
         tail: Tail::Words,
         meaning: Meaning::Own(|_, given| rewrite::line(given.word(0) as usize, &given.list)),
+    },
+    Row {
+        name: "readback",
+        params: &[RULE, Param("number of start words", 16_384)],
+        tail: Tail::Words,
+        meaning: Meaning::Own(readback::answer),
     },
 ];
 

@@ -138,7 +138,7 @@ fn a_call_and_its_line_are_each_other_back() {
         "run 5 1 2 3", "deadline", "counters", "lend 6 5", "size 7", "poke 1 2", "peek 3",
         "telegrams 8192 12 1 10 0 0", "crontab 6 16 0 5 * * 1-5 # up", "crontab 7 0", "start 1 2", "start", "room 5 1 0",
         "shortlist 1 8 0 2 21 7 0 0 0 0 0 0 1 2",
-        "rewrite 8192 1 2", "rewrite 0",
+        "rewrite 8192 1 2", "rewrite 0", "readback 5 16384 1 2", "readback 5 0",
     ];
     for text in lines {
         let call = parse(text).expect("good text").expect("a call");
@@ -175,6 +175,20 @@ fn a_short_list_asks_no_store() {
     let expected = "shortlist 2 1 0 0\nshortlist 0 0 0 0\nshortlist refused 72\nshortlist refused 70\nshortlist refused 71\n\
         line 8: shortlist: a word too few\nline 9: shortlist: a word too many\n\
         line 10: shortlist: number of action words is over 8192\nline 11: shortlist: number of pool words is missing\n";
+    assert_eq!(text, expected);
+}
+
+#[test]
+fn the_readback_of_solar_starts_asks_the_store() {
+    let at_sunrise = "load 0 5 0 0 0 0 1 0 0 0 0 0 0 0 0 0 0 3 0 4294877296 0 0 0 0 0 8 0 1 0 0 0 16 16 24 24 24 24 24";
+    let sunny = "0 0 0 0 0 1 10 1000 0 0 0 0 0 0";
+    let text = played(&[
+        at_sunrise, &format!("readback 5 3 {sunny}"), &format!("readback 5 2 {sunny}"), &format!("readback 5 3 {AT_0}"), "readback 6 0", "size 9",
+        "readback 5 3", "readback 5", "readback 5 16385", "readback 5 3 x",
+    ]);
+    let expected = "readback 1\nstart 0 9 -30000\nreadback refused 30\nreadback 1\nstart 1 0 0\nreadback refused 20\nreadback refused 1\n\
+        line 9: readback: number of start words is missing\nline 10: readback: number of start words is over 16384\n\
+        line 11: readback: word 0 is no decimal number\n";
     assert_eq!(text, expected);
 }
 

@@ -2,6 +2,7 @@
 use Rattle.std.proofs.lemmas.Result.{err_from_is_err_and}
 use mathlib.Core.Logic.{inl, inr}
 use mathlib.Core.Path.{sym, ◌∙◌}
+use Rattle.model.specs.Eval.{solar_of}
 use Rattle.wheel.specs.Given.{env_of}
 use Rattle.eval.specs.Answers.{env_in}
 use Rattle.wheel.proofs.DueKind.{known, unknown, at-time, at-sun, no-sun, no-timer, no_slot, no_other}
@@ -12,11 +13,11 @@ returns-in-AtTime c =
     rw (c.in-AtTime.is, c.then_some.ensures) (at-time (env_of c.args.self.now) _ _ _ _ _ (rw c.minute_of_day-at.ensures.minute at c.minute_due.ensures))
 
 pub returns-in_ok-times-in-AtSolar : goal.returns-in_ok-times-in-AtSolar
-unfolding env_in
+unfolding env_in solar_of
 returns-in_ok-times-in-AtSolar c =
     let sun = sym c.sun.ensures ∙ known _ _ (sym c.ok_or.ensures.value ∙ c.in_ok-times-in-AtSolar.was) in
     rw (c.in-AtSolar.is, c.then_some-in-AtSolar.ensures)
-    (at-sun (env_of c.args.self.now) _ _ _ _ sun (rw (c.from-at.ensures, c.solar_minute.ensures) at c.minute_due-in-AtSolar.ensures))
+    (at-sun (env_of c.args.self.now) _ _ _ _ sun (rw (c.from-at.ensures, c.solar_time.ensures) at c.minute_due-in-AtSolar.ensures))
 
 pub returns-in_err-times-in-AtSolar : goal.returns-in_err-times-in-AtSolar
 unfolding env_in

@@ -40,3 +40,9 @@ unfolding doing
 returns-in-Rewrite-clause-makes c =
     let e : length c.args.self.now.effects ≡ 327680 = search rules in
     rw (c.in-Rewrite.is, ← e) (c.rewrite.ensures _)
+
+pub returns-in-Readback-clause-makes : goal.returns-in-Readback-clause-makes
+unfolding doing
+returns-in-Readback-clause-makes c =
+    let e : length c.args.self.now.effects ≡ 327680 = search rules in
+    rw (c.in-Readback.is, ← e) c.readback.ensures

@@ -13,8 +13,10 @@ use super::Engine;
 pub(super) mod light;
 mod next_start;
 mod set_back;
+mod solar;
 
 pub use next_start::{next_start, NextStart};
+pub use solar::solar_starts;
 
 /// What a store keeps of an engine, but for the set and the counters.
 #[derive(Clone, Debug, Default, PartialEq)]

@@ -1,6 +1,0 @@
-use native.Mathlib.Omega.{arith}
-use Rattle.words.proofs.Minutes.{solar-is}
-use Rattle.words.proofs.solar_minute.Goals as goal
-
-pub returns : goal.returns
-returns c = solar-is c.args.base c.args.offset (omega arith) c.ranges.offset _ _ _ _ c.cast_signed.ensures c.from-offset_ms.ensures c.from.ensures c.rem_euclid.ensures.value
