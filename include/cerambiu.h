@@ -16,7 +16,7 @@
  *             bytes.
  *   threads   Two calls may run at once if they share no store that either of them writes.
  *   stack     In bytes, at most, for every input, on x86-64: tick 25,064, load 21,144, run 20,792, enable 20,488, next_deadline 20,648,
- *             unload 20,456, counters 15,176, next_start 15,480, readback 15,416, room 14,264, rewrite 13,832, crontab 400, short_list 328,
+ *             unload 20,456, counters 15,176, next_start 15,480, readback 15,416, room 14,264, rewrite 13,832, crontab 400, short_list 120,
  *             telegrams 104, new 56. The gate computes them from the machine code. The return address is in;
  *             not in: what memcpy, memmove and memset use, the arguments that the caller pushes, the dynamic linker, interrupts
  *             (docs/PERFORMANCE.md, "Stack").

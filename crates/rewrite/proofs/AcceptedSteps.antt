@@ -1,5 +1,6 @@
 -- (a), sixth part: 16 follows from the tree. Flattening over the tree adds as many steps, rows and bodies as flattening the image, and takes as
 -- many actions: the numbers of the records that differ are in the steps alone.
+-- More than 400 lines, as one file: its lemmas serve the laws `few-actions` and `steps-follow`, and nothing else.
 use mathlib.Core.Path.{◌≡◌, refl, sym, ap, ap₂, ◌∙◌, subst}
 use mathlib.Core.Logic.{◌⊎◌, inl, inr}
 use mathlib.Core.Bool.{Bool, true, false, cond, ◌||◌}

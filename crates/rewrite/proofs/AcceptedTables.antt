@@ -1,4 +1,5 @@
 -- (a), fifth part: the written words of an accepted image pass 13 and 14.
+-- More than 400 lines, as one file: its lemmas serve the one law `out-passes`, and nothing else.
 use mathlib.Core.Path.{◌≡◌, refl, sym, ap, ap₂, ◌∙◌, subst}
 use mathlib.Core.Bool.{Bool, true, false, cond, not, ◌&&◌, ◌||◌, false≢true}
 use mathlib.Core.List.{List, [], ◌∷◌, ◌++◌}
