@@ -2,7 +2,7 @@
 // changed in place (`bump`).
 #![tactic(auto)]
 
-ghost use Rattle.std.specs.Prelude.{◌≡◌};
+ghost use Rattle.std.specs.Prelude.{◌≡◌, ◌≤◌, MatchOption};
 ghost use Rattle.words.specs.Saturating.{max32, saturating_add};
 ghost use Rattle.model.specs.State.{raised_at};
 ghost use Rattle.counters.specs.Counters.{counters_of, place_of_counter};
@@ -71,4 +71,44 @@ impl Counters {
             Counter::TicksTimeUnsynced => raise(&mut self.ticks_time_unsynced, by),
         }
     }
+}
+
+// The counter of a number, which is its place in the record.
+fn counter_at(which: u32) -> Option<Counter>
+    ensures { MatchOption result (12 ≤ which) (λ x. place_of_counter x ≡ which) }
+{
+    match which {
+        0 => Some(Counter::ActivationsTotal),
+        1 => Some(Counter::ActivationsDry),
+        2 => Some(Counter::SuppressedCooldown),
+        3 => Some(Counter::SuppressedDisabled),
+        4 => Some(Counter::ConditionsRejected),
+        5 => Some(Counter::PartialOutcomes),
+        6 => Some(Counter::EffectsEmitted),
+        7 => Some(Counter::ActionsFailed),
+        8 => Some(Counter::ContinuationsScheduled),
+        9 => Some(Counter::ContinuationsFired),
+        10 => Some(Counter::ContinuationsDropped),
+        11 => Some(Counter::TicksTimeUnsynced),
+        _ => None,
+    }
+}
+
+// For a caller that has the counter's number: it goes up by `by`, and stops at 2^32 - 1. A number past the last changes nothing.
+#[tactic(auto, unfolding(crate::specs::Counters::counters_of))]
+pub fn bump(c: &mut Counters, which: u32, by: u32)
+    ensures { counters_of c.new ≡ raised_at which by (counters_of c.old) }
+{
+    if let Some(counter) = counter_at(which) {
+        c.bump(counter, by);
+    }
+}
+
+// The same, for a caller that has the record by value.
+pub fn with_bump(c: Counters, which: u32, by: u32) -> Counters
+    ensures { counters_of result ≡ raised_at which by (counters_of c) }
+{
+    let mut d = c;
+    bump(&mut d, which, by);
+    d
 }

@@ -1,5 +1,6 @@
 -- A search from the front for the first element that passes a test. Assumes nothing.
-use Prim.Native.Nat.{ℕ, zero, suc, ◌≤◌, ◌<◌}
+use Prim.Native.Nat.{ℕ, zero, suc, ◌+◌, ◌≤◌, ◌<◌}
+use native.Mathlib.Numerals.{add-one}
 use native.Mathlib.Omega.{arith}
 use mathlib.Core.Bool.{Bool, true, false, cond}
 use mathlib.Core.Path.{◌≡◌, refl, sym, ap, subst, ◌∙◌}
@@ -8,7 +9,8 @@ use Rattle.std.specs.Prelude.{Option, None, Some}
 use Rattle.std.specs.List.{AllWithin, HoldsAt}
 use Rattle.std.specs.Option.{MatchOption}
 use lib.ListN.{length, take, drop, get_or, length-map, get_or-map}
-use lib.Seq.{drop-cons, take_all}
+use lib.Seq.{drop-cons, take_all, take-suc}
+use Rattle.std.proofs.lemmas.List.{get_or_default}
 use Rattle.model.specs.Lists.{find}
 use Rattle.state.specs.Tables.{First, Finds}
 
@@ -34,6 +36,19 @@ module _ {A : Type 0} where
 
       pub not_found : length l ≤ i → find p l ≡ None
       not_found h = rw take_all at first.before
+
+    -- a loop from the front: none of the first i passes
+    module _ (l : List A) (i : ℕ) (none_yet : find p (take i l) ≡ None) where
+      pub goes_on : (d : A) → i < length l → p (get_or l i d) ≡ false → find p (take (i + 1) l) ≡ None
+      goes_on d h e = rw (add-one, take-suc l i d h, find-append (take i l) (get_or l i d ∷ []) none_yet, e) refl
+
+      pub stops : (d : A) → i < length l → p (get_or l i d) ≡ true → First p l i
+      stops d h e = record { within = omega arith; before = none_yet; passes = λ f b. ap p (get_or_default l i f d h) ∙ e }
+
+      pub ends : (n : ℕ) → i ≤ n → n ≤ i → n ≡ length l → First p l n
+      ends n a b h =
+          let all : i ≡ n = omega arith in
+          record { within = omega arith; before = rw all at none_yet; passes = λ f k. absurd (omega arith) }
 
 -- what a chain's `position` answers, of elements that say what is tested
 module _ {A B : Type 0} (f : B → A) (p : A → Bool) where

@@ -55,6 +55,10 @@ pub record RowSet (f : ℕ) (p : List ℕ) (i : ℕ) (row p' : List ℕ) : Type 
   pub count : get_or p' 0 0 ≡ get_or p 0 0
   pub behind : drop (1 + get_or p 0 0 * f) p' ≡ drop (1 + get_or p 0 0 * f) p
 
+-- whether word `at` of a row is x
+abbrev pub has_word : ℕ → ℕ → List ℕ → Bool
+has_word at x row = eqb (get_or row at 0) x
+
 -- what the row says at word `at` passes
 abbrev pub passes : {A : Type 0} → Row A → ℕ → (A → Bool) → List ℕ → Bool
 passes r at test row = test (row_at r row at)

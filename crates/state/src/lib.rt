@@ -108,6 +108,15 @@ fn put_minute(w: &mut [u32], minute: Option<u32>)
     put_option(w, place::WEEK, minute);
 }
 
+// For a caller that has the counter's number: it goes up by `by`, and a number past the last changes nothing.
+pub fn bump(v: &mut State, which: u32, by: u32)
+    ensures { Means v.new (base v.old) (with_rest (bump_by which by (meaning v.old).rest) (meaning v.old)) }
+{
+    let c = counters_at(&v.words, place::COUNTERS);
+    let d = counters::with_bump(c, which, by);
+    put_counters(&mut v.words, place::COUNTERS, d);
+}
+
 impl State {
     ghost use Rattle.std.specs.Prelude.{◌≡◌, replicate};
     ghost use Rattle.state.specs.Meaning.{state_words};

@@ -16,6 +16,9 @@ use rows::put::clear;
 use rows::row::Row;
 use rows::tables::{Rows, table_at};
 
+// The word of a row where its due time begins.
+pub const DUE: usize = 3;
+
 // A due slot is due again a period from now.
 #[tactic(auto, unfolding(words::specs::Saturating::saturating_add))]
 fn move_on(x: EverySlot, time: u64) -> EverySlot

@@ -6,7 +6,8 @@
 // serve two of the four tables.
 ghost use Rattle.std.specs.Prelude.{◌≡◌, Bool, IsTrue, cond, [], ◌+◌, ◌-◌, ◌≤◌, ◌<◌, ltb, length, get_or, take};
 ghost use Rattle.model.specs.Lists.{keep};
-ghost use Rattle.state.specs.Cuts.{rows_in, table_of, passes, with_row, HasRoom, Words, Fits, Table, RowSet};
+ghost use Rattle.state.specs.Tables.{First};
+ghost use Rattle.state.specs.Cuts.{rows_in, table_of, has_word, passes, with_row, HasRoom, Words, Fits, Table, RowSet};
 
 use rows::put::clear;
 use rows::row::Row;
@@ -21,6 +22,21 @@ fn row_of(t: &[u32], width: usize, i: usize) -> &[u32]
 {
     let k = 1 + i * width;
     &t[k..k + width]
+}
+
+// The place of the first row whose word `at` is x, and the count where there is none.
+pub fn first_with(t: &[u32], width: usize, at: usize, x: u32) -> usize
+    requires { Fits width t.now × (at < width) }
+    ensures { First (has_word at x) (rows_in width t.now) result }
+{
+    let n = t[0] as usize;
+    for i in 0..n {
+        let word = row_of(t, width, i)[at];
+        if word == x {
+            return i;
+        }
+    }
+    n
 }
 
 // How many of the first m rows stay: those whose value at word `at` passes.
