@@ -44,19 +44,26 @@ fn step_at(list: &[u32], place: u32) -> Option<Step>
     Some(decode(step[0], step[1], step[2], step[3]))
 }
 
+// The words of a list in any part of flat steps, whose own list stands behind `own` steps: list 0 is its own, list p + 1 the body of the
+// after at place p of it.
+pub fn list_of(part: &[u32], own: usize, list: u32) -> &[u32]
+    ensures { result.now ≡ list_words part.now own list }
+{
+    if part.len() / 4 < own {
+        return &[];
+    }
+    if list == 0 {
+        return &part[own * 4..];
+    }
+    after_body(part, own + (list - 1) as usize)
+}
+
 impl<'a> FlatRule<'a> {
-    // The words of one of the rule's lists: list 0 is its own, list p + 1 the body of the after at place p of it.
+    // The words of one of the rule's lists.
     pub fn list_of(&self, list: u32) -> &'a [u32]
         ensures { result.now ≡ list_words self.now.part.now self.now.own list }
     {
-        let len = self.part.len();
-        if len / 4 < self.own {
-            return &[];
-        }
-        if list == 0 {
-            return &self.part[self.own * 4..];
-        }
-        after_body(self.part, self.own + (list - 1) as usize)
+        list_of(self.part, self.own, list)
     }
 
     // The step at a point, if its list is not at its end there.
