@@ -18,6 +18,10 @@ module _ (snapshot : List ℕ) where
   abbrev pub ReadsIn : Rest → Reading → Option ℤ → Type 0
   ReadsIn s x r = (image : List ℕ) (flat : List (List FlatStep)) → r ≡ eval_reading (env_of snapshot image flat) s x
 
+  -- a reading that looks at the snapshot alone
+  abbrev pub Reads : Reading → Option ℤ → Type 0
+  Reads x r = (s : Rest) → ReadsIn s x r
+
   abbrev pub ValueIn : Rest → Value → Option ℤ → Type 0
   ValueIn s x r = (image : List ℕ) (flat : List (List FlatStep)) → r ≡ eval_value (env_of snapshot image flat) s x
 

@@ -2,19 +2,19 @@
 ghost use Rattle.state.specs.Meaning.{meaning};
 ghost use Rattle.eval.specs.Equals.{ReadsIn, ValueIn, ValueAt};
 
-use crate::Env;
-use crate::time::sun_is_up;
+use crate::{Env, time};
 use image::layout::Table;
 use image::record::value_of;
 use model::{Reading, Value, VarValue};
+use state::State;
 
 // No event stands behind these calls.
 // kept: each arm hands on the fields of its own variant, of other numbers and types, which functions of one type in a table could not take.
+// kept: a snapshot and a state, here and in `eval_value`, and no `Env`: a reading looks at no image, so that it can be had where there is none.
 #[tactic(auto, unfolding(model::specs::Eval::eval_reading))]
-pub fn eval_reading(env: &Env, reading: Reading) -> Option<i64>
-    ensures { ReadsIn env.now.snapshot.now (meaning env.now.state.now).rest reading result }
+pub fn eval_reading(snapshot: &[u32], v: &State, reading: Reading) -> Option<i64>
+    ensures { ReadsIn snapshot.now (meaning v.now).rest reading result }
 {
-    let snapshot = env.snapshot;
     match reading {
         Reading::LampLevel(a, i) => world::lamp(snapshot, a, i)?.level.map(i64::from),
         Reading::LampCct(a, i) => world::lamp(snapshot, a, i)?.cct_kelvin.map(i64::from),
@@ -33,14 +33,14 @@ pub fn eval_reading(env: &Env, reading: Reading) -> Option<i64>
                 .last_event_age_ms
                 .map(i64::from)
         }
-        Reading::TimeNow => Some(i64::from(world::wall(snapshot)?.minutes_of_day)),
-        Reading::TimeHour => Some(i64::from(world::wall(snapshot)?.minutes_of_day / 60)),
-        Reading::TimeMinute => Some(i64::from(world::wall(snapshot)?.minutes_of_day % 60)),
-        Reading::TimeWeekday => Some(i64::from(world::wall(snapshot)?.weekday)),
-        Reading::SunRise => Some(i64::from(world::sun(snapshot)?.sunrise_min)),
-        Reading::SunSet => Some(i64::from(world::sun(snapshot)?.sunset_min)),
-        Reading::SunIsUp => Some(i64::from(sun_is_up(snapshot)?)),
-        Reading::Var(name) => match env.state.variable(name)? {
+        Reading::TimeNow => time::time_now(snapshot),
+        Reading::TimeHour => time::time_hour(snapshot),
+        Reading::TimeMinute => time::time_minute(snapshot),
+        Reading::TimeWeekday => time::time_weekday(snapshot),
+        Reading::SunRise => time::sun_rise(snapshot),
+        Reading::SunSet => time::sun_set(snapshot),
+        Reading::SunIsUp => time::sun_up(snapshot),
+        Reading::Var(name) => match v.variable(name)? {
             VarValue::Int(n) => Some(n.cast_signed()),
             VarValue::Text(_) => None,
         },
@@ -52,14 +52,14 @@ pub fn eval_reading(env: &Env, reading: Reading) -> Option<i64>
 }
 
 #[tactic(auto, unfolding(model::specs::Eval::eval_value, words::specs::Signed::clamped))]
-pub fn eval_value(env: &Env, value: Value) -> Option<i64>
-    ensures { ValueIn env.now.snapshot.now (meaning env.now.state.now).rest value result }
+pub fn eval_value(snapshot: &[u32], v: &State, value: Value) -> Option<i64>
+    ensures { ValueIn snapshot.now (meaning v.now).rest value result }
 {
     match value {
         Value::Literal { low, high } => Some(words::join_words(low, high).cast_signed()),
-        Value::Reading { reading } => eval_reading(env, reading),
+        Value::Reading { reading } => eval_reading(snapshot, v, reading),
         Value::Offset { reading, delta } => {
-            let x = eval_reading(env, reading)?;
+            let x = eval_reading(snapshot, v, reading)?;
             Some(x.saturating_add(i64::from(delta.cast_signed())))
         }
     }
@@ -71,5 +71,5 @@ pub fn value_at(env: &Env, i: u32) -> Option<i64>
     ensures { ValueAt env.now i result }
 {
     let value = value_of(env.image.record_at(Table::Values, i))?;
-    eval_value(env, value)
+    eval_value(env.snapshot, env.state, value)
 }

@@ -68,7 +68,7 @@ pub fn lamp_level_is(env: &Env, adapter: u32, id: u32, cmp: Option<Cmp>, value: 
 pub fn lamp_cct_is(env: &Env, adapter: u32, id: u32, cmp: Option<Cmp>, value: u32) -> Option<bool>
     ensures { Evaluates env.now (condition.LampCct adapter id cmp value) result }
 {
-    let left = eval_reading(env, Reading::LampCct(adapter, id))?;
+    let left = eval_reading(env.snapshot, env.state, Reading::LampCct(adapter, id))?;
     let right = value_at(env, value)?;
     Some(compare_i64(cmp, left, right))
 }
@@ -112,7 +112,7 @@ pub fn input_light_is(
     ensures { Evaluates env.now (condition.InputLight adapter address instance above threshold) result }
 {
     let reading = Reading::InputLight(adapter, address, instance);
-    let left = eval_reading(env, reading)?;
+    let left = eval_reading(env.snapshot, env.state, reading)?;
     let bound = value_at(env, threshold)?;
     Some(if above { bound < left } else { left < bound })
 }

@@ -14,7 +14,7 @@ use Rattle.model.specs.State.{Rest, with_rest, with_enabled, add_timer, with_var
 use Rattle.model.specs.declared.VarValue.{VarValue}
 use Rattle.state.specs.Meaning.{Means, meaning, base}
 use Rattle.state.specs.Named.{armed, assigned, lacks_room}
-use Rattle.exec.specs.Results.{Does, struck}
+use Rattle.exec.specs.Results.{Does, Acts, struck}
 use Rattle.exec.specs.Done.{PrimResult, ActionDone, action_done, counted}
 use Rattle.model.specs.declared.Unevaluable.{Unevaluable}
 
@@ -34,6 +34,13 @@ does-fail = record { state = refl; based = refl; effect = refl; reason = refl }
 pub hands-on : {v : List ℕ} (r : PrimResult) → IsErr r → Does v (action_done v r) (model.fails (meaning v).rest)
 hands-on (Ok x) h = absurd (true≢false (sym h))
 hands-on (Err u) h = does-fail
+
+-- what an action did, once it is counted that it failed
+pub acts :
+    (v w : List ℕ) (a : ActionDone) (x : model.PrimResult) (r : PrimResult) → Does v a x → (r ≡ a.answer) × Means w (base a.vol) (counted a.answer (meaning a.vol))
+    → Acts v (action_done w r) x
+acts v w a x r d n =
+    rw n.0 (record { state = record { says = n.1.says ∙ d.state; based = n.1.based ∙ d.based }; effect = d.effect; reason = d.reason })
 
 -- w has the rest s in place of v's: what is answered of w is answered of v
 pub follows :

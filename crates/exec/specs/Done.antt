@@ -27,7 +27,7 @@ abbrev pub counted : PrimResult → Volatile → Volatile
 counted (Ok x) v = v
 counted (Err u) v = with_rest (bump actions_failed v.rest) v
 
--- what an action did; that it failed is not counted yet
+-- what an action did
 pub record ActionDone : Type 0 where
   pub vol : List ℕ
   pub answer : PrimResult

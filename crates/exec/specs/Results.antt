@@ -8,7 +8,7 @@ use Rattle.model.specs.declared.Action.{Action}
 use Rattle.model.specs.Steps.{FlatStep}
 use Rattle.model.specs.declared.VarValue.{VarValue}
 use Rattle.model.specs.Eval.{value_at}
-use Rattle.state.specs.Meaning.{meaning, base}
+use Rattle.state.specs.Meaning.{Means, meaning, base}
 use Rattle.eval.specs.Answers.{env_of}
 use Rattle.model.specs.declared.Job.{Job}
 use Rattle.exec.specs.Done.{PrimResult, ActionDone, action_done, counted, effect_of, reason_of}
@@ -22,6 +22,12 @@ struck (Some q) v = strike q v
 pub record Does (v : List ℕ) (r : ActionDone) (a : model.PrimResult) : Type 0 where
   pub state : counted r.answer (meaning r.vol) ≡ struck a.disables (with_rest a.rest (meaning v))
   pub based : base r.vol ≡ base v
+  pub effect : effect_of r.answer ≡ a.effect
+  pub reason : reason_of r.answer ≡ a.reason
+
+-- the same of an action that is counted where it failed: the state is a's
+pub record Acts (v : List ℕ) (r : ActionDone) (a : model.PrimResult) : Type 0 where
+  pub state : Means r.vol (base v) (struck a.disables (with_rest a.rest (meaning v)))
   pub effect : effect_of r.answer ≡ a.effect
   pub reason : reason_of r.answer ≡ a.reason
 
@@ -40,6 +46,13 @@ module _ (snapshot image : List ℕ) where
   -- action i of the image
   abbrev pub PerformsAt : Job → List ℕ → ℕ → ActionDone → Type 0
   PerformsAt j v i r = (flat : List (List FlatStep)) → Does v r (model.prim_at (env_of snapshot image flat) j (meaning v).rest i)
+
+  -- an action, and action i of the image, with a failure counted
+  abbrev pub ActsIn : Job → List ℕ → Action → ActionDone → Type 0
+  ActsIn j v x r = (flat : List (List FlatStep)) → Acts v r (model.run_prim (env_of snapshot image flat) j (meaning v).rest x)
+
+  abbrev pub ActsAt : Job → List ℕ → ℕ → ActionDone → Type 0
+  ActsAt j v i r = (flat : List (List FlatStep)) → Acts v r (model.prim_at (env_of snapshot image flat) j (meaning v).rest i)
 
 -- the parts of actions that several share
 abbrev pub Arms : List ℕ → Job → List ℕ → ℕ → ℕ → ActionDone → Type 0

@@ -1,18 +1,18 @@
 // A primitive action, by its kind: `run_prim`.
 ghost use Rattle.exec.specs.Done.{action_done};
-ghost use Rattle.exec.specs.Results.{PerformsIn, PerformsAt};
+ghost use Rattle.exec.specs.Results.{PerformsIn, PerformsAt, ActsIn, ActsAt};
 
-use crate::answers::emits;
+use crate::answers::{count_failed, emits};
 use crate::{Env, PrimResult, lights, rules, timers, variables};
 use image::action::action_of;
 use image::layout::Table;
 use model::{Action, EffectKind, Unevaluable};
 use state::State;
 
-// One arm for each kind.
+// One arm for each kind. That it failed is not counted yet.
 // kept: one match over the 24 kinds, of an arm each, and longer than 40 lines for that; parts of it, as it had once, need a clause that says which kinds are left.
 #[tactic(auto, unfolding(model::specs::Actions::run_prim))]
-pub fn run_prim(env: &Env, v: &mut State, action: Action) -> PrimResult
+fn perform(env: &Env, v: &mut State, action: Action) -> PrimResult
     ensures { PerformsIn env.now.snapshot.now env.now.image.now env.now.job v.old action (action_done v.new result) }
 {
     match action {
@@ -90,9 +90,23 @@ pub fn run_prim(env: &Env, v: &mut State, action: Action) -> PrimResult
 }
 
 // Action i of the image.
-pub fn prim_at(env: &Env, v: &mut State, i: u32) -> PrimResult
+pub(crate) fn perform_at(env: &Env, v: &mut State, i: u32) -> PrimResult
     ensures { PerformsAt env.now.snapshot.now env.now.image.now env.now.job v.old i (action_done v.new result) }
 {
     let action = action_of(env.image.record_at(Table::Actions, i)).ok_or(Unevaluable)?;
-    run_prim(env, v, action)
+    perform(env, v, action)
+}
+
+// An action by itself, in no step of a run: whatever came of it, the state is the specification's, with one more failed action where it failed.
+pub fn run_prim(env: &Env, v: &mut State, action: Action) -> PrimResult
+    ensures { ActsIn env.now.snapshot.now env.now.image.now env.now.job v.old action (action_done v.new result) }
+{
+    count_failed(perform(env, v, action), v)
+}
+
+// Action i of the image by itself.
+pub fn prim_at(env: &Env, v: &mut State, i: u32) -> PrimResult
+    ensures { ActsAt env.now.snapshot.now env.now.image.now env.now.job v.old i (action_done v.new result) }
+{
+    count_failed(perform_at(env, v, i), v)
 }

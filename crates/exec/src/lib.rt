@@ -2,7 +2,7 @@
 // equation with a definition of the specification, on what the words mean before it and after it.
 #![tactic(auto)]
 
-mod actions;
+pub mod actions;
 mod answers;
 pub mod dry;
 mod effects;
@@ -59,7 +59,7 @@ impl Env<'_> {
     }
 }
 
-// What came of an action: at most one effect. One that cannot be evaluated is an error up to `steps::after_prim`, which counts it.
+// What came of an action: at most one effect. One that cannot be evaluated is an error, which `answers::count_failed` counts.
 pub type PrimResult = Result<Option<Effect>, Unevaluable>;
 
 // What came of one paid step: at most one effect, and where the run goes on, if it does.

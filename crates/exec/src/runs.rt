@@ -14,6 +14,13 @@ use model::Point;
 use state::State;
 use state::reasons::Reason;
 
+// The first reason stays. By its number, 0 for none: also of numbers that no reason has.
+pub fn first_reason(a: u32, b: u32) -> u32
+    ensures { result ≡ first_reason a b }
+{
+    if a == 0 { b } else { a }
+}
+
 // The first reason stays.
 pub fn note_partial(a: Option<Reason>, b: Option<Reason>) -> Option<Reason>
     ensures { reason_number result ≡ first_reason (reason_number a) (reason_number b) }

@@ -7,10 +7,10 @@ ghost use Rattle.state.specs.Reasons.{reason_number};
 ghost use Rattle.exec.specs.Done.{action_done, step_done};
 ghost use Rattle.exec.specs.Paid.{Follows, GoesOn, SchedulesOf, StepsAlways, StepsAt, StepsIn};
 
-use crate::actions::prim_at;
+use crate::actions::perform_at;
+use crate::answers::count_failed;
 use crate::places::{advance, body_start, enter_then};
 use crate::{Env, PrimResult, StepResult};
-use counters::Counter;
 use eval::conditions::condition_at;
 use flat::Placed;
 use model::{Point, Step, Unevaluable};
@@ -18,22 +18,19 @@ use state::State;
 use state::pending::Continuation;
 use state::reasons::Reason;
 
-// What an action did, and the run goes on. One that failed is counted, here and nowhere else.
+// What an action did, and the run goes on. One that failed is counted.
 fn after_prim(v: &mut State, a: PrimResult, to: Point) -> StepResult
     ensures { Follows (action_done v.old a) to (step_done v.new result) }
 {
-    match a {
+    match count_failed(a, v) {
         Ok(effect) => StepResult {
             effect,
             ..goes_on(to)
         },
-        Err(Unevaluable) => {
-            v.bump(Counter::ActionsFailed, 1);
-            StepResult {
-                reason: Some(Reason::ConditionUnevaluable),
-                ..goes_on(to)
-            }
-        }
+        Err(Unevaluable) => StepResult {
+            reason: Some(Reason::ConditionUnevaluable),
+            ..goes_on(to)
+        },
     }
 }
 
@@ -51,7 +48,7 @@ pub fn goes_on(to: Point) -> StepResult
 pub fn primitive(env: &Env, v: &mut State, here: Placed, i: u32) -> StepResult
     ensures { (b : ℕ) → StepsIn env.now.snapshot.now env.now.image.now env.now.job v.old b here.point (Primitive i) (step_done v.new result) }
 {
-    let done = prim_at(env, v, i);
+    let done = perform_at(env, v, i);
     after_prim(v, done, advance(here.point, 0))
 }
 
