@@ -66,8 +66,8 @@ fn job_of(image: &Image, i: u32, trigger: u32, dry: bool, number: u64) -> Job
 }
 
 // Rule i, by a trigger kind of an outcome, with its part of the flat steps.
-// kept: snapshot, image, rule and i side by side, here and in `resume`: a struct of them would be made by each of the three callers, wheel's two and engine's, for this
-// one call, and be taken apart here for the `Env`. That is written out in both: a function of the two would take the six fields that differ.
+// kept: snapshot, image, rule and i side by side, here and in the two below: a struct of them would be made by each of the three callers, wheel's two and engine's, for this
+// one call, and be taken apart there for the `Env`. That is written out in both: a function of the two would take the six fields that differ.
 pub fn activate(
     snapshot: &[u32],
     image: &Image,
@@ -81,8 +81,25 @@ pub fn activate(
     requires room { Room 1 (carried_by lent.old) }
     ensures { Over (Activates snapshot.now image.now rule.now.part.now rule.now.own i (trigger_number kind) mode) lent.old lent.new }
 {
+    activate_by_number(snapshot, image, rule, lent, i, u32::from(kind), mode);
+}
+
+// The same by the number of a trigger kind. It may be any number: the outcome has it as it is.
+pub fn activate_by_number(
+    snapshot: &[u32],
+    image: &Image,
+    rule: &FlatRule,
+    lent: &mut Lent,
+    i: u32,
+    kind: u32,
+    mode: Mode,
+)
+    requires accepted { Accepted image.now }
+    requires room { Room 1 (carried_by lent.old) }
+    ensures { Over (Activates snapshot.now image.now rule.now.part.now rule.now.own i kind mode) lent.old lent.new }
+{
     let dry = mode.is_dry();
-    let job = job_of(image, i, u32::from(kind), dry, 0);
+    let job = job_of(image, i, kind, dry, 0);
     let env = Env {
         snapshot,
         image,
@@ -97,7 +114,8 @@ pub fn activate(
                 lent.state.bump(Counter::PartialOutcomes, 1);
             }
             let effects = lent.handled.effects;
-            lent.push_outcome(job, Some(Reason::ConditionUnevaluable), effects);
+            // kept: by the number: must-fail/reason_3.edit gives another one here, which a fact refuses.
+            lent.push_by_number(job, Reason::ConditionUnevaluable as u32, effects);
         }
     }
 }

@@ -13,8 +13,8 @@ use state::reasons::Reason;
 // Outcome n, of a job, with `count` effects from effect `first` on.
 // kept: no `rows::row::Row` of an outcome: its codec would be one more definition of the eight words, beside `outcome_words` of the specification, and the record that
 // it is of would be made here alone and read nowhere. No `get_mut` of the eight either: the library promises nothing of what a slice ends as after it.
-fn put_outcome(lent: &mut [u32], n: u32, job: Job, reason: Option<Reason>, first: u32, count: u32)
-    ensures { Puts lent.old n job (reason_number reason) first count lent.new }
+fn put_outcome(lent: &mut [u32], n: u32, job: Job, reason: u32, first: u32, count: u32)
+    ensures { Puts lent.old n job reason first count lent.new }
 {
     let k = n as usize * OUTCOME_WORDS;
     if k + OUTCOME_WORDS <= lent.len() {
@@ -22,7 +22,7 @@ fn put_outcome(lent: &mut [u32], n: u32, job: Job, reason: Option<Reason>, first
             job.rule,
             u32::from(job.dry),
             job.trigger,
-            reason.map_or(0, u32::from),
+            reason,
             first,
             count,
             words::low_word(job.number),
@@ -36,6 +36,15 @@ impl Lent<'_> {
     pub fn push_outcome(&mut self, job: Job, reason: Option<Reason>, effects: u32)
         requires { (self.old.handled.outcomes < max32) × (self.old.handled.effects ≤ effects) }
         ensures pushed { Pushes self.old.handled self.old.outcomes.now job (reason_number reason) effects self.new.handled self.new.outcomes.now }
+        ensures same { SameLent self.old self.new × (self.new.effects.now ≡ self.old.effects.now) × (self.new.state.now ≡ self.old.state.now) }
+    {
+        self.push_by_number(job, reason.map_or(0, u32::from), effects);
+    }
+
+    // The same by the number of a reason, 0 for none. It may be any number: the outcome has it as it is.
+    pub(crate) fn push_by_number(&mut self, job: Job, reason: u32, effects: u32)
+        requires { (self.old.handled.outcomes < max32) × (self.old.handled.effects ≤ effects) }
+        ensures pushed { Pushes self.old.handled self.old.outcomes.now job reason effects self.new.handled self.new.outcomes.now }
         ensures same { SameLent self.old self.new × (self.new.effects.now ≡ self.old.effects.now) × (self.new.state.now ≡ self.old.state.now) }
     {
         let Handled {

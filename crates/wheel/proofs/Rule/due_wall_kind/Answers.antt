@@ -1,27 +1,8 @@
 -- `wheel::Rule::due_wall_kind` meets its contract. Assumes nothing.
-use Rattle.std.proofs.Common.{Ok}
-use mathlib.Core.Path.{ap, ◌∙◌}
-use Rattle.wheel.specs.Given.{env_of}
-use Rattle.wheel.proofs.DueKind.{starts, ends-here, goes, misses, ends}
+use Rattle.model.specs.Flat.{flatten_rules, set_of}
+use Rattle.eval.specs.Answers.{env_in}
 use Rattle.wheel.proofs.Rule.due_wall_kind.Goals as goal
 
-pub loop-trigger-init : goal.loop-trigger-init
-loop-trigger-init c =
-    starts (env_of c.args.self.now.env.now) _ _ _ _ _ (c.into_iter-trigger-iterator.ensures.into_iter_gives ∙ c.triggers-trigger-items.ensures.0)
-
-pub returns-in-Ok-Some : goal.returns-in-Ok-Some
-returns-in-Ok-Some c =
-    let is = c.in-Ok-Some.is ∙ ap Ok c.in-Ok-Some.field-0-is in
-    ends-here (env_of c.args.self.now.env.now) _ _ _ _ _ _ _ _ c.loop-trigger.invariant c.in-Some.ensures.steps c.trigger_kind.ensures _ is
-
-pub loop-trigger-preserved-in-Ok-None : goal.loop-trigger-preserved-in-Ok-None
-loop-trigger-preserved-in-Ok-None c =
-    let is = c.in-Ok-None.is ∙ ap Ok c.in-Ok-None.field-0-is in
-    goes (env_of c.args.self.now.env.now) _ _ _ _ _ _ _ _ c.loop-trigger.invariant c.in-Some.ensures.steps c.trigger_kind.ensures is
-
-pub loop-trigger-preserved : goal.loop-trigger-preserved
-loop-trigger-preserved c =
-    misses (env_of c.args.self.now.env.now) _ _ _ _ _ _ _ _ c.loop-trigger.invariant c.in-Some.ensures.steps c.trigger_kind.ensures _ c.in-Err.is
-
 pub returns : goal.returns
-returns c = ends (env_of c.args.self.now.env.now) _ _ _ _ _ _ c.in-None.ensures.steps.0 c.loop-trigger.invariant
+unfolding env_in set_of
+returns c = let image = c.args.self.now.env.now.image.now in c.due_wall_kind.ensures image (set_of image (flatten_rules image)).flat
