@@ -31,6 +31,10 @@ gathers_then {o} {p} {r} {xs} {ys} f g =
 pub gathers_lines : {o p r : Output} {xs ys lines : List ℕ} → Gathers o xs p → Gathers p ys r → xs ++ ys ≡ lines → Gathers o lines r
 gathers_lines f g e = gathers_by (gathers_then f g) e
 
+-- three pieces
+pub gathers_three : {o p q r : Output} {xs ys zs lines : List ℕ} → Gathers o xs p → Gathers p ys q → Gathers q zs r → xs ++ (ys ++ zs) ≡ lines → Gathers o lines r
+gathers_three {xs = xs} {ys = ys} {zs = zs} f g h e = gathers_by (gathers_then (gathers_then f g) h) (append_assoc xs ys zs ∙ e)
+
 -- all of it has gone out
 pub gathers_gone : (o r : Output) (text : List ℕ) → r.bytes.items ≡ [] → Gathers o text r
 gathers_gone o r text e = record { gone = o.bytes.items ++ text; bytes-stand = ap (λ (l : List ℕ). (o.bytes.items ++ text) ++ l) e ∙ append-nil (o.bytes.items ++ text) }
@@ -57,6 +61,6 @@ numbers-append : (xs ys : List ℕ) → numbers (xs ++ ys) ≡ numbers xs ++ num
 numbers-append [] ys = refl
 numbers-append (x ∷ xs) ys = rw (numbers-append xs ys, append_assoc)
 
-pub words_more : (ws : List ℕ) (at i v : ℕ) → v ≡ get_or ws (at + i) 0 → numbers (words_at ws at i) ++ (32 ∷ decimal v) ≡ numbers (words_at ws at (i + 1))
+pub words_more : (ws : List ℕ) (at i v : ℕ) → v ≡ get_or ws (at + i) 0 → numbers (words_at ws at i) ++ numbers (v ∷ []) ≡ numbers (words_at ws at (i + 1))
 unfolding words_at
-words_more ws at i v e = rw (add-one, ← e, numbers-append (words_at ws at i) (v ∷ []), append-nil) refl
+words_more ws at i v e = rw (add-one, ← e, numbers-append (words_at ws at i) (v ∷ [])) refl

@@ -1,21 +1,40 @@
-// What is printed for the values of an answer. A line is one `writeln!`: the check compares its text with the definition's.
+// What is printed for the values of an answer. The check compares the text of a `write!` with the definition's.
 #![tactic(auto, using(crate::proofs::Gathering::gathers_by))]
 
-ghost use Rattle.std.specs.Prelude.{◌≤◌, ◌==◌, [], get_or};
+ghost use Rattle.std.specs.Prelude.{◌≤◌, ◌<◌, ◌+◌, ◌^◌, ◌==◌, ◌++◌, [], get_or};
 ghost use Rattle.model.specs.Text.{bytes_of};
 ghost use Rattle.script.specs.Print.{numbers, signed, line, refused_line, enabled_line, peek_line, handled_line};
 ghost use Rattle.play.specs.Printed.{words_at, row_line, row_lines, effect_lines, outcome_at, outcome_with, outcome_lines, handled_lines, deadline_of, telegram_lines, trigger_lines, start_lines, room_lines, place_lines, rewrite_lines, solar_line, solar_lines, readback_lines};
 ghost use Rattle.play.specs.Gathered.{Gathers};
 
 use crate::output::Output;
-use crate::shown::{self, Words};
-use script::{Call, Signed};
+use script::Call;
+
+// Words of a store, which end a line.
+#[tactic(auto, using(crate::proofs::Gathering::gathers_lines))]
+fn last(out: &mut Output, words: &[u32], at: usize, count: usize)
+    requires { at + count < 2 ^ 64 }
+    ensures { Gathers out.old (numbers (words_at words.now at count) ++ bytes_of "\n") out.new }
+{
+    out.words(words, at, count);
+    out.text(b"\n")
+}
+
+// A name, and words of a store behind it.
+#[tactic(auto, using(crate::proofs::Gathering::gathers_lines))]
+fn named(out: &mut Output, name: &str, words: &[u32], at: usize, count: usize)
+    requires { at + count < 2 ^ 64 }
+    ensures { Gathers out.old (line name.now (numbers (words_at words.now at count))) out.new }
+{
+    out.text(name.as_bytes());
+    last(out, words, at, count)
+}
 
 // A refusal of any call.
 pub fn refused(out: &mut Output, call: Call, number: u32)
     ensures { Gathers out.old (refused_line call number) out.new }
 {
-    writeln!(out, "{call} refused {number}")
+    writeln!(out, "{} refused {number}", call.name())
 }
 
 pub fn enabled(out: &mut Output, rule: u32, answer: &[u32; 16])
@@ -28,7 +47,7 @@ pub fn enabled(out: &mut Output, rule: u32, answer: &[u32; 16])
 pub fn counters(out: &mut Output, answer: &[u32; 16])
     ensures { Gathers out.old (line (bytes_of "counters") (numbers (words_at answer.now 0 16))) out.new }
 {
-    writeln!(out, "counters{}", shown::first(answer, 16))
+    named(out, "counters", answer, 0, 16)
 }
 
 pub fn peeked(out: &mut Output, place: u64, word: u32)
@@ -41,23 +60,23 @@ pub fn peeked(out: &mut Output, place: u64, word: u32)
 pub fn room(out: &mut Output, answer: &[u32; 16])
     ensures { Gathers out.old (room_lines answer.now []) out.new }
 {
-    writeln!(out, "room{}", shown::first(answer, 2))
+    named(out, "room", answer, 0, 2)
 }
 
 // A short list: its length and three places.
 pub fn short_list(out: &mut Output, answer: &[u32; 16])
     ensures { Gathers out.old (place_lines answer.now []) out.new }
 {
-    writeln!(out, "shortlist{}", shown::first(answer, 4))
+    named(out, "shortlist", answer, 0, 4)
 }
 
 // An image written anew: how many words it has, and these.
 pub fn rewrite(out: &mut Output, answer: &[u32; 16], image: &[u32])
     ensures { Gathers out.old (rewrite_lines answer.now image.now) out.new }
 {
-    let count = shown::first(answer, 1);
-    let words = shown::first(image, answer[0] as usize);
-    writeln!(out, "rewrite{count}{words}")
+    out.text(b"rewrite");
+    out.words(answer, 0, 1);
+    last(out, image, 0, answer[0] as usize)
 }
 
 // The words of a record that a line shows: so many from word `from` on, of `width`.
@@ -74,12 +93,7 @@ fn row(out: &mut Output, name: &str, x: Columns, ws: &[u32], i: usize)
     requires within { i ≤ 8589934592 }
     ensures { Gathers out.old (row_line name.now x ws.now i) out.new }
 {
-    let words = Words {
-        words: ws,
-        at: x.width * i + x.from,
-        count: x.shown,
-    };
-    writeln!(out, "{name}{words}")
+    named(out, name, ws, x.width * i + x.from, x.shown)
 }
 
 // So many records of a lent store, from number `first` on.
@@ -109,17 +123,9 @@ fn outcome_line(out: &mut Output, i: u32, outcomes: &[u32])
     ensures { Gathers out.old (outcome_at outcomes.now i) out.new }
 {
     let at = activate::OUTCOME_WORDS * i as usize;
-    let fields = Words {
-        words: outcomes,
-        at,
-        count: 4,
-    };
-    let effects = Words {
-        words: outcomes,
-        at: at + 5,
-        count: 1,
-    };
-    writeln!(out, "rule{fields}{effects}")
+    out.text(b"rule");
+    out.words(outcomes, at, 4);
+    last(out, outcomes, at + 5, 1)
 }
 
 // Outcome i and its effects.
@@ -149,7 +155,7 @@ fn outcomes_of(out: &mut Output, count: u32, outcomes: &[u32], effects: &[u32])
 fn handled_line(out: &mut Output, call: Call, time: u64, count: u32)
     ensures { Gathers out.old (handled_line call time count) out.new }
 {
-    writeln!(out, "{call} {time} {count}")
+    writeln!(out, "{} {time} {count}", call.name())
 }
 
 // A tick or a run at a time: its outcomes.
@@ -215,18 +221,21 @@ pub fn start(out: &mut Output, answer: &[u32; 16])
     }
 }
 
+// A signed word, which ends a line.
+fn signed_last(out: &mut Output, word: u32)
+    ensures { Gathers out.old (signed word ++ bytes_of "\n") out.new }
+{
+    writeln!(out, " {}", word.cast_signed())
+}
+
 // Solar start i: mark, minute, signed remainder.
 fn solar_start(out: &mut Output, i: u32, starts: &[u32])
     ensures { Gathers out.old (solar_line starts.now i) out.new }
 {
     let at = solar::START_WORDS * i as usize;
-    let time = Words {
-        words: starts,
-        at,
-        count: 2,
-    };
-    let remainder = Signed(fields::word(starts, at + 2));
-    writeln!(out, "start{time}{remainder}")
+    out.text(b"start");
+    out.words(starts, at, 2);
+    signed_last(out, fields::word(starts, at + 2))
 }
 
 #[tactic(auto, using(crate::proofs::Gathering::gathers_none, crate::proofs::Gathering::gathers_then))]

@@ -5,7 +5,6 @@ mod answers;
 mod calls;
 mod output;
 mod player;
-mod shown;
 
 use player::Player;
 

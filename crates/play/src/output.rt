@@ -1,9 +1,12 @@
 // What is printed is gathered in a buffer, and written out when it is full and whenever all input that has come is played. A line is gathered piece
 // by piece, so that it may have any width. The buffer is an array, since a player that asks for no memory cannot run out of it.
-ghost use Rattle.std.specs.Prelude.{◌≡◌, [], IfSome};
+ghost use Rattle.std.specs.Prelude.{◌≡◌, ◌+◌, ◌<◌, ◌^◌, [], IfSome};
+ghost use Rattle.script.specs.Print.{numbers};
+ghost use Rattle.play.specs.Printed.{words_at};
 ghost use Rattle.play.specs.Gathered.{Gathers};
 
 use arrayvec::ArrayVec;
+use script::put;
 use std::fmt;
 use std::io::{Print, Stdout};
 
@@ -41,14 +44,41 @@ impl Output {
         self.bytes.clear();
     }
 
-    // What `write!` calls. A value that cannot be formatted ends the output.
+    // Bytes as they are. A piece that is longer than the buffer goes out behind what was gathered.
+    #[tactic(auto, using(crate::proofs::Gathering::gathers_gone))]
+    pub fn text(&mut self, bytes: &[u8])
+        ensures { Gathers self.old bytes.now self.new }
+    {
+        if self.bytes.try_extend_from_slice(bytes).is_err() {
+            self.flush();
+            if self.bytes.try_extend_from_slice(bytes).is_err() {
+                self.to = send(self.to, bytes);
+            }
+        }
+    }
+
+    // What `write!` calls. A value that cannot be formatted ends the output. The library's `Display` promises nothing of a `fmt` that fails, so what is printed here are texts and
+    // numbers, whose `fmt` is the library's.
     #[tactic(auto, using(crate::proofs::Gathering::gathers_text, crate::proofs::Gathering::gone_text))]
     pub fn write_fmt<D: fmt::Display + Drop>(&mut self, value: D)
         ensures { IfSome (D.output value) (λ text. Gathers self.old text self.new) }
     {
         if let Err(fmt::Error) = fmt::Write::write_fmt(self, value) {
-            self.bytes.clear();
+            self.flush();
             self.to = None;
+        }
+    }
+
+    // Words of a store from a place on, each behind a space, and 0 past its end.
+    pub fn words(&mut self, words: &[u32], at: usize, count: usize)
+        requires { at + count < 2 ^ 64 }
+        ensures { Gathers self.old (numbers (words_at words.now at count)) self.new }
+    {
+        // kept: places, since a word past the end is printed too, as zero.
+        for i in 0..count {
+            let mut piece = [0u8; 32];
+            let n = put::number(&mut piece, 0, u64::from(fields::word(words, at + i)));
+            self.text(&piece[..n]);
         }
     }
 }
@@ -56,13 +86,8 @@ impl Output {
 impl fmt::Write for Output {
     ghost write_str_gives = { Gathers };
 
-    #[tactic(auto, using(crate::proofs::Gathering::gathers_gone))]
     fn write_str(&mut self, s: &str) -> fmt::Result {
-        let bytes = s.as_bytes();
-        if self.bytes.try_extend_from_slice(bytes).is_err() {
-            self.flush();
-            self.to = send(self.to, bytes);
-        }
+        self.text(s.as_bytes());
         Ok(())
     }
 }

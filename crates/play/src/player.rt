@@ -9,13 +9,17 @@ use crate::calls::{Lent, Said};
 use crate::output::Output;
 use arrayvec::ArrayVec;
 use script::calls::LIST_WORDS;
-use script::{Command, Wrong, WrongLine};
+use script::complain::wrong_line;
+use script::{Command, Wrong};
 use std::io::{Read, Stdin, Stdout};
 
 // The bytes of the longest line, and of the buffer that tells a longer one.
 const LINE_BYTES: usize = 262144;
 
 const LINE_ROOM: usize = LINE_BYTES + 1;
+
+// Bytes for the line that says what is wrong with one.
+const WRONG_BYTES: usize = 1024;
 
 // Where a script stands: lines ended, the line that is being read, the list of the line before, what is lent, the output. Of a line its buffer has room
 // for one byte more than a line may have: a line that is longer has that byte too, and what follows is not kept.
@@ -71,8 +75,9 @@ impl Player {
                 self.lent.obey(&said, &mut self.output);
             }
             Err(wrong) => {
-                let line = self.number;
-                write!(self.output, "{}", WrongLine { line, wrong });
+                let mut said = [0u8; WRONG_BYTES];
+                let n = wrong_line(&mut said, self.number, wrong);
+                self.output.text(&said[..n]);
             }
         }
     }

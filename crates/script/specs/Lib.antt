@@ -3,3 +3,4 @@ pub mod Words
 pub mod Script
 pub mod Scan
 pub mod Print
+pub mod Put

@@ -88,3 +88,38 @@ calls = New ∷ Load ∷ Unload ∷ Enable ∷ Tick ∷ Run ∷ Deadline ∷ Cou
 -- the largest number of a call's parameter i, and 0 where it has none
 abbrev pub largest_of : Call → ℕ → ℕ
 largest_of call i = get_or (map most_of (rows call).params) i 0
+
+-- BY NUMBER --------------------------------------------------------------------------------------------------------------------------
+-- the rows in the order of the calls' numbers; a number of no call has no name and no parameters, and nothing stands behind it
+unfoldable pub all_rows : List Row
+all_rows = map rows calls
+
+abbrev pub row_of : List Row → ℕ → Row
+row_of t call = get_or t call (row "" [] Nothing)
+
+-- the numbers of the parameters, and that of none
+abbrev pub no_param : ℕ
+no_param = 12
+
+abbrev pub number_of : Param → ℕ
+number_of Time = 0
+number_of Rule = 1
+number_of Mark = 2
+number_of DryMark = 3
+number_of OutcomeWords = 4
+number_of EffectWords = 5
+number_of WordCount = 6
+number_of Place = 7
+number_of Word = 8
+number_of Room = 9
+number_of Sunday = 10
+number_of TriggerWords = 11
+number_of ListNumber = 13
+number_of ActionWords = 14
+number_of ValueWords = 15
+number_of PoolWords = 16
+number_of StartWords = 17
+
+-- the largest number of parameter i of the call of a number, and 0 where it has none
+abbrev pub largest_at : ℕ → ℕ → ℕ
+largest_at call i = get_or (map most_of (row_of all_rows call).params) i 0

@@ -1,11 +1,9 @@
 // The table of calls: the rows of the definition.
-ghost use Rattle.std.specs.Prelude.{◌≡◌, ◌≤◌, Some, length};
+ghost use Rattle.std.specs.Prelude.{◌≡◌, ◌≤◌, ltb, length, map, get_or};
 ghost use Rattle.std.specs.Str.{bytes_eq};
-ghost use Rattle.script.specs.Table.{rows, param_name, most_of};
+ghost use Rattle.script.specs.Table.{rows, param_name, most_of, all_rows, row_of, no_param, number_of, largest_at};
 ghost use Rattle.script.specs.Script.{call_named};
 ghost use Rattle.script.specs.Print.{call_name};
-
-use std::fmt;
 
 // The words that a script can have lent for outcomes and for effects, and the words of a list.
 pub const OUTCOME_WORDS: usize = 24576;
@@ -59,12 +57,15 @@ pub enum Param {
     Room,
     Sunday,
     TriggerWords,
-    ListNumber,
+    ListNumber = 13,
     ActionWords,
     ValueWords,
     PoolWords,
     StartWords,
 }
+
+// The number of no parameter.
+const NO_PARAM: u32 = 12;
 
 // What stands behind the numbers of a call.
 #[derive(Clone, Copy, PartialEq, Eq)]
@@ -180,6 +181,12 @@ impl Call {
         self.shape().tail
     }
 
+    pub fn name(self) -> &'static str
+        ensures { result.now ≡ call_name self }
+    {
+        self.shape().name
+    }
+
     fn is_named(self, word: &[u8]) -> bool
         ensures { result ≡ bytes_eq (rows self).name word.now }
     {
@@ -195,16 +202,63 @@ impl Call {
     }
 }
 
-impl fmt::Display for Call {
-    ghost output = { λ call. Some (call_name call) };
+// The row of the call of a number; that of no call has no name and no parameters, and nothing stands behind it.
+fn row(call: u32) -> Shape
+    ensures name { result.name.now ≡ (row_of all_rows call).name }
+    ensures short { length result.name.now ≤ 32 }
+    ensures params { result.params.now ≡ (row_of all_rows call).params }
+    ensures tail { result.tail ≡ (row_of all_rows call).tail }
+{
+    match CALLS.get(call as usize) {
+        Some(call) => call.shape(),
+        None => Shape::new("", &[], Tail::Nothing),
+    }
+}
 
-    fn fmt<W: fmt::Write>(&self, f: &mut fmt::Formatter<W>) -> fmt::Result {
-        f.write_str(self.shape().name)
+// The name of the call of a number.
+pub(crate) fn name_of(call: u32) -> &'static str
+    ensures name { result.now ≡ (row_of all_rows call).name }
+    ensures short { length result.now ≤ 32 }
+{
+    row(call).name
+}
+
+// What stands behind the numbers of a call, by the call's number.
+pub fn tail_of(call: u32) -> Tail
+    ensures { result ≡ (row_of all_rows call).tail }
+{
+    row(call).tail
+}
+
+// The number of parameter i of a call; 12 where it has none.
+pub fn param_at(call: u32, i: u32) -> u32
+    ensures { result ≡ get_or (map number_of (row_of all_rows call).params) i no_param }
+{
+    match row(call).params.get(i as usize) {
+        Some(param) => *param as u32,
+        None => NO_PARAM,
+    }
+}
+
+// Whether a call has parameter i.
+pub fn has_param(call: u32, i: u32) -> bool
+    ensures { result ≡ ltb i (length (row_of all_rows call).params) }
+{
+    (i as usize) < row(call).params.len()
+}
+
+// Its largest number; 0 where the call has no parameter i.
+pub fn largest(call: u32, i: u32) -> u64
+    ensures { result ≡ largest_at call i }
+{
+    match row(call).params.get(i as usize) {
+        Some(param) => param.most(),
+        None => 0,
     }
 }
 
 impl Param {
-    fn name(self) -> &'static str
+    pub fn name(self) -> &'static str
         ensures { result.now ≡ param_name self }
     {
         match self {
@@ -247,13 +301,5 @@ impl Param {
             Param::TriggerWords => TRIGGER_WORDS as u64,
             Param::StartWords => START_WORDS as u64,
         }
-    }
-}
-
-impl fmt::Display for Param {
-    ghost output = { λ param. Some (param_name param) };
-
-    fn fmt<W: fmt::Write>(&self, f: &mut fmt::Formatter<W>) -> fmt::Result {
-        f.write_str(self.name())
     }
 }

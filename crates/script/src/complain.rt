@@ -1,9 +1,11 @@
 // The line for text that is no call.
-ghost use Rattle.std.specs.Prelude.{Some};
-ghost use Rattle.script.specs.Print.{over_text, wrong_text, wrong_line, signed};
+ghost use Rattle.std.specs.Prelude.{◌+◌, ◌≤◌, [], ◌∷◌, ◌++◌, length};
+ghost use Rattle.script.specs.Table.{param_name, most_of};
+ghost use Rattle.script.specs.Print.{numbers, of_call, over_text, wrong_text, wrong_line};
+ghost use Rattle.script.specs.Put.{Puts, Prints};
 
+use crate::put::{number, text};
 use crate::{Call, Param};
-use std::fmt;
 
 // What is wrong with a line. The words of a list are numbered from 0.
 #[derive(Clone, Copy, PartialEq, Eq)]
@@ -23,70 +25,109 @@ pub enum Wrong {
 // The largest word.
 const WORD_MOST: u64 = u32::MAX as u64;
 
-// What is wrong with a number over the largest.
-#[derive(Clone, Copy)]
-struct Over(u64);
-
-impl fmt::Display for Over {
-    ghost output = { λ most. Some (over_text most.0) };
-
-    fn fmt<W: fmt::Write>(&self, f: &mut fmt::Formatter<W>) -> fmt::Result {
-        match self.0 {
-            u64::MAX => write!(f, " does not fit into 64 bits"),
-            WORD_MOST => write!(f, " does not fit into 32 bits"),
-            1 => write!(f, " is neither 0 nor 1"),
-            most => write!(f, " is over {most}"),
+// What is wrong with a number over the largest, put into lent bytes as `put` says; and so below. None of these types prints itself: the library's `Display` promises nothing of a `fmt` that fails.
+fn put_over(buf: &mut [u8], at: usize, most: u64) -> usize
+    requires { at + 64 ≤ length buf.old }
+    ensures { Puts buf.old at 2 (over_text most) buf.new result }
+{
+    match most {
+        u64::MAX => text(buf, at, b" does not fit into 64 bits"),
+        WORD_MOST => text(buf, at, b" does not fit into 32 bits"),
+        1 => text(buf, at, b" is neither 0 nor 1"),
+        _ => {
+            let a = text(buf, at, b" is over");
+            number(buf, a, most)
         }
     }
 }
 
-impl fmt::Display for Wrong {
-    ghost output = { λ wrong. Some (wrong_text wrong) };
+// A call's name, a colon and a text.
+fn of_call(buf: &mut [u8], at: usize, call: Call, bytes: &[u8]) -> usize
+    requires { (at + 96 ≤ length buf.old) × (length bytes.now ≤ 32) }
+    ensures { Puts buf.old at 3 (of_call call bytes.now) buf.new result }
+{
+    let a = text(buf, at, call.name().as_bytes());
+    let b = text(buf, a, b": ");
+    text(buf, b, bytes)
+}
 
-    fn fmt<W: fmt::Write>(&self, f: &mut fmt::Formatter<W>) -> fmt::Result {
-        match *self {
-            Wrong::NoSuchCall => write!(f, "no such call"),
-            Wrong::Missing { call, param } => write!(f, "{call}: {param} is missing"),
-            Wrong::NotDecimal { call, param } => write!(f, "{call}: {param} is no decimal number"),
-            Wrong::OutOfRange { call, param } => write!(f, "{call}: {param}{}", Over(param.most())),
-            Wrong::WordNotDecimal { call, word } => {
-                write!(f, "{call}: word {word} is no decimal number")
-            }
-            Wrong::WordOutOfRange { call, word } => {
-                write!(f, "{call}: word {word}{}", Over(WORD_MOST))
-            }
-            Wrong::TooFewWords { call } => write!(f, "{call}: a word too few"),
-            Wrong::TooManyWords { call } => write!(f, "{call}: a word too many"),
-            Wrong::ListTooLong { call, room } => write!(f, "{call}: more than {room} words"),
-            Wrong::LineTooLong => write!(f, "line too long"),
+// A call's parameter and a text.
+fn of_param(buf: &mut [u8], at: usize, call: Call, param: Param, bytes: &[u8]) -> usize
+    requires { (at + 128 ≤ length buf.old) × (length bytes.now ≤ 32) }
+    ensures { Puts buf.old at 4 (of_call call (param_name param ++ bytes.now)) buf.new result }
+{
+    let a = of_call(buf, at, call, param.name().as_bytes());
+    text(buf, a, bytes)
+}
+
+// A call's parameter, over its largest number.
+fn param_over(buf: &mut [u8], at: usize, call: Call, param: Param) -> usize
+    requires { at + 160 ≤ length buf.old }
+    ensures { Puts buf.old at 5 (of_call call (param_name param ++ over_text (most_of param))) buf.new result }
+{
+    let a = of_call(buf, at, call, param.name().as_bytes());
+    put_over(buf, a, param.most())
+}
+
+// A call, a text, a number and a text.
+fn counted(buf: &mut [u8], at: usize, call: Call, bytes: &[u8], n: u64, more: &[u8]) -> usize
+    requires { (at + 160 ≤ length buf.old) × (length bytes.now ≤ 32) × (length more.now ≤ 32) }
+    ensures { Puts buf.old at 5 (of_call call (bytes.now ++ (numbers (n ∷ []) ++ more.now))) buf.new result }
+{
+    let a = of_call(buf, at, call, bytes);
+    let b = number(buf, a, n);
+    text(buf, b, more)
+}
+
+// What is wrong.
+fn message(buf: &mut [u8], at: usize, wrong: Wrong) -> usize
+    requires { at + 160 ≤ length buf.old }
+    ensures { Puts buf.old at 5 (wrong_text wrong) buf.new result }
+{
+    match wrong {
+        Wrong::NoSuchCall => text(buf, at, b"no such call"),
+        Wrong::Missing { call, param } => of_param(buf, at, call, param, b" is missing"),
+        Wrong::NotDecimal { call, param } => {
+            of_param(buf, at, call, param, b" is no decimal number")
         }
+        Wrong::OutOfRange { call, param } => param_over(buf, at, call, param),
+        Wrong::WordNotDecimal { call, word } => {
+            counted(
+                buf,
+                at,
+                call,
+                b"word",
+                word as u64,
+                b" is no decimal number",
+            )
+        }
+        Wrong::WordOutOfRange { call, word } => {
+            counted(
+                buf,
+                at,
+                call,
+                b"word",
+                word as u64,
+                b" does not fit into 32 bits",
+            )
+        }
+        Wrong::TooFewWords { call } => of_call(buf, at, call, b"a word too few"),
+        Wrong::TooManyWords { call } => of_call(buf, at, call, b"a word too many"),
+        Wrong::ListTooLong { call, room } => {
+            counted(buf, at, call, b"more than", room as u64, b" words")
+        }
+        Wrong::LineTooLong => text(buf, at, b"line too long"),
     }
 }
 
-// The line's number and what is wrong with it.
-#[derive(Clone, Copy)]
-pub struct WrongLine {
-    pub line: u64,
-    pub wrong: Wrong,
-}
-
-impl fmt::Display for WrongLine {
-    ghost output = { λ l. Some (wrong_line l.line l.wrong) };
-
-    fn fmt<W: fmt::Write>(&self, f: &mut fmt::Formatter<W>) -> fmt::Result {
-        let WrongLine { line, wrong } = *self;
-        writeln!(f, "line {line}: {wrong}")
-    }
-}
-
-// A space, and a word as the signed number that its bits are.
-#[derive(Clone, Copy)]
-pub struct Signed(pub u32);
-
-impl fmt::Display for Signed {
-    ghost output = { λ w. Some (signed w.0) };
-
-    fn fmt<W: fmt::Write>(&self, f: &mut fmt::Formatter<W>) -> fmt::Result {
-        write!(f, " {}", self.0.cast_signed())
-    }
+// The line's number and what is wrong with it; the answer is where it ends.
+pub fn wrong_line(buf: &mut [u8], line: u64, wrong: Wrong) -> usize
+    requires { 1024 ≤ length buf.old }
+    ensures { Prints (wrong_line line wrong) buf.new result }
+{
+    let a = text(buf, 0, b"line");
+    let b = number(buf, a, line);
+    let c = text(buf, b, b": ");
+    let d = message(buf, c, wrong);
+    text(buf, d, b"\n")
 }

@@ -3,6 +3,7 @@
 
 pub mod calls;
 pub mod complain;
+pub mod put;
 mod read;
 mod scan;
 
@@ -12,7 +13,7 @@ ghost use Rattle.script.specs.Script.{parse as Script·parse};
 ghost use Rattle.script.specs.Scan.{Parses, Finds};
 
 pub use calls::{Call, Param};
-pub use complain::{Signed, Wrong, WrongLine};
+pub use complain::Wrong;
 
 // A call of the table with its numbers, 0 past those that it has; `words` words of a list stand at the start of the lent list, and a text is
 // the last `bytes` bytes of the line.
