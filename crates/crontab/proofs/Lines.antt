@@ -37,6 +37,11 @@ pub form-fits : (line : List ℕ) (sunday : ℕ) {b : Bool} → sunday ≤ 6 →
 unfolding of_the_form
 form-fits line sunday l e = rw (le-leb sunday 6 l) e
 
+-- a line with a date is refused with 51, but with 50 where it is not of the form
+pub dated : (line : List ℕ) (sunday : ℕ) {b : Bool} → b ≡ every_date line → b ≡ false → 51 ≡ unless (of_the_form line sunday) 50 51 → 51 ≡ form_refusal line sunday
+unfolding form_refusal
+dated line sunday e f h = rw (← e, f) h
+
 -- MARKS
 -- what the library makes of calls at the numbers from i on, where each computes h
 module _ {F : Type 0} {g : Mut F (ℕ × Unit {0}) Bool} (f : F) (h : ℕ → Bool) (a : List Bool) (computes : (x : ℕ) (b : Bool) (q : F) → Called g f (x, tt) b q → (q ≡ f) × (b ≡ h x)) where

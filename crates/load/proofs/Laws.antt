@@ -10,7 +10,6 @@ use Rattle.model.specs.Image.{image_sized, limits_fit, places_fit, tables_pass, 
 use Rattle.model.specs.Flat.{Flattened, flatten_rules, too_many_steps}
 use Rattle.model.specs.declared.Refusal.{Refusal}
 use Rattle.model.specs.declared.Refusal.TheVariants.{FlatSteps}
-use Rattle.model.specs.Refusals.{refusal_code}
 use Rattle.model.specs.Load.{tables_refusal, image_refusal_with, image_refusal}
 use Rattle.model.proofs.Bools.{not-refused}
 use Rattle.flat.specs.Load.{Checked, loaded}
@@ -60,15 +59,15 @@ tables-pass img r e h =
     h ∙ sym (six-passed (image_sized img) (limits_fit img) (places_fit img) (tables_pass img false) (tables_pass img true) (names_differ img) _ e)
 
 -- 16 --------------------------------------------------------------------------------------------------------------------------------
-over-case : (b : Bool) (n rest : ℕ) (refusal : Refusal) → Err refusal ≡ cond b (Err FlatSteps) (Ok n) → refusal_code refusal ≡ unless (not b) 16 rest
-over-case true n rest refusal e = let q : refusal ≡ FlatSteps = cc in rw q
+over-case : (b : Bool) (n rest : ℕ) (refusal : Refusal) → Err refusal ≡ cond b (Err FlatSteps) (Ok n) → (refusal ≡ FlatSteps) × (16 ≡ unless (not b) 16 rest)
+over-case true n rest refusal e = (cc, refl)
 over-case false n rest refusal e = cc
 
 steps-case : (b : Bool) (n rest k : ℕ) → Ok k ≡ cond b (Err FlatSteps) (Ok n) → rest ≡ unless (not b) 16 rest
 steps-case true n rest k e = cc
 steps-case false n rest k e = refl
 
-pub over : (fs : List Flattened) (rest : ℕ) (refusal : Refusal) → Err refusal ≡ loaded fs → refusal_code refusal ≡ unless (not (too_many_steps fs)) 16 rest
+pub over : (fs : List Flattened) (rest : ℕ) (refusal : Refusal) → Err refusal ≡ loaded fs → (refusal ≡ FlatSteps) × (16 ≡ unless (not (too_many_steps fs)) 16 rest)
 unfolding loaded
 over fs rest refusal e = over-case (too_many_steps fs) _ rest refusal e
 
