@@ -5,6 +5,7 @@ use mathlib.Core.Bool.{Bool, false}
 use mathlib.Core.List.{List, [], ◌∷◌}
 use Rattle.std.specs.Prelude.{Option, None, Some}
 use Rattle.std.specs.List.{reduce, fold, filter_map, cons_option, range_with_len}
+use Rattle.std.specs.Option.{unwrap_or}
 use Prim.Native.Nat.{ℕ, zero, suc, ◌+◌, ◌≤◌, ◌<◌, min}
 use native.Mathlib.Omega.{arith}
 use lib.ListN.{length, get_or}
@@ -14,7 +15,7 @@ use Rattle.model.specs.Lists.{any, up_from}
 use Rattle.model.proofs.ListLaws.{length-up_from}
 use Rattle.next.specs.NextStart.{first_from}
 use Rattle.next.specs.Distance.{within}
-use Rattle.next.proofs.First.{never, first-or}
+use Rattle.next.proofs.First.{at_most, never, first-or}
 
 -- OF A LIST, BY ITS FIRST AND BY THAT OF THE OTHERS -----------------------------------------------------------------------------
 abbrev pub joined : {A : Type 0} → (A → A → A) → A → Option A → Option A
@@ -61,34 +62,32 @@ pub within-none : (m : ℕ) → 10080 < m → within m ≡ None
 unfolding within
 within-none m h = rw (lt-leb m 10080 h)
 
-module _ (a b : ℕ) where
-  far : 10080 < a → within b ≡ within (min a b)
-  far h =
-      ⊎_elim
-      (λ k. let e : b ≡ min a b = omega arith in ap within e)
-      (λ k. within-none b (omega arith) ∙ sym (within-none (min a b) (omega arith)))
-      (cases_lt b 10081)
+-- A RUNNING LEAST -------------------------------------------------------------------------------------------------------------------
+or_never : (a : ℕ) → a ≤ 10081 → unwrap_or (within a) 10081 ≡ a
+or_never a h =
+    ⊎_elim
+    (λ k. ap (λ (o : Option ℕ). unwrap_or o 10081) (within-some a (omega arith)))
+    (λ k. let e : 10081 ≡ a = omega arith in ap (λ (o : Option ℕ). unwrap_or o 10081) (within-none a (omega arith)) ∙ e)
+    (cases_lt a 10081)
 
-  near : a ≤ 10080 → joined min a (within b) ≡ within (min a b)
-  near h =
-      ⊎_elim
-      (λ k. ap (joined min a) (within-some b (omega arith)) ∙ sym (within-some (min a b) (omega arith)))
-      (λ k. ap (joined min a) (within-none b (omega arith)) ∙ sym (within-some a h) ∙ (let e : a ≡ min a b = omega arith in ap within e))
-      (cases_lt b 10081)
+module _ {A : Type 0} (p : A → ℕ → Bool) where
+  abbrev pub sooner : ℕ → A → ℕ
+  sooner b x = min b (unwrap_or (within (first_from (p x) 1 10080)) 10081)
 
-  one_more : (l : List ℕ) → reduce min l ≡ within b → reduce min (cons_option (within a) l) ≡ within (min a b)
-  one_more l e =
-      ⊎_elim
-      (λ k. let h : a ≤ 10080 = omega arith in ap (λ (o : Option ℕ). reduce min (cons_option o l)) (within-some a h) ∙ from-front min min_assoc a l ∙ ap (joined min a) e ∙ near h)
-      (λ k. let h : 10080 < a = omega arith in ap (λ (o : Option ℕ). reduce min (cons_option o l)) (within-none a h) ∙ e ∙ far h)
-      (cases_lt a 10081)
+  abbrev any_first : List A → ℕ
+  any_first xs = first_from (λ k. any (λ x. p x k) xs) 1 10080
 
--- the first minute at which any of them passes
-pub least-first :
-    {A : Type 0} (p : A → ℕ → Bool) (xs : List A) →
-    reduce min (filter_map (λ x. within (first_from (p x) 1 10080)) xs) ≡ within (first_from (λ k. any (λ x. p x k) xs) 1 10080)
-least-first p [] = sym (within-none 10081 (omega arith)) ∙ ap within (never (λ k. false) 1 10080 (λ k. refl))
-least-first p (x ∷ xs) =
-    let a = first_from (p x) 1 10080 in
-    let b = first_from (λ k. any (λ y. p y k) xs) 1 10080 in
-    one_more a b (filter_map (λ y. within (first_from (p y) 1 10080)) xs) (least-first p xs) ∙ ap within (first-or (p x) (λ k. any (λ y. p y k) xs) 1 10080)
+  running : (b : ℕ) (xs : List A) → b ≤ 10081 → fold sooner b xs ≡ min b (any_first xs)
+  running b [] h = let e : 10081 ≡ any_first [] = never (λ k. false) 1 10080 (λ k. refl) in omega arith
+  running b (x ∷ xs) h =
+      let a = first_from (p x) 1 10080 in
+      running (sooner b x) xs (omega arith)
+      ∙ ap (λ (m : ℕ). min (min b m) (any_first xs)) (or_never a (at_most (p x) 1 10080))
+      ∙ min_assoc b a (any_first xs)
+      ∙ ap (min b) (first-or (p x) (λ k. any (λ y. p y k) xs) 1 10080)
+
+  pub least-running : (xs : List A) → within (fold sooner 10081 xs) ≡ within (any_first xs)
+  least-running xs =
+      let h : any_first xs ≤ 10081 = at_most (λ k. any (λ x. p x k) xs) 1 10080 in
+      let e : min 10081 (any_first xs) ≡ any_first xs = omega arith in
+      ap within (running 10081 xs (omega arith) ∙ e)

@@ -3,8 +3,8 @@ use mathlib.Core.Path.{◌≡◌, refl, sym, ap, ◌∙◌}
 use mathlib.Core.Bool.{Bool, false, ◌&&◌}
 use mathlib.Core.List.{List, [], ◌∷◌, map}
 use Rattle.std.specs.Prelude.{Option, None, Some}
-use Rattle.std.specs.List.{reduce, filter_map}
-use Prim.Native.Nat.{ℕ, zero, suc, ◌+◌, ◌*◌, ◌%◌, min}
+use Rattle.std.specs.List.{fold}
+use Prim.Native.Nat.{ℕ, zero, suc, ◌+◌, ◌*◌, ◌%◌}
 use lib.Dec.{eqb}
 use native.Mathlib.Omega.{arith}
 use lib.ListN.{get_or}
@@ -20,7 +20,7 @@ use Rattle.model.specs.declared.Trigger.TheVariants.{TimerFires, Every, AtTime, 
 use Rattle.next.specs.NextStart.{first_from, on_days, stands_at, due_in, starts_in}
 use Rattle.next.specs.Distance.{within}
 use Rattle.next.proofs.First.{never, same_first}
-use Rattle.next.proofs.Least.{within-none, least-first}
+use Rattle.next.proofs.Least.{within-none, sooner, least-running}
 
 bit_at : (bits : List ℕ) (i : ℕ) → get_or (map is_one bits) i false ≡ eqb (get_or bits i 0) 1
 bit_at [] i = refl
@@ -73,10 +73,10 @@ module _ (sun : Option SunTimes) (t : ℕ) where
         let e : 10081 ≡ first_from (starts_in img (map is_one bits) sun t i) 1 10080 = never (starts_in img (map is_one bits) sun t i) 1 10080 (λ k. ap (λ (b : Bool). b && any (λ x. due_in sun t x k) (triggers_of img i)) bit) in
         sym (within-none 10081 (omega arith)) ∙ ap within e
 
-    pub on : get_or bits i 0 ≡ 1 → reduce min (filter_map minutes_to (triggers_of img i)) ≡ minutes_of
+    pub on : get_or bits i 0 ≡ 1 → within (fold (sooner (due_in sun t)) 10081 (triggers_of img i)) ≡ minutes_of
     unfolding starts_in
     on h =
-        least-first (due_in sun t) (triggers_of img i)
+        least-running (due_in sun t) (triggers_of img i)
         ∙ ap within
         (same_first (λ m. any (λ x. due_in sun t x m) (triggers_of img i)) (starts_in img (map is_one bits) sun t i) 1 10080
         (λ k. ap (λ (b : Bool). b && any (λ x. due_in sun t x k) (triggers_of img i)) (sym (bit_at bits i ∙ eq-eqb (get_or bits i 0) 1 h))))

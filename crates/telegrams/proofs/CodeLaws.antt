@@ -1,6 +1,6 @@
 -- What the functions do in a turn, over lists and numbers. Assumes nothing.
 use mathlib.Core.Path.{◌≡◌, refl, sym, ap, ◌∙◌}
-use mathlib.Core.Bool.{Bool, true, false, ◌&&◌, ◌||◌}
+use mathlib.Core.Bool.{Bool, true, false, ◌&&◌}
 use mathlib.Core.List.{List, [], ◌∷◌, ◌++◌, map}
 use Prim.Native.Nat.{ℕ, zero, suc, ◌+◌, ◌*◌, ◌-◌, ◌/◌, ◌%◌, ◌≤◌, ◌<◌}
 use native.Mathlib.Omega.{arith}
@@ -10,11 +10,10 @@ use lib.Seq.{get_or-take, get_or-drop}
 use borrow.Author.Tests.{le-leb, lt-leb, eq-eqb, ne_eqb}
 use Rattle.std.specs.Simd.{first_chunks}
 use Rattle.std.proofs.lemmas.List.{drop_more, take_rest}
-use Rattle.model.specs.Lists.{all, every, find, up_from}
+use Rattle.model.specs.Lists.{all, every, up_from}
 use Rattle.model.specs.Answers.{words_of_effects, lent}
 use Rattle.model.specs.declared.Effect.{Effect}
-use Rattle.std.specs.Prelude.{Option, None, Some, Ok, Err}
-use Rattle.std.specs.Option.{MatchOption}
+use Rattle.std.specs.Prelude.{Ok, Err}
 use Rattle.model.specs.declared.Refusal.TheVariants.{EffectWords, TelegramStore}
 use Rattle.model.specs.Telegrams.{is_level, cuts, sets, kept, effect_at, effects_in, are_effects, has_room, answer, kept_store}
 use Rattle.model.proofs.TestLaws.{by, every_first}
@@ -22,7 +21,7 @@ use Rattle.model.proofs.SortLaws.{all_map}
 use Rattle.telegrams.specs.Recursion.{is_set, set_again, kept_head, keep_last, effects_of, Puts}
 use Rattle.lent_words.specs.PutEffects.{put_effect, put_effects}
 use Rattle.telegrams.proofs.ShortestLaws.{none-set, cut-first, on-first}
-use Rattle.telegrams.proofs.PlacesLaws.{cut-sets-none, kept-by-recursion}
+use Rattle.telegrams.proofs.PlacesLaws.{kept-by-recursion}
 use Rattle.lent_words.proofs.Written.{put-append, puts-length, lent-list}
 
 -- RECORDS
@@ -68,30 +67,23 @@ module _ (rs : List (List ℕ)) (k : ℕ) where
   pub from_end : length rs ≤ k → effects_from rs k ≡ []
   from_end h = ap effects_of (drop_of_length-le rs h)
 
--- A LAMP IS SET
+-- A LAMP IS SET FROM RECORD k ON
 
--- the record that says whether it is: the first that cuts, or sets it
-abbrev pub decides : ℕ → Effect → Bool
-decides t x = cuts x || sets t x
+module _ (rs : List (List ℕ)) (t k : ℕ) where
+  -- record k, read as x
+  module _ (h : k < length rs) (x : Effect) (e : x ≡ effect_of rs k) (r : Bool) (c : r ≡ cuts x) where
+    pub set-cut : r ≡ true → false ≡ is_set zero t (effects_from rs k)
+    set-cut q = rw (from_cons rs k h, ← e) (sym (cut-first t x (effects_from rs (k + 1)) (sym c ∙ q)))
 
-module _ (t : ℕ) where
-  abbrev sets_it : Option Effect → Bool
-  sets_it None = false
-  sets_it (Some x) = sets t x
+    module _ (q : r ≡ false) (s : Bool) (f : s ≡ sets t x) where
+      pub set_here : s ≡ true → true ≡ is_set zero t (effects_from rs k)
+      set_here p = rw (from_cons rs k h, ← e, on-first t x (effects_from rs (k + 1)) (sym c ∙ q), ← f, p)
 
-  by-first : (xs : List Effect) → sets_it (find (decides t) xs) ≡ is_set zero t xs
-  by-first [] = sym (none-set zero t)
-  by-first (x ∷ xs) =
-      by (cuts x)
-      (λ e. rw e (cut-sets-none t x e ∙ sym (cut-first t x xs e)))
-      (λ e. rw (e, on-first t x xs e) (by (sets t x) (λ q. rw q q) (λ q. rw q (by-first xs))))
+      pub set_on : s ≡ false → is_set zero t (effects_from rs k) ≡ is_set zero t (effects_from rs (k + 1))
+      set_on p = rw (from_cons rs k h, ← e, on-first t x (effects_from rs (k + 1)) (sym c ∙ q), ← f, p)
 
-  pub is-set : (xs : List Effect) (o : Option Effect) (r : Bool) {Sets : Effect → Type 0} → o ≡ find (decides t) xs → MatchOption o (r ≡ false) Sets → ((x : Effect) → Sets x → r ≡ sets t x) → r ≡ is_set zero t xs
-  is-set xs o r {Sets} e m h = said o m ∙ ap sets_it e ∙ by-first xs
-    where
-      said : (o : Option Effect) → MatchOption o (r ≡ false) Sets → r ≡ sets_it o
-      said None m = m
-      said (Some x) m = h x m
+  pub set-end : length rs ≤ k → false ≡ is_set zero t (effects_from rs k)
+  set-end h = rw (from_end rs k h) (sym (none-set zero t))
 
 -- KEPT OR NOT
 
@@ -141,16 +133,16 @@ module _ (rs : List (List ℕ)) (w₀ w : List ℕ) (k n : ℕ) (p : Putting rs 
         words = rw (q, e) (sym (put-append w n (kept_head x xs) (keep_last xs)) ∙ ap (λ (l : List Effect). put_effects w n l) (sym split) ∙ p.words);
       }
 
-  -- record k, read as x, and those behind it
-  module _ (x : Effect) (e : x ≡ effect_of rs k) (r : Bool) (q : r ≡ set_again x (effects_of (take (length rs - (k + 1)) (drop (k + 1) rs)))) where
+  -- record k, and those behind it
+  module _ (r : Bool) (q : r ≡ set_again (effect_of rs k) (effects_of (take (length rs - (k + 1)) (drop (k + 1) rs)))) where
     again : r ≡ set_again (effect_of rs k) (effects_from rs (k + 1))
-    again = rw (← e) (rw (take_rest rs (k + 1)) at q)
+    again = rw (take_rest rs (k + 1)) at q
 
     pub put-left : r ≡ true → Putting rs w₀ w (k + 1) n
     put-left b = put-turn w n (left_out (effect_of rs k) (effects_from rs (k + 1)) w n r again b)
 
-    pub put-more : r ≡ false → (v : List ℕ) → v ≡ put_effect w n x → Putting rs w₀ v (k + 1) (n + 1)
-    put-more b v o = put-turn v (n + 1) (put_in (effect_of rs k) (effects_from rs (k + 1)) w n r again b v x e o)
+    pub put-more : r ≡ false → (x : Effect) → x ≡ effect_of rs k → (v : List ℕ) → v ≡ put_effect w n x → Putting rs w₀ v (k + 1) (n + 1)
+    put-more b x e v o = put-turn v (n + 1) (put_in (effect_of rs k) (effects_from rs (k + 1)) w n r again b v x e o)
 
 -- THE TEST OF REFUSAL 60
 

@@ -52,17 +52,25 @@ fn sets(x: Effect, lamp: u32) -> bool
 fn is_set_from(records: &[[u32; EFFECT_WORDS]], lamp: u32) -> bool
     ensures { result ≡ is_set zero lamp (effects_of records.now) }
 {
-    let end = records
-        .iter()
-        .map(effect_of)
-        .find(|x| cuts(*x) || sets(*x, lamp));
-    end.is_some_and(|x| sets(x, lamp))
+    for record in records {
+        let x = effect_of(record);
+        if cuts(x) {
+            return false;
+        }
+        if sets(x, lamp) {
+            return true;
+        }
+    }
+    false
 }
 
-// Whether x sets a lamp that is set again in its stretch, by the records behind it.
-fn is_superseded(x: Effect, rest: &[[u32; EFFECT_WORDS]]) -> bool
-    ensures { result ≡ set_again x (effects_of rest.now) }
+// Whether a record sets a lamp that is set again in its stretch, by the records behind it.
+// kept: not inlined, since the search is what takes the time of a long list, and beside the writing of the list its loop takes two instructions more for each record.
+#[inline(never)]
+fn is_superseded(words: &[u32; EFFECT_WORDS], rest: &[[u32; EFFECT_WORDS]]) -> bool
+    ensures { result ≡ set_again (effect_at words.now 0) (effects_of rest.now) }
 {
+    let x = effect_of(words);
     is_level(x) && is_set_from(rest, x.a)
 }
 
@@ -73,11 +81,10 @@ fn put_kept(list: &mut [u32], records: &[[u32; EFFECT_WORDS]]) -> usize
     // kept: no fold, since no chain's proof goes through a closure that changes what it captures, here the list.
     let mut n = 0;
     for (k, record) in records.iter().enumerate() {
-        let x = effect_of(record);
-        if is_superseded(x, &records[k + 1..]) {
+        if is_superseded(record, &records[k + 1..]) {
             continue;
         }
-        lent_words::write_effect(list, n, x);
+        lent_words::write_effect(list, n, effect_of(record));
         n += 1;
     }
     n

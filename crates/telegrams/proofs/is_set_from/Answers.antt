@@ -1,20 +1,21 @@
--- `telegrams::is_set_from` meets its contract. Assumes nothing.
-use Rattle.std.proofs.Common.{rules, sym, ◌∙◌}
-use Rattle.std.proofs.lemmas.Iterator.{YieldsList-from_slice, YieldsList-from_map}
-use Rattle.std.proofs.lemmas.Iterator.Adapters.{option_map_id}
-use Rattle.std.proofs.lemmas.Iterator.Consumers.{YieldsList-at}
-use Rattle.std.proofs.lemmas.Iterator.Search.{find_from_yields_List}
-use Rattle.model.specs.Telegrams.{effect_at}
-use Rattle.telegrams.specs.Recursion.{effects_of}
-use Rattle.telegrams.proofs.CodeLaws.{decides, is-set}
+-- `telegrams::is_set_from` meets its contract: what is left of the stretch sets the lamp, or nothing does. Assumes nothing.
+use mathlib.Core.Path.{sym, ◌∙◌}
+use Rattle.telegrams.proofs.CodeLaws.{set-cut, set_here, set_on, set-end}
 use Rattle.telegrams.proofs.is_set_from.Goals as goal
 
+pub returns-then-cuts : goal.returns-then-cuts
+returns-then-cuts c =
+    set-cut _ _ _ c.loop-record-test.true _ c.effect_of-x.ensures _ c.cuts.ensures c.if-cuts.true ∙ c.loop-record.invariant
+
+pub returns-then-sets : goal.returns-then-sets
+returns-then-sets c =
+    set_here _ _ _ c.loop-record-test.true _ c.effect_of-x.ensures _ c.cuts.ensures c.if-cuts.false _ c.sets.ensures c.if-sets.true
+    ∙ c.loop-record.invariant
+
+pub loop-record-preserved : goal.loop-record-preserved
+loop-record-preserved c =
+    sym (set_on _ _ _ c.loop-record-test.true _ c.effect_of-x.ensures _ c.cuts.ensures c.if-cuts.false _ c.sets.ensures c.if-sets.false)
+    ∙ c.loop-record.invariant
+
 pub returns : goal.returns
-returns c =
-    let t = c.args.lamp in
-    let rs = c.args.records.now in
-    let first =
-    find_from_yields_List (decides t) _ _ _ c.find-end.ensures.ran
-    (YieldsList-from_map _ (λ r. effect_at r 0) (YieldsList-at c.map.ensures.source (YieldsList-from_slice rs c.iter.ensures.rest)) c.map.ensures.closure (λ x r q k. search rules))
-    (λ x b q k. search rules) in
-    is-set t (effects_of rs) _ _ (sym (option_map_id _) ∙ first) c.is_some_and.ensures (λ x k. search rules)
+returns c = set-end _ _ _ c.loop-record-test.false ∙ c.loop-record.invariant

@@ -1,9 +1,11 @@
 -- `next::Asked::rule_minutes` meets its contract. Assumes nothing.
-use mathlib.Core.Path.{sym, ◌∙◌}
+use mathlib.Core.Path.{sym, ap, ◌∙◌}
 use Rattle.std.proofs.Common.{rules}
-use Rattle.std.proofs.lemmas.Iterator.Adapters.{option_map_id}
-use Rattle.std.proofs.lemmas.Iterator.Consumers.{YieldsList-from_first, YieldsList-from_filter_map, min_from_yields_List}
-use Rattle.next.proofs.Triggers.{minutes_to, off, on}
+use Rattle.std.proofs.lemmas.Iterator.Consumers.{YieldsList-from_first, fold_from_yields_List}
+use Rattle.next.specs.NextStart.{due_in}
+use Rattle.next.specs.Distance.{within}
+use Rattle.next.proofs.Least.{sooner}
+use Rattle.next.proofs.Triggers.{off, on}
 use Rattle.next.proofs.Asked.rule_minutes.Goals as goal
 
 pub returns-then-word-ne1 : goal.returns-then-word-ne1
@@ -14,6 +16,6 @@ returns-then-word-ne1 c =
 pub returns : goal.returns
 returns c =
     let s = c.args.self.now in
-    sym (option_map_id _)
-    ∙ min_from_yields_List c.filter_map.result _ c.min.ensures.ran (YieldsList-from_filter_map _ (minutes_to s.sun s.t) (YieldsList-from_first (λ x. x) (λ rest. rest) _ (c.filter_map.ensures.source ∙ c.triggers-triggers.ensures.0)) c.filter_map.ensures.closure (λ x r q k. search rules))
+    c.within.ensures
+    ∙ ap within (fold_from_yields_List _ (sooner (due_in s.sun s.t)) _ _ c.fold.ensures.ran (YieldsList-from_first (λ x. x) (λ rest. rest) _ c.triggers-triggers.ensures.0) (λ b x r q k. search rules))
     ∙ on s.sun s.t s.image.now s.bits.now c.args.i (sym c.word.ensures ∙ c.if-word-ne1.false)
