@@ -133,7 +133,7 @@ module _ (m : Option ℕ) (e : Env) (s : Rest) where
       at None = refl
       at (Some x) = refl
 
-  condition-same : (c : Condition) → eval_condition e (with_prev_week_min m s) c ≡ eval_condition e s c
+  pub condition-same : (c : Condition) → eval_condition e (with_prev_week_min m s) c ≡ eval_condition e s c
   unfolding eval_condition eval_reading sun_is_up timer_named var_named
   condition-same (TimeInRange start end) = rw (bound_at-same start, bound_at-same end)
   condition-same (DayIn days) = refl
@@ -258,7 +258,7 @@ module _ (m : Option ℕ) where
       bit-same r on None = fails-same s
       bit-same r on (Some i) = either j.dry (record { rest = refl; effect = refl; disables = refl; reason = refl }) (record { rest = refl; effect = refl; disables = refl; reason = refl })
 
-      prim-same : (a : Action) → SamePrim (run_prim e j s a) (run_prim e j (with_prev_week_min m s) a)
+      pub prim-same : (a : Action) → SamePrim (run_prim e j s a) (run_prim e j (with_prev_week_min m s) a)
       unfolding run_prim timer_named var_named
       prim-same (Light t h a) = light-same t h a
       prim-same (Recall x k t) = recall-same x k t
