@@ -15,9 +15,9 @@
  *             Stores of one call do not overlap. A store that is not const is written within its words only. A text is a pointer and its number of
  *             bytes.
  *   threads   Two calls may run at once if they share no store that either of them writes.
- *   stack     In bytes, at most, for every input, on x86-64: tick 25,064, load 21,144, run 20,792, enable 20,488, next_deadline 20,648,
- *             unload 20,456, counters 15,176, next_start 15,480, readback 15,416, room 14,264, rewrite 13,832, crontab 400, short_list 120,
- *             telegrams 104, new 56. The gate computes them from the machine code. The return address is in;
+ *   stack     In bytes, at most, for every input, on x86-64: tick 25,080, load 21,160, run 20,808, enable 20,504, next_deadline 20,664,
+ *             unload 20,472, counters 15,192, next_start 15,496, readback 15,432, room 14,264, rewrite 13,848, crontab 400, short_list 120,
+ *             telegrams 120, new 56. The gate computes them from the machine code. The return address is in;
  *             not in: what memcpy, memmove and memset use, the arguments that the caller pushes, the dynamic linker, interrupts
  *             (docs/PERFORMANCE.md, "Stack").
  *   refusals  Each call returns 0, or the number of a refusal: the lowest that applies. A refused call has changed nothing: the store is as
