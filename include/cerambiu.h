@@ -15,7 +15,7 @@
  *             Stores of one call do not overlap. A store that is not const is written within its words only. A text is a pointer and its number of
  *             bytes.
  *   threads   Two calls may run at once if they share no store that either of them writes.
- *   stack     In bytes, at most, for every input, on x86-64: tick 25,080, load 21,160, run 20,808, enable 20,504, next_deadline 20,664,
+ *   stack     In bytes, at most, for every input, on x86-64: tick 25,080, load 21,176, run 20,808, enable 20,504, next_deadline 20,664,
  *             unload 20,472, counters 15,192, next_start 15,496, readback 15,432, room 14,264, rewrite 13,848, crontab 400, short_list 120,
  *             telegrams 120, new 56. The gate computes them from the machine code. The return address is in;
  *             not in: what memcpy, memmove and memset use, the arguments that the caller pushes, the dynamic linker, interrupts

@@ -9,7 +9,7 @@ use mathlib.Core.List.{List, [], ◌∷◌}
 use Rattle.std.specs.Prelude.{Option, None, Some, slice_get}
 use Rattle.std.specs.Option.{unwrap_or}
 use Rattle.std.specs.List.{remove}
-use lib.ListN.{length, get_or, length-append}
+use lib.ListN.{length, get_or, drop, length-append}
 use Rattle.model.specs.Dry.{next_step, found, dry_step, dry_branch, dry_turn, run_steps_dry, unpaid_dry, DryStepResult, DryOutput}
 use Rattle.model.specs.Eval.{condition_at}
 use Rattle.model.specs.Exec.{first_reason}
@@ -52,6 +52,13 @@ step-bodies e j (Branch c t n) sp qs s = go (condition_at e s c)
     go None = refl
 step-bodies e j (After ms) sp qs s = refl
 step-bodies e j Fail sp qs s = refl
+
+-- ---- the queue, of which the oldest list is taken out
+pub oldest : (xs : List ℕ) (k : ℕ) → slice_get (drop k xs) 0 ≡ slice_get xs k
+oldest [] zero = refl
+oldest [] (suc k) = refl
+oldest (x ∷ xs) zero = refl
+oldest (x ∷ xs) (suc k) = oldest xs k
 
 -- ---- the next step
 -- from a point and a queue the search for the next step has come to q and rs
@@ -192,7 +199,6 @@ pub record GoingDry (snapshot image part : List ℕ) (own : ℕ) (job : Job) (bu
   pub grows : from.count ≤ run.count
   pub counts : run.count + left ≤ from.count + budget
   pub last : (meaning v).last_number ≡ from.vol.last_number
-  pub queue : length ns + left ≤ 256
   pub long : length w ≡ length from.words
 
 module _ (snapshot image part : List ℕ) (own : ℕ) (job : Job) (budget : ℕ) (v₀ : List ℕ) (start : Point) (count : ℕ) (w₀ : List ℕ) where
@@ -264,6 +270,5 @@ module _ (snapshot image part : List ℕ) (own : ℕ) (job : Job) (budget : ℕ)
             grows = omega (arith, taken.count, inv.grows);
             counts = omega (arith, taken.count, few d.effect, inv.counts);
             last = ap (λ (m : model-state.Volatile). m.last_number) (steps [] []).state.says ∙ inv.last;
-            queue = omega (arith, k.most, moves.most, inv.queue);
             long = l ∙ inv.long;
           }

@@ -1,5 +1,5 @@
 -- A dry run, in the specification's terms.
-use Rattle.std.specs.Prelude.{ℕ, ◌+◌, ◌≤◌, ◌≡◌, List, [], ◌∷◌, ◌++◌, map, length, get_or, Option, None, Some}
+use Rattle.std.specs.Prelude.{ℕ, ◌+◌, ◌≤◌, ◌≡◌, List, [], ◌∷◌, ◌++◌, map, length, get_or, drop, Option, None, Some}
 use Rattle.words.specs.Saturating.{max32}
 use Rattle.model.specs.Dry as model
 use Rattle.model.specs.Exec.{body_start}
@@ -16,6 +16,7 @@ use Rattle.exec.specs.Done.{RunDone, StepDone}
 use Rattle.exec.specs.Runs.{RanFrom}
 use Rattle.model.specs.declared.Job.{Job}
 use Rattle.flat.specs.declared.Placed.{Placed}
+use Rattle.exec.specs.declared.bodies.Bodies.{Bodies}
 
 -- from v the step came to r, and the specification to d
 pub record DrySteps (v : List ℕ) (r : StepDone) (d : model.DryStepResult) : Type 0 where
@@ -34,6 +35,10 @@ body_point n = point n 0 None
 
 abbrev pub bodies_of : List ℕ → List Point
 bodies_of ns = map body_point ns
+
+-- the lists that are still to run, the oldest first
+abbrev pub queued : Bodies → List ℕ
+queued b = drop b.first b.lists.items
 
 -- the queue behind a step
 abbrev pub queued_by : Step → Point → List Point → List Point

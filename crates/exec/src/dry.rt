@@ -1,12 +1,12 @@
 // `run_steps`, dry: a wait waits for nothing, and an after's body goes behind all that is queued. Continuations are not touched.
-ghost use Rattle.std.specs.Prelude.{◌≡◌, true, ◌<◌, length};
+ghost use Rattle.std.specs.Prelude.{◌≡◌, true, ◌<◌, ◌≤◌, ◌+◌, length};
 ghost use Rattle.exec.specs.Done.{step_done, run_done};
-ghost use Rattle.exec.specs.DryRuns.{DryStepsIn, Queues, Moves, DryReady, RunsDry};
+ghost use Rattle.exec.specs.DryRuns.{DryStepsIn, queued, Queues, Moves, DryReady, RunsDry};
 
+use crate::bodies::Bodies;
 use crate::places::advance;
 use crate::runs::{note_partial, take_step, unpaid};
 use crate::{Env, RunResult, StepResult, steps};
-use arrayvec::ArrayVec;
 use flat::{FlatRule, Placed};
 use model::{Point, Step};
 use state::State;
@@ -26,30 +26,29 @@ fn exec_dry(env: &Env, v: &mut State, here: Placed) -> StepResult
     }
 }
 
-// The lists of the bodies that a dry run still has to run, the oldest first. A run queues one for a step at most, so that 256 have room.
-type Bodies = ArrayVec<u32, 256>;
-
 // The body of an after goes behind all that is queued.
 fn queue_body(bodies: &mut Bodies, here: Placed)
-    requires { length bodies.old.items < 256 }
-    ensures { Queues bodies.old.items here.point here.step bodies.new.items }
+    requires { length bodies.old.lists.items < 256 }
+    ensures queues { Queues (queued bodies.old) here.point here.step (queued bodies.new) }
+    ensures most { length bodies.new.lists.items ≤ length bodies.old.lists.items + 1 }
 {
     if let Step::After(_) = here.step {
-        bodies.push(here.point.place + 1);
+        bodies.lists.push(here.point.place + 1);
     }
 }
 
 // Where a list is at its end, the next body that has a step is begun.
 // kept: the loop counts nothing, it takes the oldest list until one has a step: no iterator gives that, since what is left stays queued.
 fn next_step(rule: &FlatRule, from: Point, bodies: &mut Bodies) -> Option<Placed>
-    ensures { Moves rule.now.part.now rule.now.own from bodies.old.items bodies.new.items result }
+    ensures moves { Moves rule.now.part.now rule.now.own from (queued bodies.old) (queued bodies.new) result }
+    ensures same { bodies.new.lists ≡ bodies.old.lists }
 {
     let mut point = from;
     loop {
         if let Some(here) = rule.step_at(point) {
             return Some(here);
         }
-        let list = bodies.pop_at(0)?;
+        let list = bodies.pop()?;
         point = Point {
             list,
             place: 0,
@@ -77,7 +76,7 @@ pub fn run_steps_dry(
         count,
     };
     let mut point = from;
-    let mut bodies: Bodies = ArrayVec::new();
+    let mut bodies = Bodies::new();
     for _ in 0..budget {
         let Some(here) = next_step(rule, point, &mut bodies) else {
             return run;

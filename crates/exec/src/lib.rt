@@ -4,6 +4,7 @@
 
 pub mod actions;
 mod answers;
+mod bodies;
 pub mod dry;
 mod effects;
 mod lights;

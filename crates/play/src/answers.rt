@@ -26,6 +26,9 @@ fn named(out: &mut Output, name: &str, words: &[u32], at: usize, count: usize)
     requires { at + count < 2 ^ 64 }
     ensures { Gathers out.old (line name.now (numbers (words_at words.now at count))) out.new }
 {
+    if name.len() <= 32 && count <= 6 {
+        return out.short_line(name.as_bytes(), words, at, count);
+    }
     out.text(name.as_bytes());
     last(out, words, at, count)
 }

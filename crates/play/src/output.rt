@@ -1,7 +1,7 @@
 // What is printed is gathered in a buffer, and written out when it is full and whenever all input that has come is played. A line is gathered piece
 // by piece, so that it may have any width. The buffer is an array, since a player that asks for no memory cannot run out of it.
-ghost use Rattle.std.specs.Prelude.{◌≡◌, ◌+◌, ◌<◌, ◌^◌, [], IfSome};
-ghost use Rattle.script.specs.Print.{numbers};
+ghost use Rattle.std.specs.Prelude.{◌≡◌, ◌+◌, ◌≤◌, ◌<◌, ◌^◌, [], IfSome, length};
+ghost use Rattle.script.specs.Print.{numbers, line};
 ghost use Rattle.play.specs.Printed.{words_at};
 ghost use Rattle.play.specs.Gathered.{Gathers};
 
@@ -67,6 +67,21 @@ impl Output {
             self.flush();
             self.to = None;
         }
+    }
+
+    // A line of a short name and few words of a store: the whole of it is one piece.
+    pub fn short_line(&mut self, name: &[u8], words: &[u32], at: usize, count: usize)
+        requires { (length name.now ≤ 32) × (count ≤ 6) × (at + count < 2 ^ 64) }
+        ensures { Gathers self.old (line name.now (numbers (words_at words.now at count))) self.new }
+    {
+        let mut piece = [0u8; 256];
+        let mut n = put::text(&mut piece, 0, name);
+        // kept: places, as in `words`.
+        for i in 0..count {
+            n = put::number(&mut piece, n, u64::from(fields::word(words, at + i)));
+        }
+        let end = put::text(&mut piece, n, b"\n");
+        self.text(&piece[..end]);
     }
 
     // Words of a store from a place on, each behind a space, and 0 past its end.

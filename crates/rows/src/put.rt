@@ -2,13 +2,15 @@
 ghost use Rattle.std.specs.Prelude.{◌≡◌, ◌+◌, ◌≤◌, length, replicate};
 ghost use Rattle.rows.specs.Places.{laid};
 
+use fields::moves;
+
 // Words from k on.
 #[tactic(auto, unfolding(crate::specs::Places::laid))]
 pub fn put_words(s: &mut [u32], k: usize, words: &[u32])
     requires { k + length words.now ≤ length s.old }
     ensures { s.new ≡ laid s.old k words.now }
 {
-    s[k..k + words.len()].copy_from_slice(words);
+    moves::copy_words(&mut s[k..k + words.len()], words);
 }
 
 // n zeros from k on.

@@ -2,7 +2,7 @@
 use mathlib.Core.Path.{◌≡◌, refl, sym, ap, subst, ◌∙◌}
 use mathlib.Core.Bool.{Bool, true, false, not}
 use mathlib.Core.List.{List, [], ◌∷◌, ◌++◌, append_assoc}
-use Rattle.std.specs.List.{copy_within}
+use Rattle.std.proofs.Math.Seq.{paste}
 use Prim.Native.Nat.{ℕ, suc, ◌+◌, ◌-◌, ◌*◌, ◌≤◌, ◌<◌}
 use native.Mathlib.Nat.{zero-mul, suc-mul, mul-le-mul_right}
 use native.Mathlib.Omega.{arith}
@@ -72,13 +72,11 @@ to-come time due = by (leb due time) refl
     by false e = lt-ltb time due (leb-false due time e)
 
 -- A ROW MOVED -----------------------------------------------------------------------------------------------------------------------------
-pub row_moved : (f : ℕ) (p : List ℕ) (from to : ℕ) → Fits f p → from < get_or p 0 0 → to ≤ from → RowSet f p to (get_or (rows_in f p) from []) (copy_within p (1 + from * f) (1 + from * f + f) (1 + to * f))
+pub row_moved : (f : ℕ) (p : List ℕ) (from to : ℕ) → Fits f p → from < get_or p 0 0 → to ≤ from → RowSet f p to (get_or (rows_in f p) from []) (paste p (1 + to * f) (drop (1 + from * f) p) f)
 unfolding laid
 row_moved f p from to h l t =
     let m : length (get_or (rows_in f p) from []) ≡ f = row-long f p h from l in
-    let n : 1 + from * f + f - (1 + from * f) ≡ f = omega arith in
-    let same : copy_within p (1 + from * f) (1 + from * f + f) (1 + to * f) ≡ laid p (1 + to * f) (get_or (rows_in f p) from []) =
-    (let r = row_at f p h from l in rw (n, m, r)) in
+    let same : paste p (1 + to * f) (drop (1 + from * f) p) f ≡ laid p (1 + to * f) (get_or (rows_in f p) from []) = (let r = row_at f p h from l in rw (m, r)) in
     rw same (row_put f p h to (get_or (rows_in f p) from []) (omega arith) m)
 
 -- CLOSING UP ------------------------------------------------------------------------------------------------------------------------------

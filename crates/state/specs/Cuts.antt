@@ -1,5 +1,6 @@
 -- Words cut into pieces of given sizes, one behind the other: the parts of a state, and the rows of a table.
 use Rattle.std.specs.Prelude.{◌≡◌, Bool, not, List, [], ◌∷◌, ◌++◌, ℕ, ◌+◌, ◌-◌, ◌*◌, ◌≤◌, ◌<◌, eqb, ltb, length, get_or, take, drop, set, replicate}
+use Rattle.words.specs.Pairs.{joined}
 use Rattle.model.specs.Codec.{Row}
 use Rattle.model.specs.Lists.{flatten}
 use Rattle.rows.specs.Places.{row_at, laid}
@@ -54,6 +55,13 @@ pub record RowSet (f : ℕ) (p : List ℕ) (i : ℕ) (row p' : List ℕ) : Type 
   pub long : length p' ≡ length p
   pub count : get_or p' 0 0 ≡ get_or p 0 0
   pub behind : drop (1 + get_or p 0 0 * f) p' ≡ drop (1 + get_or p 0 0 * f) p
+
+-- a number of two words of a row
+abbrev pub wide_of : ℕ → List ℕ → ℕ
+wide_of at row = joined (get_or row at 0) (get_or row (at + 1) 0)
+
+abbrev pub wide_in : ℕ → List ℕ → ℕ → ℕ → ℕ
+wide_in f p i at = wide_of at (get_or (rows_in f p) i [])
 
 -- whether word `at` of a row is x
 abbrev pub has_word : ℕ → ℕ → List ℕ → Bool

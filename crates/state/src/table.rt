@@ -7,8 +7,9 @@
 ghost use Rattle.std.specs.Prelude.{◌≡◌, Bool, IsTrue, cond, [], ◌+◌, ◌-◌, ◌≤◌, ◌<◌, ltb, length, get_or, take};
 ghost use Rattle.model.specs.Lists.{keep};
 ghost use Rattle.state.specs.Tables.{First};
-ghost use Rattle.state.specs.Cuts.{rows_in, table_of, has_word, passes, with_row, HasRoom, Words, Fits, Table, RowSet};
+ghost use Rattle.state.specs.Cuts.{rows_in, table_of, wide_in, has_word, passes, with_row, HasRoom, Words, Fits, Table, RowSet};
 
+use fields::moves;
 use rows::put::clear;
 use rows::row::Row;
 
@@ -22,6 +23,15 @@ fn row_of(t: &[u32], width: usize, i: usize) -> &[u32]
 {
     let k = 1 + i * width;
     &t[k..k + width]
+}
+
+// The time at word `at` of row i.
+pub fn wide_of(t: &[u32], width: usize, i: usize, at: usize) -> u64
+    requires { Fits width t.now × (i < get_or t.now 0 0) × (at < width - 1) }
+    ensures { result ≡ wide_in width t.now i at }
+{
+    let row = row_of(t, width, i);
+    words::join_words(row[at], row[at + 1])
 }
 
 // The place of the first row whose word `at` is x, and the count where there is none.
@@ -94,8 +104,7 @@ fn move_row(t: &mut [u32], width: usize, from: usize, to: usize)
     requires { Fits width t.old × (to ≤ from) × (from < get_or t.old 0 0) }
     ensures { RowSet width t.old to (get_or (rows_in width t.old) from []) t.new }
 {
-    let a = 1 + from * width;
-    t.copy_within(a..a + width, 1 + to * width);
+    moves::copy_within(t, 1 + from * width, 1 + to * width, width);
 }
 
 // The rows that stay close up; how many they are.

@@ -1,12 +1,8 @@
 -- `flat::steps::copies` meets its contract: what the copies left give is what all give. Assumes nothing.
-use Rattle.std.proofs.Common.{◌≡◌, ℕ, ◌+◌, ◌*◌, ◌-◌, ◌∙◌, List, drop, arith}
-use Rattle.std.proofs.Math.Seq.{paste}
+use Rattle.std.proofs.Common.{◌∙◌, arith}
 use Rattle.flat.proofs.Copies.{copying-first, copying-next, copying-stop, copying-end}
 use Rattle.flat.proofs.steps.copies.Goals as goal
 use Rattle.flat.proofs.steps.copies.Goals.{then-end-list, else-end-list}
-
-part : (l l1 : List ℕ) (n at size : ℕ) → l1 ≡ paste l (at * 4) (drop (n * 4) l) ((n + size) * 4 - n * 4) → l1 ≡ paste l (at * 4) (drop (n * 4) l) (size * 4)
-part l l1 n at size e = let z : (n + size) * 4 - n * 4 ≡ size * 4 = omega arith in rw z at e
 
 pub loop-init : goal.loop-init
 loop-init c = let a = c.args in copying-first a.list.now a.times a.size a.n c.requires.0 c.requires.1
@@ -19,7 +15,7 @@ loop-preserved c =
     let l = c.loop in
     copying-next l.invariant _ c.loop-test.true c.if-at-size-gt256.false c.if-end-list.auto.list
     (elim c.if-end-list.branch [
-      | then-end-list w ↦ λ h. w.list-is ∙ part l.list _ c.args.n l.at c.args.size w.copy_within.ensures.after
+      | then-end-list w ↦ λ h. w.list-is ∙ w.copy_within.ensures
       | else-end-list w ↦ λ h. absurd (omega (arith, w.if-end-list.false))
     ])
 
