@@ -2,7 +2,7 @@
 use Rattle.std.proofs.Common.{◌≡◌, ℕ, ◌+◌, get_or, add-one, List, [], ◌∷◌, ◌++◌, refl, sym, ap, ◌∙◌, append_assoc, Option, None, Some, IfSome}
 use mathlib.Core.Path.{subst}
 use mathlib.Core.List.{append-nil}
-use Rattle.std.specs.Fmt.{decimal, WritesInCalls}
+use Rattle.std.specs.Fmt.{WritesInCalls}
 use Rattle.std.specs.List.{FoldsTo, concat}
 use Rattle.script.specs.Print.{numbers}
 use Rattle.play.specs.declared.output.Output.{Output}

@@ -1,5 +1,5 @@
 -- Where a script stands, and how it comes on. Assumes nothing.
-use Rattle.std.proofs.Common.{◌≡◌, ℕ, ◌+◌, ◌≤◌, ◌<◌, Bool, true, false, List, [], ◌∷◌, ◌++◌, length, take, min, get_or, nat_lt, Some, Result, Ok, Err, refl, sym, ap, ◌∙◌, arith, append_assoc, add-one}
+use Rattle.std.proofs.Common.{◌≡◌, ℕ, ◌+◌, ◌≤◌, ◌<◌, Bool, true, false, List, [], ◌∷◌, ◌++◌, length, take, min, get_or, nat_lt, Result, Ok, Err, refl, sym, ap, ◌∙◌, arith, append_assoc, add-one}
 use mathlib.Core.Path.{subst}
 use mathlib.Core.List.{append-nil}
 use lib.ListN.{length-take, length-append}
@@ -8,12 +8,9 @@ use borrow.Author.Tests.{eq-eqb, ne_eqb, lt-ltb, ltb-true, ltb-false}
 use Rattle.arrayvec.specs.ArrayVec.{ArrayVec}
 use Rattle.words.specs.Saturating.{saturating_add, max64}
 use Rattle.std.specs.Prelude.{◌↔◌, IsOk, OnOk, OnErr}
-use Rattle.script.specs.Script.{Line, Parsed}
-use Rattle.script.specs.declared.Command.{Command}
 use Rattle.play.specs.declared.output.Output.{Output}
 use Rattle.play.specs.declared.player.Player.{Player}
-use Rattle.play.specs.Gathered.{Does}
-use Rattle.play.specs.Playing.{Play, Room, doing, obeyed, settings_of, settings_after, said, line_ends, byte_comes, bytes_come}
+use Rattle.play.specs.Playing.{Play, Room, obeyed, settings_after, said, line_ends, byte_comes, bytes_come}
 use Rattle.play.specs.Example.{room}
 use Rattle.play.specs.Played.{Stands, Obeys, Follows, Reads}
 

@@ -7,7 +7,7 @@ ghost use Rattle.script.specs.Print.{numbers, signed, line, refused_line, enable
 ghost use Rattle.play.specs.Printed.{words_at, row_line, row_lines, effect_lines, outcome_at, outcome_with, outcome_lines, handled_lines, deadline_of, telegram_lines, trigger_lines, start_lines, room_lines, place_lines, rewrite_lines, solar_line, solar_lines, readback_lines};
 ghost use Rattle.play.specs.Gathered.{Gathers};
 
-use crate::output::Output;
+use crate::output::{LINE_BYTES, Output};
 use script::Call;
 
 // Words of a store, which end a line.
@@ -26,9 +26,6 @@ fn named(out: &mut Output, name: &str, words: &[u32], at: usize, count: usize)
     requires { at + count < 2 ^ 64 }
     ensures { Gathers out.old (line name.now (numbers (words_at words.now at count))) out.new }
 {
-    if name.len() <= 32 && count <= 6 {
-        return out.short_line(name.as_bytes(), words, at, count);
-    }
     out.text(name.as_bytes());
     last(out, words, at, count)
 }
@@ -91,12 +88,16 @@ struct Columns {
 }
 
 // Words of record i behind a name.
-fn row(out: &mut Output, name: &str, x: Columns, ws: &[u32], i: usize)
+fn row(out: &mut Output, piece: &mut [u8; LINE_BYTES], name: &str, x: Columns, ws: &[u32], i: usize)
     requires narrow { (x.width ≤ 64) × (x.from ≤ 64) × (x.shown ≤ 64) }
     requires within { i ≤ 8589934592 }
     ensures { Gathers out.old (row_line name.now x ws.now i) out.new }
 {
-    named(out, name, ws, x.width * i + x.from, x.shown)
+    let at = x.width * i + x.from;
+    if name.len() <= 32 && x.shown <= 6 {
+        return out.short_line(piece, name.as_bytes(), ws, at, x.shown);
+    }
+    named(out, name, ws, at, x.shown)
 }
 
 // So many records of a lent store, from number `first` on.
@@ -105,8 +106,9 @@ fn rows(out: &mut Output, name: &str, x: Columns, ws: &[u32], first: u32, count:
     requires { (x.width ≤ 64) × (x.from ≤ 64) × (x.shown ≤ 64) }
     ensures { Gathers out.old (row_lines name.now x ws.now first count) out.new }
 {
+    let mut piece = [0; LINE_BYTES];
     for i in 0..count {
-        row(out, name, x, ws, first as usize + i as usize);
+        row(out, &mut piece, name, x, ws, first as usize + i as usize);
     }
 }
 

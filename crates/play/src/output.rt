@@ -17,6 +17,9 @@ pub struct Output {
     to: Option<Stdout>,
 }
 
+// A name, six numbers and the end of a line, at 32 bytes each, as `put` asks for.
+pub const LINE_BYTES: usize = 256;
+
 // Sends bytes out; where that fails, nothing more is.
 fn send(to: Option<Stdout>, bytes: &[u8]) -> Option<Stdout> {
     to.filter(|to| to.write_all(bytes).is_ok())
@@ -69,18 +72,24 @@ impl Output {
         }
     }
 
-    // A line of a short name and few words of a store: the whole of it is one piece.
-    pub fn short_line(&mut self, name: &[u8], words: &[u32], at: usize, count: usize)
+    // A line of a short name and few words of a store: the whole of it is one piece, put together in bytes that are lent for all lines, so that they are zeroed once.
+    pub fn short_line(
+        &mut self,
+        piece: &mut [u8; LINE_BYTES],
+        name: &[u8],
+        words: &[u32],
+        at: usize,
+        count: usize,
+    )
         requires { (length name.now ≤ 32) × (count ≤ 6) × (at + count < 2 ^ 64) }
         ensures { Gathers self.old (line name.now (numbers (words_at words.now at count))) self.new }
     {
-        let mut piece = [0u8; 256];
-        let mut n = put::text(&mut piece, 0, name);
+        let mut n = put::text(piece, 0, name);
         // kept: places, as in `words`.
         for i in 0..count {
-            n = put::number(&mut piece, n, u64::from(fields::word(words, at + i)));
+            n = put::number(piece, n, u64::from(fields::word(words, at + i)));
         }
-        let end = put::text(&mut piece, n, b"\n");
+        let end = put::text(piece, n, b"\n");
         self.text(&piece[..end]);
     }
 

@@ -36,17 +36,22 @@ pub fn name(buf: &mut [u8], at: usize, call: u32) -> usize
     text(buf, at, calls::name_of(call).as_bytes())
 }
 
-// A number below 100, as most of those are that are printed: it needs no buffer for its digits.
+// A number below 1,000, as most of those are that are printed: it needs no buffer for its digits.
 fn few(buf: &mut [u8], at: usize, n: u64) -> usize
-    requires { (n < 100) × (at + 2 ≤ length buf.old) }
+    requires { (n < 1000) × (at + 3 ≤ length buf.old) }
     ensures stand { take result buf.new ≡ take at buf.old ++ decimal n }
-    ensures ends { result ≤ at + 2 }
+    ensures ends { result ≤ at + 3 }
     ensures same { length buf.new ≡ length buf.old }
 {
+    let last = b'0' + (n % 10) as u8;
     if n < 10 {
-        return put(buf, at, &[b'0' + n as u8]);
+        return put(buf, at, &[last]);
     }
-    put(buf, at, &[b'0' + (n / 10) as u8, b'0' + (n % 10) as u8])
+    let tens = b'0' + (n / 10 % 10) as u8;
+    if n < 100 {
+        return put(buf, at, &[tens, last]);
+    }
+    put(buf, at, &[b'0' + (n / 100) as u8, tens, last])
 }
 
 // A space and a number.
@@ -55,7 +60,7 @@ pub fn number(buf: &mut [u8], at: usize, n: u64) -> usize
     ensures { Puts buf.old at 1 (numbers (n ∷ [])) buf.new result }
 {
     let behind = put(buf, at, b" ");
-    if n < 100 {
+    if n < 1000 {
         return few(buf, behind, n);
     }
     let mut digits = Buffer::new();
